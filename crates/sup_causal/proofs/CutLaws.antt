@@ -1,0 +1,134 @@
+-- That runs and the rest are a set's cut, and that canonical parts are just the cuts.
+use Rattle.std.proofs.Common.{◌≡◌, ℕ, suc, zero, ◌+◌, ◌<◌, ◌≤◌, Bool, true, false, ◌||◌, ◌&&◌, cond, leb, ltb, List, [], ◌∷◌, length, get_or, refl, sym, ap, ◌∙◌, subst, arith, Some, None, inl, inr}
+use Rattle.std.specs.Prelude.{◌↔◌}
+use Rattle.std.specs.Ordering.{is_eq, eq_by_cmp}
+use Rattle.std.specs.Map.{keys_of}
+use Rattle.std.specs.List.{AllByRecursion, filter, slice_get}
+use Rattle.std.specs.BTreeMap.{BTreeMap, get, IsOrdered}
+use Rattle.std.proofs.lemmas.Bool.{both_ways, or_left, or_right, or_cases, or_from, and_parts, and_from, cases_order, false_from_ne_true, ltb-true, lt-ltb, leb-true, le-leb, lt-leb}
+use Rattle.std.proofs.lemmas.Cmp.{nat_list_cmp_total, tied_itself}
+use Rattle.std.proofs.lemmas.List.Elements.{recursion_from_All, All-from_recursion}
+use Rattle.std.proofs.lemmas.List.Kept.{IsStrictlySortedBy-filter}
+use Rattle.std.proofs.lemmas.Map.Entries.{btree_map_get_place}
+use mathlib.Core.Bool.{false≢true}
+use Rattle.sup_specs.specs.Rising.{IsRising, among}
+use Rattle.sup_causal.specs.declared.dot.Dot.{Dot}
+use Rattle.sup_causal.specs.declared.dot.TheConstants.{MAX}
+use Rattle.sup_causal.specs.Dots.{dot_cmp, dot_eq, list_has, IsCounted}
+use Rattle.sup_causal.specs.Cut.{name_cmp, entry, IsRun, IsVector, IsCloud, IsCanonical, in_parts}
+use Rattle.sup_causal.proofs.DotLemmas.{dot_eq-true, among_is, each_has, each_from_has}
+use Rattle.sup_causal.proofs.Sorted.{rising_from_sorted, sorted_from_rising, pairs_rise}
+use Rattle.sup_causal.proofs.CutLemmas.{run_is_one, entry_found}
+
+-- ---- the vector
+get_slice : {X : Type 0} (xs : List X) (i : ℕ) (d : X) → i < length xs → slice_get xs i ≡ Some (get_or xs i d)
+get_slice [] i d within = absurd (omega (arith, within))
+get_slice (x ∷ xs) zero d within = refl
+get_slice (x ∷ xs) (suc i) d within = get_slice xs i d (omega (arith, within))
+
+positive : (n : ℕ) → (n ≡ 0 → ⊥) → 1 ≤ n
+positive zero none = absurd (none refl)
+positive (suc n) none = omega arith
+
+pub vector_is : (holds : Dot → Bool) (m : BTreeMap (List ℕ) ℕ) → IsOrdered name_cmp m → ((node : List ℕ) → IsRun holds node (entry m.entries node)) → ((node : List ℕ) → ¬ (get name_cmp m node ≡ Some 0)) → IsVector holds m.entries
+vector_is holds m ordered runs none_zero = record {
+  by_name = rising_from_sorted name_cmp (keys_of m.entries) ordered;
+  runs = runs;
+  left_out = recursion_from_All (λ (e : List ℕ × ℕ). 1 ≤ e.1) m.entries (λ k d within. positive _ (λ none. none_zero (get_or m.entries k d).0 (
+      btree_map_get_place nat_list_cmp_total m k (get_or m.entries k d).0 (get_or m.entries k d).1 ordered (get_slice m.entries k d within) ∙ ap Some none)));
+}
+
+-- ---- the cloud
+has-filter : (p : Dot → Bool) (xs : List Dot) (d : Dot) → list_has (filter p xs) d ≡ (list_has xs d && p d)
+has-filter p [] d = refl
+has-filter p (x ∷ xs) d = turn (p x) refl (dot_eq x d) refl (has-filter p xs d)
+  where
+    turn : (b : Bool) → p x ≡ b → (e : Bool) → dot_eq x d ≡ e → list_has (filter p xs) d ≡ (list_has xs d && p d) → list_has (cond b (x ∷ filter p xs) (filter p xs)) d ≡ ((dot_eq x d || list_has xs d) && p d)
+    turn true h true e further = ap (λ b. b || list_has (filter p xs) d) e ∙ sym (ap p (sym (dot_eq-true x d e)) ∙ h) ∙ ap (λ b. (b || list_has xs d) && p d) (sym e)
+    turn true h false e further = ap (λ b. b || list_has (filter p xs) d) e ∙ further ∙ ap (λ b. (b || list_has xs d) && p d) (sym e)
+    turn false h true e further = further ∙ ap (λ b. list_has xs d && b) none ∙ and-false (list_has xs d) ∙ sym none ∙ ap (λ b. (b || list_has xs d) && p d) (sym e)
+      where
+        none : p d ≡ false
+        none = ap p (sym (dot_eq-true x d e)) ∙ h
+
+        and-false : (b : Bool) → (b && false) ≡ false
+        and-false true = refl
+        and-false false = refl
+    turn false h false e further = further ∙ ap (λ b. (b || list_has xs d) && p d) (sym e)
+
+pub cloud_is : (xs : List Dot) → IsRising dot_cmp xs → (entries : List (List ℕ × ℕ)) → ((node : List ℕ) → IsRun (list_has xs) node (entry entries node)) → IsCloud (list_has xs) (filter (λ d. ltb (entry entries d.node) d.counter) xs)
+cloud_is xs rises entries runs = record {
+  in_order = rising_from_sorted dot_cmp (filter beyond_run xs) (IsStrictlySortedBy-filter dot_cmp beyond_run xs (sorted_from_rising dot_cmp xs rises));
+  beyond = λ d. (
+    λ there. ((both d there).0, λ n run. subst (λ m. m < d.counter) (run_is_one (list_has xs) d.node (entry entries d.node) n (runs d.node) run) (ltb-true (entry entries d.node) d.counter (both d there).1)),
+    λ h. sym (among_is (filter beyond_run xs) d) ∙ has-filter beyond_run xs d ∙ and_from (list_has xs d) (beyond_run d) h.0 (lt-ltb (entry entries d.node) d.counter (h.1 (entry entries d.node) (runs d.node))),
+  );
+}
+  where
+    beyond_run : Dot → Bool
+    beyond_run d = ltb (entry entries d.node) d.counter
+
+    both : (d : Dot) → among dot_cmp (filter beyond_run xs) d ≡ true → (list_has xs d ≡ true) × (beyond_run d ≡ true)
+    both d there = and_parts (list_has xs d) (beyond_run d) (sym (has-filter beyond_run xs d) ∙ among_is (filter beyond_run xs) d ∙ there)
+
+-- ---- canonical parts are the cut of what they have
+module _ (holds : Dot → Bool) (vector : List (List ℕ × ℕ)) (cloud : List Dot) (canonical : IsCanonical vector cloud) (same : (d : Dot) → holds d ≡ in_parts vector cloud d) where
+  in_cloud : (d : Dot) → among dot_cmp cloud d ≡ true → (entry vector d.node + 2 ≤ d.counter) × (d.counter ≤ MAX)
+  in_cloud d there = each_has (λ e. (entry vector e.node + 2 ≤ e.counter) × (e.counter ≤ MAX)) cloud canonical.apart d (among_is cloud d ∙ there)
+
+  past_run : (d : Dot) → entry vector d.node < d.counter → (leb 1 d.counter && leb d.counter (entry vector d.node)) ≡ false
+  past_run d above = ap (λ b. leb 1 d.counter && b) (lt-leb _ _ above) ∙ and-false (leb 1 d.counter)
+    where
+      and-false : (b : Bool) → (b && false) ≡ false
+      and-false true = refl
+      and-false false = refl
+
+  pub runs_are : (node : List ℕ) → IsRun holds node (entry vector node)
+  runs_are node = record {
+    all_there = λ k low high. same (record { counter = k; node = node }) ∙ or_left _ _ (and_from _ _ (le-leb _ _ low) (le-leb _ _ high));
+    next_missing = same (record { counter = entry vector node + 1; node = node }) ∙ or_from _ _ (past_run (record { counter = entry vector node + 1; node = node }) (omega arith)) (false_from_ne_true _ (λ there.
+        let far = in_cloud (record { counter = entry vector node + 1; node = node }) there in omega (arith, far.0)));
+  }
+
+  pub vector_of_parts : IsVector holds vector
+  vector_of_parts = record { by_name = canonical.by_name; runs = runs_are; left_out = firsts vector canonical.entries }
+    where
+      firsts : (es : List (List ℕ × ℕ)) → AllByRecursion (λ e. (1 ≤ e.1) × (e.1 ≤ MAX)) es → AllByRecursion (λ e. 1 ≤ e.1) es
+      firsts [] all = tt
+      firsts (e ∷ es) all = (all.0.0, firsts es all.1)
+
+  pub cloud_of_parts : IsCloud holds cloud
+  cloud_of_parts = record {
+    in_order = canonical.in_order;
+    beyond = λ d. (
+      λ there. (same d ∙ or_right _ _ there, λ n run. let is : entry vector d.node ≡ n = run_is_one holds d.node _ n (runs_are d.node) run in let far = in_cloud d there in omega (arith, is, far.0)),
+      λ h. elim (or_cases (leb 1 d.counter && leb d.counter (entry vector d.node)) (among dot_cmp cloud d) (sym (same d) ∙ h.0)) [
+        | inl inside ↦ absurd (both_ways _ (past_run d (h.1 _ (runs_are d.node))) inside)
+        | inr there ↦ there
+      ],
+    );
+  }
+
+-- ---- and a cut is canonical
+module _ (holds : Dot → Bool) (counted : (d : Dot) → holds d ≡ true → IsCounted d) (vector : List (List ℕ × ℕ)) (cloud : List Dot) (is_vector : IsVector holds vector) (is_cloud : IsCloud holds cloud) where
+  pub cut_canonical : IsCanonical vector cloud
+  cut_canonical = record {
+    by_name = is_vector.by_name;
+    entries = recursion_from_All (λ (e : List ℕ × ℕ). (1 ≤ e.1) × (e.1 ≤ MAX)) vector (λ k d within.
+        let low : 1 ≤ (get_or vector k d).1 = All-from_recursion (λ (e : List ℕ × ℕ). 1 ≤ e.1) vector is_vector.left_out k d within in
+        let is : entry vector (get_or vector k d).0 ≡ (get_or vector k d).1 = entry_found vector (pairs_rise name_cmp vector is_vector.by_name) k (get_or vector k d).0 d within (tied_itself nat_list_cmp_total (get_or vector k d).0) in
+        let last : IsCounted (record { counter = (get_or vector k d).1; node = (get_or vector k d).0 }) = counted (record { counter = (get_or vector k d).1; node = (get_or vector k d).0 }) ((is_vector.runs (get_or vector k d).0).all_there (get_or vector k d).1 low (omega (arith, is))) in
+        (low, last.1));
+    in_order = is_cloud.in_order;
+    apart = each_from_has (λ d. (entry vector d.node + 2 ≤ d.counter) × (d.counter ≤ MAX)) cloud far;
+  }
+    where
+      far : (d : Dot) → list_has cloud d ≡ true → (entry vector d.node + 2 ≤ d.counter) × (d.counter ≤ MAX)
+      far d there =
+          let rest = (is_cloud.beyond d).0 (sym (among_is cloud d) ∙ there) in
+          let above : entry vector d.node < d.counter = rest.1 (entry vector d.node) (is_vector.runs d.node) in
+          let limit : IsCounted d = counted d rest.0 in
+          elim (cases_order (entry vector d.node + 1) d.counter) [
+            | inl next ↦ absurd (both_ways (holds d) (subst (λ e. holds e ≡ false) (λ k. record { counter = next k; node = d.node }) (is_vector.runs d.node).next_missing) rest.0)
+            | inr other ↦ elim other [ inl below ↦ (omega (arith, below), limit.1) | inr none ↦ absurd (omega (arith, none, above)) ]
+          ]

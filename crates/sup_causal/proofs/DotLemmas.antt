@@ -1,0 +1,254 @@
+-- Lemmas on dots and lists of them.
+use Rattle.std.proofs.Common.{◌≡◌, ℕ, zero, suc, ◌+◌, ◌-◌, ◌<◌, ◌≤◌, Bool, true, false, ◌||◌, ◌&&◌, eqb, List, [], ◌∷◌, ◌++◌, length, get_or, take, Ordering, refl, sym, ap, ◌∙◌, arith}
+use Rattle.std.specs.declared.cmp.Ordering.TheVariants.{Less, Equal, Greater}
+use Rattle.std.specs.Cmp.{IsTotalOrder}
+use Rattle.std.specs.Cmp.Lexicographic.{slice_cmp, texts_ties, nat_list_cmp_total}
+use Rattle.std.specs.Ordering.{nat_cmp, ordering_then, is_eq, eq_by_cmp}
+use Rattle.std.specs.List.{AllByRecursion, insert}
+use Rattle.std.proofs.lemmas.Cmp.{tied_itself, eq_by_cmp_equiv, by_ranked, ranked}
+use Rattle.std.proofs.lemmas.Bool.{or_right, or_left}
+use Rattle.std.proofs.lemmas.Bool.Decides.{nat_tests}
+use Rattle.std.proofs.lemmas.List.{get_or_default}
+use Rattle.std.proofs.lemmas.List.Elements.{recursion_from_All, All-from_recursion}
+use Rattle.std.proofs.lemmas.Map.Lookups.{CmpEqualImpliesEq, exact_pairs, exact_unsigned, exact_bytes}
+use Rattle.std.proofs.Common.{◌⊎◌, max, subst, Result, Ok, Err, inl, inr, is_ok}
+use Rattle.std.specs.List.Sorted.{IsSearchInRange, IsBinarySearchResult}
+use Rattle.std.proofs.lemmas.Bool.{cases_lt, cases_order}
+use Rattle.sup_specs.specs.Rising.{IsRising, among}
+use Rattle.sup_causal.proofs.Rising.{searched, rising_insert, each_insert, rising_at}
+use Rattle.sup_causal.proofs.Union.{union, any_union}
+use Rattle.sup_causal.specs.DotLaws.{dot_total, dot_exact}
+use Rattle.sup_causal.specs.Dots.{dot_cmp, dot_eq, list_has, IsKept, IsCounted, IsGreatest, IsNext}
+use Rattle.sup_causal.specs.declared.dot.TheConstants.{MAX}
+use Rattle.std.specs.List.{list_all, list_any}
+use mathlib.Core.Bool.{false≢true}
+use mathlib.Core.Path.{fun_ext}
+use Rattle.sup_causal.specs.Join.{pointwise_join}
+use Rattle.std.proofs.lemmas.List.Sums.{AllPass-from_list_all, list_all-from_AllPass}
+use Rattle.sup_causal.specs.declared.dot.Dot.{Dot}
+
+-- the test is the comparison
+pub dot_ties : (a b : Dot) → dot_eq a b ≡ is_eq (dot_cmp a b)
+dot_ties a b = refl
+
+pub equal_from_is_eq : (o : Ordering) → is_eq o ≡ true → o ≡ Equal
+equal_from_is_eq Less e = cc
+equal_from_is_eq Equal e = refl
+equal_from_is_eq Greater e = cc
+
+or_none : (a b : Bool) → a ≡ false → b ≡ false → (a || b) ≡ false
+or_none a b e f = rw (e, f)
+
+or_assoc : (a b c : Bool) → ((a || b) || c) ≡ (a || (b || c))
+or_assoc true b c = refl
+or_assoc false b c = refl
+
+or_swap : (a b c : Bool) → (a || (b || c)) ≡ (b || (a || c))
+or_swap true true c = refl
+or_swap true false c = refl
+or_swap false b c = refl
+
+pub list_has-append : (xs ys : List Dot) (d : Dot) → list_has (xs ++ ys) d ≡ (list_has xs d || list_has ys d)
+list_has-append [] ys d = refl
+list_has-append (x ∷ xs) ys d = ap (λ b. dot_eq x d || b) (list_has-append xs ys d) ∙ sym (or_assoc (dot_eq x d) (list_has xs d) (list_has ys d))
+
+pub list_has-insert : (xs : List Dot) (i : ℕ) (y d : Dot) → list_has (insert xs i y) d ≡ (dot_eq y d || list_has xs d)
+list_has-insert xs zero y d = refl
+list_has-insert [] (suc i) y d = refl
+list_has-insert (x ∷ xs) (suc i) y d = ap (λ b. dot_eq x d || b) (list_has-insert xs i y d) ∙ or_swap (dot_eq x d) (dot_eq y d) (list_has xs d)
+
+-- a dot is equal to itself
+pub dot_eq-refl : (d : Dot) → dot_eq d d ≡ true
+dot_eq-refl d = dot_ties d d ∙ ap is_eq (tied_itself dot_total d)
+
+pub dot_eq-true : (a b : Dot) → dot_eq a b ≡ true → a ≡ b
+dot_eq-true a b e = dot_exact a b (equal_from_is_eq _ (sym (dot_ties a b) ∙ e))
+
+-- what stands in the list is there
+pub has_at : (xs : List Dot) (i : ℕ) (d : Dot) → i < length xs → dot_cmp (get_or xs i d) d ≡ Equal → list_has xs d ≡ true
+has_at [] i d within equal = absurd (omega arith)
+has_at (x ∷ xs) zero d within equal = or_left _ _ (dot_ties x d ∙ ap is_eq equal)
+has_at (x ∷ xs) (suc i) d within equal = or_right _ _ (has_at xs i d (omega arith) equal)
+
+-- what compares otherwise to each is not
+pub has_none : (xs : List Dot) (d : Dot) → AllByRecursion (λ y. is_eq (dot_cmp y d) ≡ false) xs → list_has xs d ≡ false
+has_none [] d all = refl
+has_none (x ∷ xs) d all = or_none _ _ (dot_ties x d ∙ all.0) (has_none xs d all.1)
+
+-- what a search for a dot answers, by the test
+pub search_has : (xs : List Dot) → IsRising dot_cmp xs → (d : Dot) (r : Result ℕ ℕ) → IsSearchInRange r (length xs) → IsBinarySearchResult (λ y. dot_cmp y d) xs r → is_ok r ≡ list_has xs d
+search_has xs s d (Ok i) within equal = sym (has_at xs i d within (equal d))
+search_has xs s d (Err i) within parted =
+    let gap = searched dot_total xs s d (Err i) within parted in
+    sym (has_none xs d (recursion_from_All (λ y. is_eq (dot_cmp y d) ≡ false) xs (λ k e lt. elim (cases_lt k i) [
+      | inl below ↦ ap is_eq (gap.1 k e below)
+      | inr above ↦ ap is_eq (gap.2 k e above lt)
+    ])))
+
+-- a context with one dot more at its gap
+pub kept_insert : (xs : List Dot) (d : Dot) (i : ℕ) → IsKept xs → IsCounted d → IsSearchInRange (Err i) (length xs) → IsBinarySearchResult (λ y. dot_cmp y d) xs (Err i) → IsKept (insert xs i d)
+kept_insert xs d i kept counted within parted =
+    let gap = searched dot_total xs kept.rising d (Err i) within parted in
+    record { rising = rising_insert dot_total xs i d kept.rising gap.1 gap.2; counted = each_insert IsCounted xs i d kept.counted counted }
+
+again : (xs : List Dot) (y d : Dot) → list_has xs y ≡ true → (b : Bool) → dot_eq y d ≡ b → list_has xs d ≡ (b || list_has xs d)
+again xs y d there true e = ap (list_has xs) (sym (dot_eq-true y d e)) ∙ there
+again xs y d there false e = refl
+
+-- one more of what is there changes nothing
+pub has_again : (xs : List Dot) (y d : Dot) → list_has xs y ≡ true → list_has xs d ≡ (dot_eq y d || list_has xs d)
+has_again xs y d there = again xs y d there (dot_eq y d) refl
+
+-- what is in the list passes what each element passes
+passes : (P : Dot → Type 0) (x d : Dot) (rest : Bool) → P x → (rest ≡ true → P d) → (b : Bool) → dot_eq x d ≡ b → (b || rest) ≡ true → P d
+passes P x d rest here there true e h = subst P (dot_eq-true x d e) here
+passes P x d rest here there false e h = there h
+
+pub each_has : (P : Dot → Type 0) (xs : List Dot) → AllByRecursion P xs → (d : Dot) → list_has xs d ≡ true → P d
+each_has P [] all d h = absurd (false≢true h)
+each_has P (x ∷ xs) all d h = passes P x d (list_has xs d) all.0 (each_has P xs all.1 d) (dot_eq x d) refl h
+
+pub each_from_has : (P : Dot → Type 0) (xs : List Dot) → ((d : Dot) → list_has xs d ≡ true → P d) → AllByRecursion P xs
+each_from_has P [] h = tt
+each_from_has P (x ∷ xs) h = (h x (or_left _ _ (dot_eq-refl x)), each_from_has P xs (λ d there. h d (or_right _ _ there)))
+
+each_from_list_all : (b : Dot → Bool) (xs : List Dot) → list_all b xs ≡ true → AllByRecursion (λ d. b d ≡ true) xs
+each_from_list_all b xs h = recursion_from_All (λ d. b d ≡ true) xs (AllPass-from_list_all b xs h)
+
+list_all_from_each : (b : Dot → Bool) (xs : List Dot) → AllByRecursion (λ d. b d ≡ true) xs → list_all b xs ≡ true
+list_all_from_each b xs h = list_all-from_AllPass b xs (All-from_recursion (λ d. b d ≡ true) xs h)
+
+-- a test of each dot of the list is one of all dots that the list has
+pub within_from_list_all : (b : Dot → Bool) (xs : List Dot) → list_all b xs ≡ true → (d : Dot) → list_has xs d ≡ true → b d ≡ true
+within_from_list_all b xs h = each_has (λ d. b d ≡ true) xs (each_from_list_all b xs h)
+
+pub list_all_from_within : (b : Dot → Bool) (xs : List Dot) → ((d : Dot) → list_has xs d ≡ true → b d ≡ true) → list_all b xs ≡ true
+list_all_from_within b xs h = list_all_from_each b xs (each_from_has (λ d. b d ≡ true) xs h)
+
+or_cases : (a b : Bool) → (a || b) ≡ true → (a ≡ true) ⊎ (b ≡ true)
+or_cases true b h = inl refl
+or_cases false b h = inr h
+
+-- of counted dots the greatest is at most MAX
+pub greatest_counted : (xs : List Dot) (node : List ℕ) (n : ℕ) → AllByRecursion IsCounted xs → IsGreatest (list_has xs) node n → n ≤ MAX
+greatest_counted xs node zero all g = omega arith
+greatest_counted xs node (suc n) all g = let counted = each_has IsCounted xs all _ (g.reached (omega arith)) in counted.1
+
+-- the greatest counter is one number
+pub greatest_is_one : (holds : Dot → Bool) (node : List ℕ) (n m : ℕ) → IsGreatest holds node n → IsGreatest holds node m → n ≤ m
+greatest_is_one holds node zero m g h = omega arith
+greatest_is_one holds node (suc n) m g h = h.bound _ refl (g.reached (omega arith))
+
+-- and the dot after it is fresh
+pub next_is : (holds : Dot → Bool) (node : List ℕ) (n : ℕ) → IsGreatest holds node n → IsNext holds node (record { counter = n + 1; node = node })
+next_is holds node n g = record {
+  same_node = refl;
+  after = λ m h. omega (arith, greatest_is_one holds node n m g h, greatest_is_one holds node m n h g);
+  fresh = no (holds (record { counter = n + 1; node = node })) refl;
+}
+  where
+    no : (b : Bool) → holds (record { counter = n + 1; node = node }) ≡ b → b ≡ false
+    no false e = refl
+    no true e = absurd (omega (arith, g.bound _ refl e))
+
+-- no test answers both
+pub both_ways : (b : Bool) → b ≡ true → b ≡ false → ⊥
+both_ways b e f = cc
+
+-- dots that a context has are counted
+pub counted_from_has : (xs : List Dot) → AllByRecursion IsCounted xs → (d : Dot) → list_has xs d ≡ true → IsCounted d
+counted_from_has xs all d there = each_has IsCounted xs all d there
+
+or_within : (a b : Bool) → (a ≡ true → b ≡ true) → (a || b) ≡ b
+or_within true b h = sym (h refl)
+or_within false b h = refl
+
+within_or : (a b : Bool) → (a || b) ≡ b → a ≡ true → b ≡ true
+within_or true b e h = sym e
+within_or false b e h = absurd (false≢true h)
+
+-- to be within is to add nothing
+pub adds_nothing : (a b : Dot → Bool) → ((d : Dot) → a d ≡ true → b d ≡ true) → pointwise_join (λ x y. x || y) a b ≡ b
+adds_nothing a b h = fun_ext (λ d. or_within (a d) (b d) (h d))
+
+pub nothing_added : (a b : Dot → Bool) → pointwise_join (λ x y. x || y) a b ≡ b → (d : Dot) → a d ≡ true → b d ≡ true
+nothing_added a b e d h = within_or (a d) (b d) (ap (λ f. f d) e) h
+
+-- a list's test is any test of std's
+pub list_has_any : (xs : List Dot) (d : Dot) → list_has xs d ≡ list_any (λ x. dot_eq x d) xs
+list_has_any [] d = refl
+list_has_any (x ∷ xs) d = ap (λ b. dot_eq x d || b) (list_has_any xs d)
+
+pub list_has-union : (xs ys : List Dot) (d : Dot) → list_has (union dot_cmp xs ys) d ≡ (list_has xs d || list_has ys d)
+list_has-union xs ys d =
+    list_has_any (union dot_cmp xs ys) d ∙ any_union dot_cmp dot_total dot_exact (λ x. dot_eq x d) xs ys ∙ (λ k. sym (list_has_any xs d) k || sym (list_has_any ys d) k)
+
+-- the other way round
+pub among_is : (xs : List Dot) (d : Dot) → list_has xs d ≡ among dot_cmp xs d
+among_is [] d = refl
+among_is (x ∷ xs) d = λ k. (eq_by_cmp_equiv dot_total).symm x d k || among_is xs d k
+
+-- where a dot of the list stands
+pub place_of : (xs : List Dot) (d : Dot) → list_has xs d ≡ true → (k : ℕ) × (k < length xs) × (get_or xs k d ≡ d)
+place_of [] d h = absurd (false≢true h)
+place_of (x ∷ xs) d h = at (dot_eq x d) refl h (place_of xs d)
+  where
+    at : (b : Bool) → dot_eq x d ≡ b → (b || list_has xs d) ≡ true → (list_has xs d ≡ true → (k : ℕ) × (k < length xs) × (get_or xs k d ≡ d)) → (k : ℕ) × (k < length (x ∷ xs)) × (get_or (x ∷ xs) k d ≡ d)
+    at true e g further = (0, omega arith, dot_eq-true x d e)
+    at false e g further = let later : (k : ℕ) × (k < length xs) × (get_or xs k d ≡ d) = further g in (suc later.0, omega (arith, later.1), later.2)
+
+-- a lesser dot has no greater counter
+pub counter_from_less : (x y : Dot) → dot_cmp x y ≡ Less → x.counter ≤ y.counter
+counter_from_less x y h = by_ranked (x.counter < y.counter) (x.counter ≡ y.counter) (y.counter < x.counter) (nat_cmp x.counter y.counter) (ranked x.counter y.counter _ refl)
+    (λ e lt. omega (arith, lt)) (λ e same. omega (arith, same))
+    (λ e above. let wrong : Greater ≡ Less = ap (λ o. ordering_then o (slice_cmp nat_cmp x.node y.node)) (sym e) ∙ h in cc)
+
+-- the last dot of the node has its greatest counter
+pub greatest_at : (xs : List Dot) → IsRising dot_cmp xs → (i : ℕ) (node : List ℕ) → i < length xs → (d e : Dot) → (get_or xs i d).node ≡ node
+    → ((k : ℕ) (d : Dot) → i < k → k < length xs → (get_or xs k d).node ≡ node → ⊥) → IsGreatest (list_has xs) node (get_or xs i e).counter
+greatest_at xs rises i node within d e same none = record { bound = bound; reached = λ lt. has_at xs i (record { counter = (get_or xs i e).counter; node = node }) within (tied_from (get_or xs i (record { counter = (get_or xs i e).counter; node = node })) (record { counter = (get_or xs i e).counter; node = node }) (get_or_default xs i (record { counter = (get_or xs i e).counter; node = node }) e within ∙ dot_is)) }
+  where
+    there : (get_or xs i e).node ≡ node
+    there = ap (λ (x : Dot). x.node) (get_or_default xs i e d within) ∙ same
+
+    dot_is : get_or xs i e ≡ record { counter = (get_or xs i e).counter; node = node }
+    dot_is k = record { counter = (get_or xs i e).counter; node = there k }
+
+    tied_from : (x y : Dot) → x ≡ y → dot_cmp x y ≡ Equal
+    tied_from x y is = ap (dot_cmp x) (sym is) ∙ tied_itself dot_total x
+
+    counter_is : (q : Dot) → (get_or xs i q).counter ≡ (get_or xs i e).counter
+    counter_is q = ap (λ (x : Dot). x.counter) (get_or_default xs i q e within)
+
+    bound : (q : Dot) → q.node ≡ node → list_has xs q ≡ true → q.counter ≤ (get_or xs i e).counter
+    bound q of has =
+        let at : (k : ℕ) × (k < length xs) × (get_or xs k q ≡ q) = place_of xs q has in
+        let count : (get_or xs at.0 q).counter ≡ q.counter = ap (λ (x : Dot). x.counter) at.2 in
+        elim (cases_order at.0 i) [
+          | inl same_place ↦
+              let is : (get_or xs at.0 q).counter ≡ (get_or xs i q).counter = ap (λ k. (get_or xs k q).counter) same_place in
+              omega (arith, is, count, counter_is q)
+          | inr apart ↦ elim apart [
+            | inl below ↦
+                let le : (get_or xs at.0 q).counter ≤ (get_or xs i q).counter = counter_from_less (get_or xs at.0 q) (get_or xs i q) (rising_at dot_total xs rises at.0 i q below within) in
+                omega (arith, le, count, counter_is q)
+            | inr above ↦ absurd (none at.0 q above at.1 (ap (λ (x : Dot). x.node) at.2 ∙ of))
+          ]
+        ]
+
+-- where no dot is of the node
+pub greatest_past : (xs : List Dot) (node : List ℕ) → ((k : ℕ) (d : Dot) → k < length xs → (get_or xs k d).node ≡ node → ⊥) → IsGreatest (list_has xs) node 0
+greatest_past xs node none = record {
+  bound = λ q of has. let at : (k : ℕ) × (k < length xs) × (get_or xs k q ≡ q) = place_of xs q has in absurd (none at.0 q at.1 (ap (λ (x : Dot). x.node) at.2 ∙ of));
+  reached = λ lt. absurd (omega (arith, lt));
+}
+
+-- one place more with a dot of another node
+pub none_more : (xs : List Dot) (i : ℕ) (node : List ℕ) (e : Dot) → ((k : ℕ) (d : Dot) → i ≤ k → k < length xs → (get_or xs k d).node ≡ node → ⊥) → ((get_or xs (i - 1) e).node ≡ node → ⊥)
+    → (k : ℕ) (d : Dot) → i - 1 ≤ k → k < length xs → (get_or xs k d).node ≡ node → ⊥
+none_more xs i node e none other k d above within same = elim (cases_lt k i) [
+  | inl below ↦
+      let at : k ≡ i - 1 = omega (arith, below, above) in
+      other (ap (λ j. (get_or xs j e).node) (sym at) ∙ ap (λ (x : Dot). x.node) (get_or_default xs k e d within) ∙ same)
+  | inr later ↦ none k d later within same
+]

@@ -1,0 +1,26 @@
+//! Join semilattices, dots and causal contexts.
+#![tactic(auto)]
+
+pub mod below;
+pub mod context;
+mod cut;
+pub mod dot;
+pub mod lattice;
+pub mod least;
+pub mod map_join;
+pub mod max_count;
+pub mod merge;
+pub mod parts;
+mod sorted_dots;
+#[cfg(test)]
+mod tests;
+
+pub use below::{Below, all_below};
+pub use context::CausalContext;
+pub use dot::{Dot, MAX};
+pub use lattice::Lattice;
+pub use least::Least;
+pub use map_join::MapJoin;
+pub use max_count::MaxCount;
+pub use merge::{Merge, keys_rise, merge_maps};
+pub use parts::PartsFault;

@@ -1,0 +1,90 @@
+//! Lists of dots in rising order: their union, inclusion, and a node's greatest counter.
+
+ghost use Rattle.std.specs.Prelude.{◌≡◌, ◌||◌, ◌↔◌, IsTrue, IfOk, true};
+ghost use Rattle.std.specs.List.{AllByRecursion};
+ghost use Rattle.sup_specs.specs.Rising.{IsRising};
+ghost use Rattle.sup_causal.specs.Dots.{dot_cmp, list_has, IsCounted, IsGreatest, IsKept};
+
+use crate::dot::Dot;
+use std::alloc::{AllocError, Global};
+use std::cmp::Ordering;
+use sup_specs::NodeName;
+
+// The dots of a list, each once and in rising order.
+pub(crate) fn sorted(mut dots: Vec<Dot>) -> Vec<Dot>
+    requires { AllByRecursion IsCounted dots.items }
+    ensures kept { IsKept result.items }
+    ensures dots { (d : Dot) → list_has result.items d ≡ list_has dots.items d }
+{
+    dots.sort_unstable();
+    dots.dedup();
+    dots
+}
+
+// The dots of both lists, in one pass.
+pub(crate) fn union(alloc: Global, left: &[Dot], right: &[Dot]) -> Result<Vec<Dot>, AllocError>
+    requires left { IsKept left.now }
+    requires right { IsKept right.now }
+    ensures kept { IfOk result (λ both. IsKept both.items) }
+    ensures dots { IfOk result (λ both. (d : Dot) → list_has both.items d ≡ (list_has left.now d || list_has right.now d)) }
+{
+    let mut both = Vec::with_capacity(alloc, left.len() + right.len())?;
+    let mut i = 0;
+    let mut j = 0;
+    while i < left.len() && j < right.len() {
+        match left[i].cmp(&right[j]) {
+            Ordering::Less => {
+                both.push(left[i])?;
+                i += 1;
+            }
+            Ordering::Equal => {
+                both.push(left[i])?;
+                i += 1;
+                j += 1;
+            }
+            Ordering::Greater => {
+                both.push(right[j])?;
+                j += 1;
+            }
+        }
+    }
+    both.extend_from_slice(&left[i..])?;
+    both.extend_from_slice(&right[j..])?;
+    Ok(both)
+}
+
+// Whether the second list has all dots of the first, in one pass.
+pub(crate) fn is_within(left: &[Dot], right: &[Dot]) -> bool
+    requires left { IsRising dot_cmp left.now }
+    requires right { IsRising dot_cmp right.now }
+    ensures { IsTrue result ↔ ((d : Dot) → list_has left.now d ≡ true → list_has right.now d ≡ true) }
+{
+    let mut i = 0;
+    let mut j = 0;
+    while i < left.len() && j < right.len() {
+        match left[i].cmp(&right[j]) {
+            Ordering::Less => return false,
+            Ordering::Equal => {
+                i += 1;
+                j += 1;
+            }
+            Ordering::Greater => j += 1,
+        }
+    }
+    i == left.len()
+}
+
+// The greatest counter of the node's dots, from the back: counters rise, so the first that is met is the greatest.
+pub(crate) fn greatest_of(dots: &[Dot], node: &NodeName) -> u64
+    requires { IsRising dot_cmp dots.now }
+    ensures { IsGreatest (list_has dots.now) node.now result }
+{
+    let mut i = dots.len();
+    while i > 0 {
+        i -= 1;
+        if dots[i].node == *node {
+            return dots[i].counter;
+        }
+    }
+    0
+}

@@ -1,0 +1,6 @@
+pub mod Rows
+pub mod Causals
+pub mod Eithers
+pub mod Keys
+pub mod Retains
+pub mod RowListLaws

@@ -1,0 +1,121 @@
+//! A function from dots to values.
+
+ghost use Rattle.std.specs.Prelude.{◌≡◌, Option, Some, None, IfOk, IfSome, IfNone, [], ◌∷◌, slice_get, if◌then◌else◌};
+ghost use Rattle.std.proofs.Props.{props};
+ghost use Rattle.std.specs.BTreeMap.{get, IsOrdered};
+ghost use Rattle.sup_specs.specs.Rising.{among};
+ghost use Rattle.sup_causal.specs.declared.dot.Dot.{Dot as DotValue};
+ghost use Rattle.sup_causal.specs.Join.{lesser as lesser_of, lesser_laws as laws_of_lesser};
+ghost use Rattle.sup_causal.specs.Dots.{dot_cmp};
+
+use crate::dot_store::DotStore;
+use crate::values_under::{DotsIn, ValuesUnder};
+use std::alloc::{AllocError, Global};
+use std::collections::BTreeMap;
+use sup_causal::{CausalContext, Dot, all_below, keys_rise, merge_maps};
+use sup_specs::Plain;
+
+/// Values under dots. A dot has one place, so at most one value.
+#[derive(Drop)]
+pub struct DotFun<V> {
+    values: BTreeMap<Dot, V>,
+    // The dots rise. Every map's keys do; here it is said, so that a proof knows it of a function inside other values.
+    pub ghost ordered: { IsOrdered dot_cmp values } by { Prim.hlevel props },
+}
+
+impl<V: Plain> DotFun<V> {
+    ghost use Rattle.sup_dot_store.specs.Contents.{values_of};
+
+    /// No values.
+    pub fn new(alloc: Global) -> Self
+        ensures { (values_of result).entries ≡ [] }
+    {
+        let values = BTreeMap::new(alloc);
+        DotFun { values }
+    }
+
+    /// One value under one dot. An `Err` is want of memory.
+    pub fn single(alloc: Global, dot: Dot, value: V) -> Result<Self, AllocError>
+        ensures { IfOk result (λ s. (values_of s).entries ≡ (dot, value) ∷ []) }
+    {
+        let mut values = BTreeMap::new(alloc);
+        values.insert(dot, value)?;
+        Ok(DotFun { values })
+    }
+
+    /// The least dot and its value.
+    pub fn first(&self) -> Option<(&Dot, &V)>
+        ensures some { IfSome result (λ e. slice_get (values_of self.now).entries 0 ≡ Some (e.0.now, e.1.now)) }
+        ensures none { IfNone result ((values_of self.now).entries ≡ []) }
+    {
+        self.values.first_key_value()
+    }
+
+    /// The values, by dot: as a list they stand in dot order.
+    pub fn values(&self) -> &BTreeMap<Dot, V>
+        ensures { result.now ≡ values_of self.now }
+    {
+        &self.values
+    }
+}
+
+impl<V: Plain> DotStore for DotFun<V> {
+    ghost use Rattle.sup_dot_store.specs.Contents.{values_of};
+
+    ghost Place = { Unit {0} };
+
+    ghost Value = { λ _. V };
+
+    ghost lesser = { λ _. lesser_of V.cmp };
+
+    ghost held = { λ s d _. get dot_cmp (values_of s) d };
+
+    ghost lesser_laws = { λ _. laws_of_lesser V.Ord.total V.Plain.exact };
+
+    fn empty(alloc: Global) -> Self {
+        DotFun::new(alloc)
+    }
+
+    fn is_empty(&self) -> bool {
+        self.values.is_empty()
+    }
+
+    fn covered_by(&self, context: &CausalContext) -> bool {
+        all_below(&self.values, &self.values, &DotsIn { context })
+    }
+
+    fn joined_under(
+        &self,
+        alloc: Global,
+        mine: &CausalContext,
+        other: &Self,
+        theirs: &CausalContext,
+    ) -> Result<Self, AllocError> {
+        let values = merge_maps(
+            alloc,
+            &self.values,
+            &other.values,
+            &ValuesUnder { mine, theirs },
+        )?;
+        Ok(DotFun { values })
+    }
+
+    fn leq_under(&self, mine: &CausalContext, other: &Self, theirs: &CausalContext) -> bool {
+        all_below(&self.values, &other.values, &ValuesUnder { mine, theirs })
+    }
+
+    fn retract(&mut self, dots: &[Dot]) {
+        take_away(&mut self.values, dots);
+    }
+}
+
+// Takes away what the map has under the dots.
+fn take_away<V: Drop>(values: &mut BTreeMap<Dot, V>, dots: &[Dot])
+    ensures taken { (d : DotValue) → get dot_cmp values.new d ≡ (if among dot_cmp dots.now d then None else get dot_cmp values.old d) }
+    ensures ordered { IsOrdered dot_cmp values.new }
+{
+    for dot in dots {
+        values.remove(dot);
+    }
+    keys_rise(values);
+}

@@ -1,0 +1,4 @@
+pub mod FindLaws
+pub mod RankLaws
+pub mod PlaceLaws
+pub mod MoveLaws

@@ -1,0 +1,5 @@
+pub mod Texts
+pub mod Loops
+pub mod Playing
+pub mod Fronts
+pub mod Endings

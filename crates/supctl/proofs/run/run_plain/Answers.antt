@@ -1,0 +1,5 @@
+use Rattle.supctl.proofs.Endings.{unstarted}
+use Rattle.supctl.proofs.run.run_plain.Goals as goal
+
+pub returns-in-Err-clause-simulates : goal.returns-in-Err-clause-simulates
+returns-in-Err-clause-simulates g c = λ is_command. unstarted _ _ _ _ _ c.want_of_memory.ensures

@@ -1,0 +1,41 @@
+-- The faults that end a run, their lines and their statuses (this project's output format).
+use Rattle.std.specs.Prelude.{ℕ, List, [], ◌∷◌, codes, decimal}
+use Rattle.supctl.specs.Text.{text}
+use Rattle.supctl.specs.declared.fault.Fault.{Fault}
+use Rattle.supctl.specs.declared.fault.Fault.TheVariants.{BadLine, BadInput, Device, OutOfMemory}
+use Rattle.supctl.specs.declared.input.InputFault.{InputFault}
+use Rattle.supctl.specs.declared.input.InputFault.TheVariants as input
+use Rattle.supctl.specs.declared.script.fault.ScriptFault.{ScriptFault}
+use Rattle.supctl.specs.declared.script.fault.ScriptFault.TheVariants as script
+
+-- the line on standard error
+abbrev pub fault_text : Fault → List ℕ
+fault_text (BadLine number) = text (codes "bad line " ∷ decimal number ∷ codes "\n" ∷ [])
+fault_text BadInput = codes "bad input\n"
+fault_text Device = codes "device\n"
+fault_text OutOfMemory = codes "out of memory\n"
+
+-- the exit status
+abbrev pub status_of : Fault → ℕ
+status_of (BadLine number) = 1
+status_of BadInput = 1
+status_of Device = 3
+status_of OutOfMemory = 3
+
+-- the device and memory, which no input decides
+abbrev pub IsOutside : Fault → Type 0
+IsOutside (BadLine number) = ⊥
+IsOutside BadInput = ⊥
+IsOutside Device = Unit {0}
+IsOutside OutOfMemory = Unit {0}
+
+-- a fault of reading, as one of the run
+abbrev pub of_input : InputFault → Fault
+of_input input.TooLong = BadInput
+of_input input.Device = Device
+of_input input.OutOfMemory = OutOfMemory
+
+-- a fault of the script, as one of the run
+abbrev pub of_script : ScriptFault → Fault
+of_script (script.BadLine number) = BadLine number
+of_script script.OutOfMemory = OutOfMemory

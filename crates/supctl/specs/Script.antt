@@ -1,0 +1,70 @@
+-- A script: its lines, and the number of the first bad one (this project's script format).
+use Rattle.std.specs.Prelude.{◌≡◌, ℕ, Bool, not, ◌&&◌, ◌||◌, ◌==◌, nat_le, List, [], ◌∷◌, length, slice_index, filter, Option, Some, None, Result, Ok, Err, if◌then◌else◌}
+use Rattle.std.specs.List.{slice_split, enumerate_from, list_all}
+use Rattle.supctl.specs.Words.{Word, Name}
+use Rattle.supctl.specs.Forms.{form_of, nodes_of}
+use Rattle.supctl.specs.declared.world.step.Step.{Step}
+use Rattle.supctl.specs.declared.script.fault.ScriptFault.{ScriptFault}
+use Rattle.supctl.specs.declared.script.fault.ScriptFault.TheVariants.{BadLine, OutOfMemory}
+
+-- the lines between line feeds (10); what stands after the last line feed is a line too
+abbrev pub lines_of : List ℕ → List (List ℕ)
+lines_of bytes = slice_split (λ byte. byte == 10) bytes
+
+-- empty, or a comment: it begins with # (35)
+abbrev pub is_skipped : List ℕ → Bool
+is_skipped line = length line == 0 || slice_index line 0 == 35
+
+-- from a space (32) to ~ (126)
+abbrev pub is_plain : List ℕ → Bool
+is_plain line = list_all (λ byte. nat_le 32 byte && nat_le byte 126) line
+
+-- words stand between single spaces (32), so two spaces have an empty word between them
+abbrev pub words_of : List ℕ → List Word
+words_of line = slice_split (λ byte. byte == 32) line
+
+-- the step that the bytes of a line after the first ask for
+unfoldable pub step_of : List ℕ → Option Step
+step_of bytes = if is_plain bytes then form_of (words_of bytes) else None
+
+-- the nodes that the bytes of the first line say
+unfoldable pub opening_of : List ℕ → Option (List Name)
+opening_of bytes = if is_plain bytes then nodes_of (words_of bytes) else None
+
+-- each line that isn't skipped, behind its number from 1; skipped lines are counted
+abbrev pub numbered_lines : List ℕ → List (ℕ × List ℕ)
+numbered_lines bytes = filter (λ l. not (is_skipped l.1)) (enumerate_from 1 (lines_of bytes))
+
+-- the step of a line, in front of those of the lines after it; else the line's number
+abbrev pub in_front : ℕ → Option Step → Result (List Step) ℕ → Result (List Step) ℕ
+in_front number None others = Err number
+in_front number (Some step) (Ok steps) = Ok (step ∷ steps)
+in_front number (Some step) (Err later) = Err later
+
+-- the steps of these lines, or the number of the first bad one
+abbrev pub steps_of : List (ℕ × List ℕ) → Result (List Step) ℕ
+steps_of [] = Ok []
+steps_of (line ∷ lines) = in_front line.0 (step_of line.1) (steps_of lines)
+
+-- the nodes of a script, and its steps
+abbrev pub ScriptText : Type 0
+ScriptText = List Name × List Step
+
+abbrev pub behind : ℕ → Option (List Name) → Result (List Step) ℕ → Result ScriptText ℕ
+behind number None steps = Err number
+behind number (Some nodes) (Ok steps) = Ok (nodes, steps)
+behind number (Some nodes) (Err later) = Err later
+
+abbrev pub opened : List (ℕ × List ℕ) → Result ScriptText ℕ
+opened [] = Err 0
+opened (line ∷ lines) = behind line.0 (opening_of line.1) (steps_of lines)
+
+-- the script that the bytes say, or the number of the first bad line, 0 where all lines are skipped
+abbrev pub script_of : List ℕ → Result ScriptText ℕ
+script_of bytes = opened (numbered_lines bytes)
+
+-- What was answered is what reading the script gives, unless memory was refused.
+abbrev pub ReadsAll : {X Y : Type 0} → (X → Y) → Result X ScriptFault → Result Y ℕ → Type 0
+ReadsAll view (Ok x) read = read ≡ Ok (view x)
+ReadsAll view (Err (BadLine number)) read = read ≡ Err number
+ReadsAll view (Err OutOfMemory) read = Unit {0}

@@ -1,0 +1,55 @@
+//! The program `supctl`: scripts of a supervisor cluster, run on standard input.
+#![tactic(auto)]
+
+mod fault;
+mod input;
+mod options;
+mod output;
+mod run;
+mod script;
+#[cfg(test)]
+mod tests;
+mod text;
+mod world;
+
+ghost use Rattle.supctl.specs.Run.{Refuses};
+
+use output::put_all;
+use std::env;
+use std::io::{self, ErrorKind, Write};
+use std::process::ExitCode;
+
+fn main(rt: HostRuntime) -> ExitCode {
+    let mut errors = rt.stderr();
+    let status = match words_of(&rt) {
+        Ok(words) => run::run(
+            rt.alloc(),
+            words.as_slice(),
+            &mut rt.stdin(),
+            &mut rt.stdout(),
+            &mut errors,
+        ),
+        Err(error) => without_words(&error, &mut errors),
+    };
+    ExitCode::from(status)
+}
+
+// The words after the program's name.
+fn words_of(rt: &HostRuntime) -> io::Result<Vec<String>> {
+    let words = env::args(rt)?.skip(1).collect(rt.alloc())?;
+    Ok(words)
+}
+
+// Words that are no text are refused as words that are no command.
+fn without_words<E: Write>(error: &io::Error, errors: &mut E) -> u8
+    ensures { Refuses (E.contents errors.old) (E.contents errors.new) result }
+{
+    if error.kind() == ErrorKind::OutOfMemory {
+        return run::want_of_memory(errors);
+    }
+    let _ = put_all(
+        errors,
+        b"error: invalid UTF-8 was detected in one or more arguments\n",
+    );
+    run::USAGE
+}

@@ -1,0 +1,36 @@
+//! Writing whole texts.
+
+ghost use Rattle.std.specs.Prelude.{ℕ, OnOk, take};
+ghost use Rattle.std.specs.Io.KnownBytes.{Appends};
+
+use std::io::{ErrorKind, Write};
+use thiserror::Error;
+
+/// The writer failed, took nothing, or was interrupted for ever.
+#[derive(Clone, Copy, Debug, PartialEq, Eq, Error)]
+#[error("the output can't be written")]
+pub struct DeviceFault;
+
+/// Writes all of the bytes. A fault leaves a front of them written.
+pub fn put_all<W: Write>(writer: &mut W, bytes: &[u8]) -> Result<(), DeviceFault>
+    ensures ok { OnOk result (Appends (W.contents writer.old) (W.contents writer.new) bytes.now) }
+    ensures front { (count : ℕ)
+        × Appends (W.contents writer.old) (W.contents writer.new) (take count bytes.now) }
+{
+    let mut done = 0;
+    for _ in 0..u64::MAX {
+        if done >= bytes.len() {
+            return Ok(());
+        }
+        match writer.write(&bytes[done..]) {
+            Ok(0) => return Err(DeviceFault),
+            Ok(count) => done += count,
+            Err(error) => {
+                if error.kind() != ErrorKind::Interrupted {
+                    return Err(DeviceFault);
+                }
+            }
+        }
+    }
+    Err(DeviceFault)
+}

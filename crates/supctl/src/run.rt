@@ -1,0 +1,177 @@
+//! The program's run, from its words and input to its output and status.
+
+ghost use Rattle.std.specs.Prelude.{◌≡◌, ◌≢◌, ◌≤◌, ◌+◌, length, OnOk, IfErr, IfSome, map};
+ghost use Rattle.supctl.specs.CommandLine.{IsCommand, IsNoCommand};
+ghost use Rattle.supctl.specs.Faults.{IsOutside};
+ghost use Rattle.supctl.specs.Run.{Ends, PlaysOne, PrintsAll, PrintsFront, Refuses, Simulates, TakesAtMost, WantsMemory, status_in};
+
+use crate::fault::{Fault, report};
+use crate::input::{LIMIT, read_input};
+use crate::options::{is_want_of_memory, read_words};
+use crate::output::put_all;
+use crate::script::{Script, read_script};
+use crate::text::answer_text;
+use crate::world::{Step, World};
+use clap::Error;
+use std::alloc::Global;
+use std::convert::AsStr;
+use std::io::{Read, Write};
+
+/// The exit status where the words are refused.
+pub const USAGE: u8 = 2;
+
+/// How a run ended that waits for nobody.
+#[derive(Clone, Copy, Debug, PartialEq, Eq)]
+pub enum Ran {
+    /// With this exit status.
+    Status(u8),
+}
+
+/// Runs the program, and answers its exit status. The words are those after the program's name.
+pub fn run<S: AsStr, R: Read, W: Write, E: Write>(
+    alloc: Global,
+    words: &[S],
+    reader: &mut R,
+    writer: &mut W,
+    errors: &mut E,
+) -> u8
+    // A command of those that there are.
+    ensures simulates { IsCommand (map S.text words.now)
+        → Simulates (R.remaining reader.old) (W.contents writer.old) (W.contents writer.new)
+        (E.contents errors.old) (E.contents errors.new) result }
+    ensures taken { TakesAtMost (LIMIT + 1) (R.remaining reader.old) (R.remaining reader.new) }
+
+    // Other words.
+    ensures refused { IsNoCommand (map S.text words.now)
+        → Refuses (E.contents errors.old) (E.contents errors.new) result }
+    ensures unread { IsNoCommand (map S.text words.now) → reader.new ≡ reader.old }
+    ensures unwritten { IsNoCommand (map S.text words.now) → writer.new ≡ writer.old }
+{
+    match run_plain(alloc, words, reader, writer, errors) {
+        Ran::Status(status) => status,
+    }
+}
+
+/// Runs the commands that wait for nobody.
+pub fn run_plain<S: AsStr, R: Read, W: Write, E: Write>(
+    alloc: Global,
+    words: &[S],
+    reader: &mut R,
+    writer: &mut W,
+    errors: &mut E,
+) -> Ran
+    // A command of those that there are.
+    ensures simulates { IsCommand (map S.text words.now)
+        → Simulates (R.remaining reader.old) (W.contents writer.old) (W.contents writer.new)
+        (E.contents errors.old) (E.contents errors.new) (status_in result) }
+    ensures taken { TakesAtMost (LIMIT + 1) (R.remaining reader.old) (R.remaining reader.new) }
+
+    // Other words.
+    ensures refused { IsNoCommand (map S.text words.now)
+        → Refuses (E.contents errors.old) (E.contents errors.new) (status_in result) }
+    ensures unread { IsNoCommand (map S.text words.now) → reader.new ≡ reader.old }
+    ensures unwritten { IsNoCommand (map S.text words.now) → writer.new ≡ writer.old }
+{
+    match read_words(alloc, words) {
+        Ok(()) => Ran::Status(simulate(alloc, reader, writer, errors)),
+        Err(error) if is_want_of_memory(&error) => Ran::Status(want_of_memory(errors)),
+        Err(error) => Ran::Status(refuse(alloc, &error, errors)),
+    }
+}
+
+// Tells why the words are refused, or that memory was.
+fn refuse<E: Write>(alloc: Global, error: &Error, errors: &mut E) -> u8
+    ensures { Refuses (E.contents errors.old) (E.contents errors.new) result }
+{
+    match format!(in alloc; "{error}") {
+        Ok(text) => {
+            let _ = put_all(errors, text.as_bytes());
+            USAGE
+        }
+        Err(_) => want_of_memory(errors),
+    }
+}
+
+/// Tells that memory was refused.
+pub fn want_of_memory<E: Write>(errors: &mut E) -> u8
+    ensures { WantsMemory (E.contents errors.old) (E.contents errors.new) result }
+{
+    report(errors, Fault::OutOfMemory);
+    Fault::OutOfMemory.status()
+}
+
+// Runs the script that the reader has.
+fn simulate<R: Read, W: Write, E: Write>(
+    alloc: Global,
+    reader: &mut R,
+    writer: &mut W,
+    errors: &mut E,
+) -> u8
+    ensures simulates { Simulates (R.remaining reader.old) (W.contents writer.old)
+        (W.contents writer.new) (E.contents errors.old) (E.contents errors.new) result }
+    ensures taken { TakesAtMost (LIMIT + 1) (R.remaining reader.old) (R.remaining reader.new) }
+{
+    match run_script(alloc, reader, writer) {
+        Ok(()) => 0,
+        Err(fault) => {
+            report(errors, fault);
+            fault.status()
+        }
+    }
+}
+
+fn run_script<R: Read, W: Write>(alloc: Global, reader: &mut R, writer: &mut W) -> Result<(), Fault>
+    ensures ends { IfSome (R.remaining reader.old)
+        (λ bytes. Ends bytes (W.contents writer.old) (W.contents writer.new) result) }
+    ensures taken { TakesAtMost (LIMIT + 1) (R.remaining reader.old) (R.remaining reader.new) }
+{
+    let mut asked = 0;
+    let input = read_input(alloc, reader, &mut asked)?;
+    run_bytes(alloc, input.as_slice(), writer)
+}
+
+// The whole script is checked before its first step.
+fn run_bytes<W: Write>(alloc: Global, input: &[u8], writer: &mut W) -> Result<(), Fault>
+    requires { length input.now ≤ LIMIT }
+    ensures { Ends input.now (W.contents writer.old) (W.contents writer.new) result }
+{
+    let Script { nodes, steps } = read_script(alloc, input)?;
+    let mut world = World::open(nodes);
+    match play(alloc, &mut world, steps.as_slice(), writer) {
+        Ok(()) => Ok(()),
+        Err(fault) => Err(fault),
+    }
+}
+
+// Makes the steps in order, and writes what each answers.
+fn play<W: Write>(
+    alloc: Global,
+    world: &mut World,
+    steps: &[Step],
+    writer: &mut W,
+) -> Result<(), Fault>
+    ensures all { OnOk result
+        (PrintsAll world.old steps.now (W.contents writer.old) (W.contents writer.new)) }
+    ensures front { PrintsFront world.old steps.now (W.contents writer.old) (W.contents writer.new) }
+    ensures faults { IfErr result IsOutside }
+{
+    for step in steps {
+        play_one(alloc, world, step, writer)?;
+    }
+    Ok(())
+}
+
+fn play_one<W: Write>(
+    alloc: Global,
+    world: &mut World,
+    step: &Step,
+    writer: &mut W,
+) -> Result<(), Fault>
+    ensures { PlaysOne world.old step.now world.new
+        (W.contents writer.old) (W.contents writer.new) result }
+{
+    let answer = world.step(step);
+    let text = answer_text(alloc, &answer)?;
+    put_all(writer, text.as_bytes())?;
+    Ok(())
+}

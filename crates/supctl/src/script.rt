@@ -1,0 +1,56 @@
+//! Scripts: the nodes of a world, and the steps that are made in it.
+
+ghost use Rattle.std.specs.Prelude.{map};
+ghost use Rattle.supctl.specs.Script.{script_of, ReadsAll, steps_of};
+
+mod fault;
+mod line;
+mod lines;
+mod opening;
+mod words;
+
+use crate::world::Step;
+pub use fault::{LineFault, ScriptFault};
+use lines::{NumberedLine, number_lines};
+use std::alloc::Global;
+use sup_specs::NodeName;
+
+/// The nodes, and the steps of the lines after them.
+#[derive(Drop)]
+pub struct Script {
+    pub nodes: Vec<NodeName>,
+    pub steps: Vec<Step>,
+}
+
+/// Reads a script. A fault names the first bad line by its number from 1, or 0 where all lines
+/// are skipped.
+pub fn read_script(alloc: Global, bytes: &[u8]) -> Result<Script, ScriptFault>
+    ensures { ReadsAll (λ s. (s.nodes.items, s.steps.items)) result (script_of bytes.now) }
+{
+    let lines = number_lines(alloc, bytes)?;
+    match lines.as_slice() {
+        [] => Err(ScriptFault::BadLine(0)),
+        [first, others @ ..] => match opening::read_opening(alloc, first.bytes) {
+            Ok(nodes) => {
+                let steps = read_steps(alloc, others)?;
+                Ok(Script { nodes, steps })
+            }
+            Err(LineFault::Bad) => Err(ScriptFault::BadLine(first.number)),
+            Err(LineFault::OutOfMemory) => Err(ScriptFault::OutOfMemory),
+        },
+    }
+}
+
+fn read_steps(alloc: Global, lines: &[NumberedLine]) -> Result<Vec<Step>, ScriptFault>
+    ensures { ReadsAll (λ v. v.items) result (steps_of (map (λ l. (l.number, l.bytes.now)) lines.now)) }
+{
+    let mut steps = Vec::new(alloc);
+    for line in lines {
+        match line::read_step(alloc, line.bytes) {
+            Ok(step) => steps.push(step)?,
+            Err(LineFault::Bad) => return Err(ScriptFault::BadLine(line.number)),
+            Err(LineFault::OutOfMemory) => return Err(ScriptFault::OutOfMemory),
+        }
+    }
+    Ok(steps)
+}

@@ -1,0 +1,35 @@
+//! What the program writes, and how it ends.
+
+mod devices;
+mod rows;
+mod usage;
+
+use crate::run::run;
+use std::alloc::Global;
+use std::process::Abort;
+
+/// A script with skipped lines, and what it prints.
+const SCRIPT: &[u8] = b"# two nodes\nnodes a b\n\nshow b\nshow z\nshow a\n";
+
+const OUTPUT: &[u8] = b"node b boot 1\nrefused 3 UnknownNode\nnode a boot 1\n";
+
+/// A run of `simulate`, and what it has to give.
+#[derive(Clone, Copy)]
+struct Case<'a> {
+    name: &'a str,
+    input: &'a [u8],
+    output: &'a [u8],
+    errors: &'a [u8],
+    status: u8,
+}
+
+fn check(rt: &impl Abort, alloc: Global, case: &Case) {
+    let mut reader = case.input;
+    let mut writer = Vec::new(alloc);
+    let mut errors = Vec::new(alloc);
+    let status = run(alloc, &["simulate"], &mut reader, &mut writer, &mut errors);
+    let name = case.name;
+    assert!(rt; status == case.status, "{name}: status {status}");
+    assert!(rt; writer.as_slice() == case.output, "{name}: output");
+    assert!(rt; errors.as_slice() == case.errors, "{name}: errors");
+}
