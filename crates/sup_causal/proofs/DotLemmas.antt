@@ -112,44 +112,10 @@ pub each_from_has : (P : Dot → Type 0) (xs : List Dot) → ((d : Dot) → list
 each_from_has P [] h = tt
 each_from_has P (x ∷ xs) h = (h x (or_left _ _ (dot_eq-refl x)), each_from_has P xs (λ d there. h d (or_right _ _ there)))
 
-each_from_list_all : (b : Dot → Bool) (xs : List Dot) → list_all b xs ≡ true → AllByRecursion (λ d. b d ≡ true) xs
-each_from_list_all b xs h = recursion_from_All (λ d. b d ≡ true) xs (AllPass-from_list_all b xs h)
-
-list_all_from_each : (b : Dot → Bool) (xs : List Dot) → AllByRecursion (λ d. b d ≡ true) xs → list_all b xs ≡ true
-list_all_from_each b xs h = list_all-from_AllPass b xs (All-from_recursion (λ d. b d ≡ true) xs h)
-
--- a test of each dot of the list is one of all dots that the list has
-pub within_from_list_all : (b : Dot → Bool) (xs : List Dot) → list_all b xs ≡ true → (d : Dot) → list_has xs d ≡ true → b d ≡ true
-within_from_list_all b xs h = each_has (λ d. b d ≡ true) xs (each_from_list_all b xs h)
-
-pub list_all_from_within : (b : Dot → Bool) (xs : List Dot) → ((d : Dot) → list_has xs d ≡ true → b d ≡ true) → list_all b xs ≡ true
-list_all_from_within b xs h = list_all_from_each b xs (each_from_has (λ d. b d ≡ true) xs h)
-
-or_cases : (a b : Bool) → (a || b) ≡ true → (a ≡ true) ⊎ (b ≡ true)
-or_cases true b h = inl refl
-or_cases false b h = inr h
-
 -- of counted dots the greatest is at most MAX
 pub greatest_counted : (xs : List Dot) (node : List ℕ) (n : ℕ) → AllByRecursion IsCounted xs → IsGreatest (list_has xs) node n → n ≤ MAX
 greatest_counted xs node zero all g = omega arith
 greatest_counted xs node (suc n) all g = let counted = each_has IsCounted xs all _ (g.reached (omega arith)) in counted.1
-
--- the greatest counter is one number
-pub greatest_is_one : (holds : Dot → Bool) (node : List ℕ) (n m : ℕ) → IsGreatest holds node n → IsGreatest holds node m → n ≤ m
-greatest_is_one holds node zero m g h = omega arith
-greatest_is_one holds node (suc n) m g h = h.bound _ refl (g.reached (omega arith))
-
--- and the dot after it is fresh
-pub next_is : (holds : Dot → Bool) (node : List ℕ) (n : ℕ) → IsGreatest holds node n → IsNext holds node (record { counter = n + 1; node = node })
-next_is holds node n g = record {
-  same_node = refl;
-  after = λ m h. omega (arith, greatest_is_one holds node n m g h, greatest_is_one holds node m n h g);
-  fresh = no (holds (record { counter = n + 1; node = node })) refl;
-}
-  where
-    no : (b : Bool) → holds (record { counter = n + 1; node = node }) ≡ b → b ≡ false
-    no false e = refl
-    no true e = absurd (omega (arith, g.bound _ refl e))
 
 -- no test answers both
 pub both_ways : (b : Bool) → b ≡ true → b ≡ false → ⊥
