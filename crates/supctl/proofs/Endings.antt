@@ -1,11 +1,20 @@
--- Runs that end before they read.
-use Rattle.std.proofs.Common.{ℕ, Some, None, inl}
+-- Runs that end before their script does.
+use Rattle.std.proofs.Common.{ℕ, List, Some, None, inl}
 use Rattle.std.specs.Prelude.{Err}
 use Rattle.std.proofs.KnownBytes.{Keeps-refl}
-use Rattle.supctl.specs.declared.fault.Fault.TheVariants.{OutOfMemory}
-use Rattle.supctl.specs.Run.{Bytes, Simulates, WantsMemory}
+use Rattle.supctl.specs.declared.fault.Fault.{Fault}
+use Rattle.supctl.specs.declared.fault.Fault.TheVariants.{BadLine, BadInput, Device, OutOfMemory}
+use Rattle.supctl.specs.Faults.{IsOutside}
+use Rattle.supctl.specs.Run.{Bytes, Ends, Simulates, Stops, WantsMemory}
 
 -- a run that was refused memory at once has written nothing, whatever its input is
 pub unstarted : (input before errors_before errors_written : Bytes) (status : ℕ) → WantsMemory errors_before errors_written status → Simulates input before before errors_before errors_written status
 unstarted None before errors_before errors_written status h = (Err OutOfMemory, h.1.0, h.0, h.1.1, tt)
 unstarted (Some bytes) before errors_before errors_written status h = (Err OutOfMemory, h.1.0, h.0, h.1.1, inl (Keeps-refl before))
+
+-- a run that the device or memory ended
+pub stopped : (X : Type 0) (fault : Fault) (input : List ℕ) (before written : Bytes) → IsOutside fault → Stops input before written → Ends {X = X} input before written (Err fault)
+stopped X (BadLine number) input before written out h = absurd out
+stopped X BadInput input before written out h = absurd out
+stopped X Device input before written out h = h
+stopped X OutOfMemory input before written out h = h

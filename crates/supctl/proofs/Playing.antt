@@ -1,14 +1,35 @@
 -- Steps one after another.
-use Rattle.std.proofs.Common.{◌≡◌, ◌∙◌, ℕ, ◌+◌, ◌<◌, List, [], ◌∷◌, ◌++◌, length, take, get_or, refl, sym, ap, subst, arith, append_assoc, Option}
+use Rattle.std.proofs.Common.{◌≡◌, ◌∙◌, ℕ, ◌+◌, ◌<◌, ◌≤◌, List, [], ◌∷◌, ◌++◌, length, take, get_or, refl, sym, ap, subst, arith, append_assoc, Option, Some, None}
 use Rattle.std.proofs.lemmas.List.{take_more, append-nil, take_all}
 use Rattle.std.proofs.Math.Seq.{take-append-add}
 use Rattle.std.specs.Io.KnownBytes.{Appends}
-use Rattle.std.proofs.KnownBytes.{Appends-trans}
+use Rattle.std.proofs.KnownBytes.{Appends-nil, Appends-trans}
+use Rattle.supctl.specs.declared.world.state.World.{World as Real}
 use Rattle.supctl.specs.declared.world.step.Step.{Step}
 use Rattle.supctl.specs.declared.world.answer.Answer.{Answer}
 use Rattle.supctl.specs.Text.{answer_text}
-use Rattle.supctl.specs.Steps.{World, Allows}
-use Rattle.supctl.specs.Run.{Plays, PrintsFront}
+use Rattle.supctl.specs.Worlds.{World}
+use Rattle.supctl.specs.Runs.{Allows}
+use Rattle.supctl.specs.Stands.{Follows, WorldStandsFor}
+use Rattle.supctl.specs.Run.{Bytes, Plays, PrintsAll, PrintsFront}
+
+-- steps that were made and written, and the model world that they reach
+pub record PlaysTo (old : World) (steps : List Step) (real : Real) (before written : Bytes) : Type 0 where
+  pub printed : List ℕ
+  pub reached : World
+  pub plays : Plays old steps printed reached
+  pub stands : WorldStandsFor real reached
+  pub writes : Appends before written printed
+
+-- before the first step
+pub begins : (old : World) (real : Real) (a : Bytes) → WorldStandsFor real old → PlaysTo old [] real a a
+begins old real a h = record {
+  printed = [];
+  reached = old;
+  plays = (refl, refl);
+  stands = h;
+  writes = Appends-nil a;
+}
 
 -- a run goes on by one step
 plays_one_more : (old : World) (steps : List Step) (step : Step) (printed : List ℕ) (mid new : World) (answer : Answer) → Plays old steps printed mid → Allows mid step answer new → Plays old (steps ++ step ∷ []) (printed ++ answer_text answer) new
@@ -24,34 +45,50 @@ plays_one_more old (first ∷ steps) step printed mid new answer h s = (
   ap (λ (p : List ℕ). p ++ answer_text answer) h.5 ∙ append_assoc (answer_text h.0) h.2 (answer_text answer),
 )
 
-pub goes_on : (old : World) (steps : List Step) (i : ℕ) (step : Step) (mid new : World) (answer : Answer) (a b c : Option (List ℕ)) → i < length steps → step ≡ get_or steps i step
-    → (printed : List ℕ) → Plays old (take i steps) printed mid → Appends a b printed → Allows mid step answer new → Appends b c (answer_text answer)
-    → Plays old (take (i + 1) steps) (printed ++ answer_text answer) new × Appends a c (printed ++ answer_text answer)
-goes_on old steps i step mid new answer a b c lt is printed h w s w' =
-    let all : take (i + 1) steps ≡ take i steps ++ step ∷ [] = take_more steps i step lt ∙ ap (λ (s : Step). take i steps ++ s ∷ []) (sym is) in
-    (rw all (plays_one_more old (take i steps) step printed mid new answer h s), Appends-trans a b c printed (answer_text answer) w w')
+module _ (old : World) (steps : List Step) (i : ℕ) (step : Step) (mid new : Real) (a b c : Bytes) (lt : i < length steps) (is : step ≡ get_or steps i step) (h : PlaysTo old (take i steps) mid a b) (answer : Answer) (f : Follows h.reached step answer new) where
+  all : take (i + 1) steps ≡ take i steps ++ step ∷ []
+  all = take_more steps i step lt ∙ ap (λ (s : Step). take i steps ++ s ∷ []) (sym is)
+
+  more : Plays old (take (i + 1) steps) (h.printed ++ answer_text answer) f.0
+  more = rw all (plays_one_more old (take i steps) step h.printed h.reached f.0 answer h.plays f.1)
+
+  -- a step whose text was written whole
+  pub goes_on : Appends b c (answer_text answer) → PlaysTo old (take (i + 1) steps) new a c
+  goes_on w = record {
+    printed = h.printed ++ answer_text answer;
+    reached = f.0;
+    plays = more;
+    stands = f.2;
+    writes = Appends-trans a b c h.printed (answer_text answer) h.writes w;
+  }
+
+  -- a step whose text was cut short
+  pub cut_front : (count : ℕ) → Appends b c (take count (answer_text answer)) → PrintsFront old steps a c
+  cut_front count w = record {
+    made = i + 1;
+    bytes = length h.printed + count;
+    printed = h.printed ++ answer_text answer;
+    final = f.0;
+    plays = more;
+    writes = rw (take-append-add h.printed (answer_text answer) count) (Appends-trans a b c h.printed (take count (answer_text answer)) h.writes w);
+  }
 
 -- what all of the steps print is a front of itself
-pub whole_front : (old : World) (steps : List Step) (i : ℕ) (mid : World) (a b : Option (List ℕ)) (printed : List ℕ) → Plays old (take i steps) printed mid → Appends a b printed → PrintsFront old steps a b
-whole_front old steps i mid a b printed h w = record {
+pub whole_front : (old : World) (steps : List Step) (i : ℕ) (mid : Real) (a b : Bytes) → PlaysTo old (take i steps) mid a b → PrintsFront old steps a b
+whole_front old steps i mid a b h = record {
   made = i;
-  bytes = length printed;
-  printed = printed;
-  final = mid;
-  plays = h;
-  writes = rw (take_all (length printed) printed (omega arith)) w;
+  bytes = length h.printed;
+  printed = h.printed;
+  final = h.reached;
+  plays = h.plays;
+  writes = rw (take_all (length h.printed) h.printed (omega arith)) h.writes;
 }
 
--- a step whose text was cut short
-pub cut_front : (old : World) (steps : List Step) (i : ℕ) (step : Step) (mid new : World) (answer : Answer) (count : ℕ) (a b c : Option (List ℕ)) → i < length steps → step ≡ get_or steps i step
-    → (printed : List ℕ) → Plays old (take i steps) printed mid → Appends a b printed → Allows mid step answer new → Appends b c (take count (answer_text answer)) → PrintsFront old steps a c
-cut_front old steps i step mid new answer count a b c lt is printed h w s w' =
-    let all : take (i + 1) steps ≡ take i steps ++ step ∷ [] = take_more steps i step lt ∙ ap (λ (s : Step). take i steps ++ s ∷ []) (sym is) in
-    record {
-      made = i + 1;
-      bytes = length printed + count;
-      printed = printed ++ answer_text answer;
-      final = new;
-      plays = rw all (plays_one_more old (take i steps) step printed mid new answer h s);
-      writes = rw (take-append-add printed (answer_text answer) count) (Appends-trans a b c printed (take count (answer_text answer)) w w');
-    }
+-- what all of the steps print
+pub whole : (old : World) (steps : List Step) (i : ℕ) (mid : Real) (a b : Bytes) → length steps ≤ i → PlaysTo old (take i steps) mid a b → PrintsAll old steps a b
+whole old steps i mid a b end h = record {
+  printed = h.printed;
+  final = h.reached;
+  plays = rw (take_all i steps end) at h.plays;
+  writes = h.writes;
+}

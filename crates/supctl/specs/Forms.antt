@@ -1,22 +1,60 @@
 -- The forms of a line, by its words (this project's script format). A further form is a further case of `form_of`.
-use Rattle.std.specs.Prelude.{Bool, true, not, ◌&&◌, nat_le, nat_lt, List, [], ◌∷◌, length, Option, Some, None, if◌then◌else◌, codes}
+use Rattle.std.specs.Prelude.{ℕ, Bool, true, not, ◌&&◌, ◌==◌, nat_le, nat_lt, List, [], ◌∷◌, length, Option, Some, None, if◌then◌else◌, codes}
 use Rattle.std.specs.Str.{bytes_eq}
 use Rattle.std.specs.List.{list_any}
-use Rattle.sup_specs.specs.Texts.{text_fault}
-use Rattle.sup_specs.specs.declared.texts.Alphabet.TheVariants.{NodeBytes}
-use Rattle.sup_specs.specs.declared.texts.TextFault.{TextFault}
+use Rattle.sup_specs.specs.declared.child.ChildSpec.{ChildSpec}
+use Rattle.sup_causal.specs.declared.dot.TheConstants.{MAX}
 use Rattle.supctl.specs.Words.{Word, Name, ◌>>=◌}
+use Rattle.supctl.specs.Values.{node_name_of, child_id_of, kind_of, text_of, number_of, restart_of, shutdown_of}
+use Rattle.supctl.specs.Options.{option_at}
 use Rattle.supctl.specs.declared.world.step.Step.{Step}
-use Rattle.supctl.specs.declared.world.step.Step.TheVariants.{Show}
+use Rattle.supctl.specs.declared.world.step.Step.TheVariants.{Start, Delete, Ship, Deliver, Show}
 
--- a text that no fault keeps from being a value
-abbrev pub unless_faulty : Option TextFault → Word → Option Word
-unless_faulty None word = Some word
-unless_faulty (Some fault) word = None
+-- [kind=K] [arg=TEXT] [restart=R] [shutdown=S], in this order, and no more words
+unfoldable pub spec_of : List Word → Option ChildSpec
+spec_of words = do
+  let kind_word = option_at (codes "kind=") (codes "worker") words
+  let arg_word = option_at (codes "arg=") [] kind_word.1
+  let restart_word = option_at (codes "restart=") (codes "permanent") arg_word.1
+  let shutdown_word = option_at (codes "shutdown=") (codes "5000") restart_word.1
+  kind ← kind_of kind_word.0
+  arg ← text_of arg_word.0
+  restart ← restart_of restart_word.0
+  shutdown ← shutdown_of shutdown_word.0
+  if length shutdown_word.1 == 0 then Some (record { kind = kind; arg = arg; restart = restart; shutdown = shutdown }) else None
 
--- 1 to 64 bytes of a-z 0-9 _ -
-unfoldable pub node_name_of : Word → Option Name
-node_name_of word = unless_faulty (text_fault NodeBytes 1 64 word) word
+-- start N ID [kind=K] [arg=TEXT] [restart=R] [shutdown=S]
+unfoldable pub start_of : List Word → Option Step
+start_of (node ∷ id ∷ options) = do
+  name ← node_name_of node
+  child ← child_id_of id
+  spec ← spec_of options
+  Some (Start name child spec)
+start_of _ = None
+
+-- delete N ID
+unfoldable pub delete_of : List Word → Option Step
+delete_of (node ∷ id ∷ []) = do
+  name ← node_name_of node
+  child ← child_id_of id
+  Some (Delete name child)
+delete_of _ = None
+
+-- ship N TO
+unfoldable pub ship_of : List Word → Option Step
+ship_of (node ∷ to ∷ []) = do
+  name ← node_name_of node
+  target ← node_name_of to
+  Some (Ship name target)
+ship_of _ = None
+
+-- deliver FROM K
+unfoldable pub deliver_of : List Word → Option Step
+deliver_of (sender ∷ number ∷ []) = do
+  name ← node_name_of sender
+  k ← number_of MAX number
+  Some (Deliver name k)
+deliver_of _ = None
 
 -- show N
 unfoldable pub show_of : List Word → Option Step
@@ -28,7 +66,12 @@ show_of _ = None
 -- the step of a line after the first
 unfoldable pub form_of : List Word → Option Step
 form_of [] = None
-form_of (verb ∷ words) = if bytes_eq verb (codes "show") then show_of words else None
+form_of (verb ∷ words) =
+    if bytes_eq verb (codes "start") then start_of words else
+    (if bytes_eq verb (codes "delete") then delete_of words else
+    (if bytes_eq verb (codes "ship") then ship_of words else
+    (if bytes_eq verb (codes "deliver") then deliver_of words else
+    (if bytes_eq verb (codes "show") then show_of words else None))))
 
 -- each word, read as a name
 abbrev pub names_of : List Word → Option (List Name)

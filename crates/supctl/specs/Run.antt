@@ -3,7 +3,10 @@ use Rattle.std.specs.Prelude.{◌≡◌, ℕ, ◌<◌, ◌≤◌, ◌⊎◌, Lis
 use Rattle.std.specs.Io.KnownBytes.{Appends, Consumes, Keeps}
 use Rattle.supctl.specs.Script.{ScriptText, script_of}
 use Rattle.supctl.specs.Text.{answer_text}
-use Rattle.supctl.specs.Steps.{World, Allows, opened_world}
+use Rattle.supctl.specs.Worlds.{World, new_world}
+use Rattle.supctl.specs.Runs.{Allows}
+use Rattle.supctl.specs.Stands.{Follows, WorldStandsFor}
+use Rattle.supctl.specs.declared.world.state.World.{World as Real}
 use Rattle.supctl.specs.Faults.{fault_text, status_of, IsOutside}
 use Rattle.supctl.specs.declared.world.step.Step.{Step}
 use Rattle.supctl.specs.declared.world.answer.Answer.{Answer}
@@ -23,13 +26,17 @@ Plays world (step ∷ steps) printed after =
     (answer : Answer) × (between : World) × (later : List ℕ)
     × Allows world step answer between × Plays between steps later after × (printed ≡ answer_text answer ++ later)
 
--- One step, with its text written whole, or a front of it.
-abbrev pub PlaysOne : {X : Type 0} → World → Step → World → Bytes → Bytes → Result X Fault → Type 0
-PlaysOne world step after before written (Ok x) =
-    (answer : Answer) × Allows world step answer after × Appends before written (answer_text answer)
-PlaysOne world step after before written (Err fault) =
-    IsOutside fault × ((answer : Answer) × (count : ℕ)
-    × Allows world step answer after × Appends before written (take count (answer_text answer)))
+-- One step from the model world, with its text written whole, or a front of it.
+abbrev pub PlaysFrom : {X : Type 0} → World → Step → Real → Bytes → Bytes → Result X Fault → Type 0
+PlaysFrom model step after before written (Ok x) =
+    (answer : Answer) × Follows model step answer after × Appends before written (answer_text answer)
+PlaysFrom model step after before written (Err fault) =
+    (answer : Answer) × (count : ℕ) × Follows model step answer after × Appends before written (take count (answer_text answer))
+
+-- One step, from every model world that the code's stands for.
+abbrev pub PlaysOne : {X : Type 0} → Real → Step → Real → Bytes → Bytes → Result X Fault → Type 0
+PlaysOne real step after before written result =
+    (model : World) → WorldStandsFor real model → PlaysFrom model step after before written result
 
 -- The writer has got what all of these steps print.
 pub record PrintsAll (world : World) (steps : List Step) (before written : Bytes) : Type 0 where
@@ -50,12 +57,12 @@ pub record PrintsFront (world : World) (steps : List Step) (before written : Byt
 -- The run was stopped: nothing was written, or a front of what the script prints.
 abbrev pub Stops : List ℕ → Bytes → Bytes → Type 0
 Stops input before written = Keeps before written
-    ⊎ ((s : ScriptText) × (script_of input ≡ Ok s) × PrintsFront (opened_world s.0) s.1 before written)
+    ⊎ ((s : ScriptText) × (script_of input ≡ Ok s) × PrintsFront (new_world s.0) s.1 before written)
 
 -- How a run over this input ends, and what the writer has got then.
 abbrev pub Ends : {X : Type 0} → List ℕ → Bytes → Bytes → Result X Fault → Type 0
 Ends input before written (Ok x) = (length input ≤ 1048576)
-    × ((s : ScriptText) × (script_of input ≡ Ok s) × PrintsAll (opened_world s.0) s.1 before written)
+    × ((s : ScriptText) × (script_of input ≡ Ok s) × PrintsAll (new_world s.0) s.1 before written)
 Ends input before written (Err (BadLine number)) = (length input ≤ 1048576) × (script_of input ≡ Err number) × Keeps before written
 Ends input before written (Err BadInput) = (1048576 < length input) × Keeps before written
 Ends input before written (Err Device) = Stops input before written

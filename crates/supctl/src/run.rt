@@ -3,6 +3,8 @@
 ghost use Rattle.std.specs.Prelude.{◌≡◌, ◌≢◌, ◌≤◌, ◌+◌, length, OnOk, IfErr, IfSome, map};
 ghost use Rattle.supctl.specs.CommandLine.{IsCommand, IsNoCommand};
 ghost use Rattle.supctl.specs.Faults.{IsOutside};
+ghost use Rattle.supctl.specs.Stands.{WorldStandsFor};
+ghost use Rattle.supctl.specs.Worlds.{World as Model};
 ghost use Rattle.supctl.specs.Run.{Ends, PlaysOne, PrintsAll, PrintsFront, Refuses, Simulates, TakesAtMost, WantsMemory, status_in};
 
 use crate::fault::{Fault, report};
@@ -136,7 +138,7 @@ fn run_bytes<W: Write>(alloc: Global, input: &[u8], writer: &mut W) -> Result<()
     ensures { Ends input.now (W.contents writer.old) (W.contents writer.new) result }
 {
     let Script { nodes, steps } = read_script(alloc, input)?;
-    let mut world = World::open(nodes);
+    let mut world = World::new(alloc, nodes.as_slice())?;
     match play(alloc, &mut world, steps.as_slice(), writer) {
         Ok(()) => Ok(()),
         Err(fault) => Err(fault),
@@ -150,9 +152,10 @@ fn play<W: Write>(
     steps: &[Step],
     writer: &mut W,
 ) -> Result<(), Fault>
-    ensures all { OnOk result
-        (PrintsAll world.old steps.now (W.contents writer.old) (W.contents writer.new)) }
-    ensures front { PrintsFront world.old steps.now (W.contents writer.old) (W.contents writer.new) }
+    ensures all { (model : Model) → WorldStandsFor world.old model → OnOk result
+        (PrintsAll model steps.now (W.contents writer.old) (W.contents writer.new)) }
+    ensures front { (model : Model) → WorldStandsFor world.old model
+        → PrintsFront model steps.now (W.contents writer.old) (W.contents writer.new) }
     ensures faults { IfErr result IsOutside }
 {
     for step in steps {
@@ -167,11 +170,14 @@ fn play_one<W: Write>(
     step: &Step,
     writer: &mut W,
 ) -> Result<(), Fault>
-    ensures { PlaysOne world.old step.now world.new
+    ensures plays { PlaysOne world.old step.now world.new
         (W.contents writer.old) (W.contents writer.new) result }
+    ensures faults { IfErr result IsOutside }
 {
-    let answer = world.step(step);
-    let text = answer_text(alloc, &answer)?;
+    let answer = world.step(alloc, step);
+    let Ok(text) = answer_text(alloc, &answer) else {
+        return Err(Fault::OutOfMemory);
+    };
     put_all(writer, text.as_bytes())?;
     Ok(())
 }

@@ -7,6 +7,8 @@ mod fault;
 mod line;
 mod lines;
 mod opening;
+mod options;
+mod values;
 mod words;
 
 use crate::world::Step;

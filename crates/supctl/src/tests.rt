@@ -1,7 +1,9 @@
 //! What the program writes, and how it ends.
 
 mod devices;
+mod first_path;
 mod rows;
+mod texts;
 mod usage;
 
 use crate::run::run;

@@ -1,50 +1,55 @@
 //! The lines that a step prints.
 
-ghost use Rattle.std.specs.Prelude.{◌≡◌, IfOk, Some, string_bytes};
-ghost use Rattle.supctl.specs.Text.{answer_text, refusal_text};
+ghost use Rattle.std.specs.Prelude.{◌≡◌, IfOk, string_bytes};
+ghost use Rattle.supctl.specs.Text.{answer_text};
 
-use crate::world::{Answer, Refusal};
+mod child;
+mod dot;
+mod letter;
+mod node_name;
+mod refusal;
+
+use crate::world::Answer;
+use child::rows_text;
+use dot::{DotText, spaced_dots};
+use letter::LetterText;
+use node_name::node_name_text;
+use refusal::RefusalText;
 use std::alloc::{AllocError, Global};
-use std::{fmt, str};
-use sup_specs::NodeName;
 
 /// The lines of an answer.
 pub fn answer_text(alloc: Global, answer: &Answer) -> Result<String, AllocError>
     ensures { IfOk result (λ s. string_bytes s ≡ answer_text answer.now) }
 {
     match answer {
-        Answer::Shown { node, boot } => {
-            let node = name_text(node);
-            format!(in alloc; "node {node} boot {boot}\n")
+        Answer::Added(dot) => {
+            let dot = DotText(*dot);
+            format!(in alloc; "ok {dot}\n")
+        }
+        Answer::Removed(dots) => {
+            let dots = spaced_dots(alloc, dots.as_slice())?;
+            let dots = dots.as_str();
+            format!(in alloc; "ok removed{dots}\n")
+        }
+        Answer::Sent(letter) => {
+            let letter = LetterText(*letter);
+            format!(in alloc; "ok sent\n{letter}")
+        }
+        Answer::Absorbed => format!(in alloc; "ok absorbed\n"),
+        Answer::Known => format!(in alloc; "ok known\n"),
+        Answer::Shown {
+            node,
+            boot,
+            children,
+        } => {
+            let node = node_name_text(node);
+            let rows = rows_text(alloc, children.as_slice())?;
+            let rows = rows.as_str();
+            format!(in alloc; "node {node} boot {boot}\n{rows}")
         }
         Answer::Refused(refusal) => {
             let refusal = RefusalText(*refusal);
             format!(in alloc; "refused {refusal}\n")
         }
-    }
-}
-
-/// A refusal's number and name.
-#[derive(Clone, Copy)]
-struct RefusalText(Refusal);
-
-impl fmt::Display for RefusalText {
-    ghost output = { λ r. Some (refusal_text r.0) };
-
-    fn fmt<W: fmt::Write>(&self, f: &mut fmt::Formatter<W>) -> fmt::Result {
-        match self.0 {
-            Refusal::UnknownNode => write!(f, "3 UnknownNode"),
-            Refusal::OutOfMemory => write!(f, "19 OutOfMemory"),
-        }
-    }
-}
-
-// A name as text: each of its bytes is ASCII.
-fn name_text(name: &NodeName) -> &str
-    ensures { result.now ≡ name.now }
-{
-    match str::from_utf8(name.as_bytes()) {
-        Ok(text) => text,
-        Err(_) => "",
     }
 }

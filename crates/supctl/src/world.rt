@@ -1,58 +1,91 @@
-//! The world that a script runs in.
+//! The private world of a script: its nodes, and every message that each of them sent.
+ghost use Rattle.std.specs.Prelude.{◌≡◌, length, map, IfOk, OnErr};
+ghost use Rattle.std.specs.List.{AllZip};
+ghost use Rattle.supctl.specs.Worlds.{World as Model, new_site, new_world};
+ghost use Rattle.supctl.specs.Steps.{step as model_step};
+ghost use Rattle.supctl.specs.Stands.{NodeStandsFor, OutboxStandsFor, AllStand, WorldStandsFor, WorldBecomes, Gives, Follows};
 
-ghost use Rattle.std.specs.Prelude.{◌≡◌};
-ghost use Rattle.supctl.specs.Steps.{Allows, opened_world, show_answer};
+mod acts;
+pub mod answer;
+pub mod laws;
+mod node;
+mod outbox;
+pub mod refusal;
+mod state;
+pub mod step;
 
-mod answer;
-mod refusal;
-mod step;
-
-pub use answer::Answer;
+use crate::world::node::Node;
+use crate::world::outbox::Outbox;
+pub use answer::{Answer, Dots, Letter, LetterKind, Rows};
 pub use refusal::Refusal;
-use std::marker::Model;
+pub use state::World;
+use std::alloc::{AllocError, Global};
 pub use step::Step;
 use sup_specs::NodeName;
 
-/// The nodes of a script. A contract sees the world as their names.
-#[derive(Drop)]
-pub struct World {
-    nodes: Vec<NodeName>,
-}
-
-impl Model for World {
-    ghost use Rattle.std.specs.Prelude.{ℕ, List};
-
-    ghost Value = { List (List ℕ) };
-
-    ghost view = { λ w. w.nodes.items };
-}
-
 impl World {
-    /// A world of these nodes, each in its first boot.
-    pub fn open(names: Vec<NodeName>) -> World
-        ensures { result ≡ opened_world names.items }
+    /// A world of these nodes, none of which has done anything yet.
+    pub fn new(alloc: Global, names: &[NodeName]) -> Result<World, AllocError>
+        ensures { IfOk result (λ world. WorldStandsFor world (new_world names.now)) }
     {
-        World { nodes: names }
+        let nodes = new_nodes(alloc, names)?;
+        let outboxes = new_outboxes(alloc, names)?;
+        Ok(World { nodes, outboxes })
     }
 
-    /// Makes a step. A refused step changes nothing.
-    pub fn step(&mut self, step: &Step) -> Answer
-        ensures { Allows self.old step.now result self.new }
+    /// Makes a step, and tells how it is answered. For each model world that this world stands for, the model allows
+    /// the answer, and this world then stands for a world that the model allows after it. A refused step changes nothing;
+    /// `OutOfMemory` comes only where a growth was refused, in place of an answer that is no refusal.
+    pub fn step(&mut self, alloc: Global, step: &Step) -> Answer
+        ensures { (model : Model) → WorldStandsFor self.old model → Follows model step.now result self.new }
     {
-        match step {
-            Step::Show { node } => self.show(node),
+        match act(alloc, &mut self.nodes, &mut self.outboxes, step) {
+            Ok(answer) => answer,
+            Err(refusal) => Answer::Refused(refusal),
         }
     }
+}
 
-    fn show(&self, node: &NodeName) -> Answer
-        ensures { result ≡ show_answer self.now node.now }
-    {
-        if !self.nodes.contains(node) {
-            return Answer::Refused(Refusal::UnknownNode);
-        }
-        Answer::Shown {
-            node: *node,
-            boot: 1,
-        }
+// Nodes of these names.
+fn new_nodes(alloc: Global, names: &[NodeName]) -> Result<Vec<Node>, AllocError>
+    ensures { IfOk result (λ nodes. AllZip NodeStandsFor nodes.items (map new_site names.now)) }
+{
+    let mut nodes = Vec::new(alloc);
+    for name in names {
+        nodes.push(Node::new(alloc, *name))?;
+    }
+    Ok(nodes)
+}
+
+// As many outboxes as there are names.
+fn new_outboxes(alloc: Global, names: &[NodeName]) -> Result<Vec<Outbox>, AllocError>
+    ensures { IfOk result (λ outboxes. AllZip OutboxStandsFor outboxes.items (map new_site names.now)) }
+{
+    let mut outboxes = Vec::new(alloc);
+    for name in names {
+        let _ = name;
+        outboxes.push(Outbox::new(alloc))?;
+    }
+    Ok(outboxes)
+}
+
+// Makes a step. A refused one changes nothing.
+fn act(
+    alloc: Global,
+    nodes: &mut [Node],
+    outboxes: &mut [Outbox],
+    step: &Step,
+) -> Result<Answer, Refusal>
+    requires { length outboxes.old ≡ length nodes.old }
+    ensures gives { (model : Model) → AllStand nodes.old outboxes.old model → Gives (WorldBecomes nodes.new outboxes.new) (model_step model step.now) result }
+    ensures nodes { OnErr result (nodes.new ≡ nodes.old) }
+    ensures outboxes { OnErr result (outboxes.new ≡ outboxes.old) }
+{
+    match step {
+        Step::Start { node, id, spec } => acts::start(alloc, nodes, node, id, spec),
+        Step::Delete { node, id } => acts::delete(alloc, nodes, node, id),
+        Step::Ship { node, to } => acts::ship(alloc, nodes, outboxes, node, to),
+        Step::Deliver { from, k } => acts::deliver(alloc, nodes, outboxes, from, *k),
+        Step::Show { node } => acts::show(alloc, nodes, node),
     }
 }

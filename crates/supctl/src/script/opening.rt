@@ -6,7 +6,8 @@ ghost use Rattle.supctl.specs.Forms.{are_distinct, names_of, nodes_of};
 ghost use Rattle.supctl.specs.Script.{opening_of};
 
 use crate::script::LineFault;
-use crate::script::words::{plain_text, read_node_name, words_of};
+use crate::script::values::read_node_name;
+use crate::script::words::{plain_text, words_of};
 use std::alloc::Global;
 use sup_specs::NodeName;
 

@@ -1,14 +1,11 @@
 //! The words of a line.
 
 ghost use Rattle.std.specs.Prelude.{◌≡◌, IfOk, None, Some, option_map, if◌then◌else◌};
-ghost use Rattle.supctl.specs.Words.{Reads, texts};
-ghost use Rattle.supctl.specs.Forms.{node_name_of};
+ghost use Rattle.supctl.specs.Words.{texts};
 ghost use Rattle.supctl.specs.Script.{is_plain, words_of};
 
-use crate::script::LineFault;
 use std::alloc::{AllocError, Global};
 use std::str;
-use sup_specs::NodeName;
 
 /// The words between single spaces. Two spaces have an empty word between them.
 pub fn words_of<'a>(alloc: Global, line: &'a str) -> Result<Vec<&'a str>, AllocError>
@@ -35,12 +32,4 @@ fn is_plain(line: &[u8]) -> bool
     ensures { result ≡ is_plain line.now }
 {
     line.iter().all(|byte| b' ' <= *byte && *byte <= b'~')
-}
-
-/// The name of a node that a word is.
-#[tactic(auto, unfolding(crate::specs::Forms::node_name_of))]
-pub fn read_node_name(word: &str) -> Result<NodeName, LineFault>
-    ensures { Reads (λ name. name) result (node_name_of word.now) }
-{
-    Ok(NodeName::parse(word)?)
 }

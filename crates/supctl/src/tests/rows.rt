@@ -3,7 +3,7 @@
 use super::{Case, OUTPUT, SCRIPT, check};
 use std::test::Fail;
 
-fn printing<'a>(name: &'a str, input: &'a [u8], output: &'a [u8]) -> Case<'a> {
+pub fn printing<'a>(name: &'a str, input: &'a [u8], output: &'a [u8]) -> Case<'a> {
     Case {
         name,
         input,
@@ -13,7 +13,7 @@ fn printing<'a>(name: &'a str, input: &'a [u8], output: &'a [u8]) -> Case<'a> {
     }
 }
 
-fn refused<'a>(name: &'a str, input: &'a [u8], errors: &'a [u8]) -> Case<'a> {
+pub fn refused<'a>(name: &'a str, input: &'a [u8], errors: &'a [u8]) -> Case<'a> {
     Case {
         name,
         input,
@@ -136,6 +136,66 @@ fn lines_of_no_form_are_bad(rt: HostRuntime) {
             "options-out-of-order",
             b"nodes a\nstart a x arg=y kind=z\n",
             b"bad line 2\n",
+        ),
+    ];
+    for case in &cases {
+        check(&rt, rt.alloc(), case);
+    }
+}
+
+// The last line is the first bad one.
+#[test]
+fn words_are_read_from_the_left(rt: HostRuntime) {
+    let cases = [
+        refused(
+            "ids that look like endings",
+            b"nodes a\nstart a @5\nstart a !fail\nstart a kind=k kind=z\nstart a x !fail\n",
+            b"bad line 5\n",
+        ),
+        refused(
+            "all options",
+            b"nodes a\nstart a x kind=k arg= restart=temporary shutdown=infinity\nstart a x more\n",
+            b"bad line 3\n",
+        ),
+        refused(
+            "an empty kind",
+            b"nodes a\nstart a x arg=\nstart a x kind=\n",
+            b"bad line 3\n",
+        ),
+        refused(
+            "another restart type",
+            b"nodes a\nstart a x restart=transient\nstart a x restart=never\n",
+            b"bad line 3\n",
+        ),
+        refused(
+            "the greatest shutdown",
+            b"nodes a\nstart a x shutdown=4294967295\nstart a x shutdown=4294967296\n",
+            b"bad line 3\n",
+        ),
+        refused(
+            "an option twice",
+            b"nodes a\nstart a x arg=1\nstart a x arg=1 arg=2\n",
+            b"bad line 3\n",
+        ),
+        refused(
+            "a number of 0",
+            b"nodes a\ndeliver a 0\ndeliver a 00\n",
+            b"bad line 3\n",
+        ),
+        refused(
+            "a number with a sign",
+            b"nodes a\ndeliver a 7\ndeliver a +7\n",
+            b"bad line 3\n",
+        ),
+        refused(
+            "a target missing",
+            b"nodes a\nship a zed\nship a\n",
+            b"bad line 3\n",
+        ),
+        refused(
+            "a word too many",
+            b"nodes a\ndelete a x\ndelete a x y\n",
+            b"bad line 3\n",
         ),
     ];
     for case in &cases {

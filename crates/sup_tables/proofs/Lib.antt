@@ -1,0 +1,16 @@
+pub mod OperationLaws
+pub mod AddLaws
+pub mod PointLaws
+pub mod StoredLaws
+pub mod JoinLaws
+pub mod MappedLaws
+pub mod OrderedRows
+pub mod DeltaLaws
+pub mod EntryLaws
+pub mod CountLaws
+pub mod CoverLaws
+pub mod KnowledgeLaws
+pub mod RemovalLaws
+pub mod WinnerLaws
+pub mod GreatestLaws
+pub mod WorkedRows

@@ -1,0 +1,86 @@
+//! The tables as a lattice, and their copies.
+ghost use Rattle.std.specs.Prelude.{◌≡◌, ◌↔◌, ◌+◌, ◌++◌, List, IsTrue, IfOk, IfSome, OnOk, OnErr};
+ghost use Rattle.std.specs.BTreeMap.{values};
+ghost use Rattle.sup_causal.specs.declared.dot.Dot.{Dot as DotValue};
+ghost use Rattle.sup_causal.specs.Dots.{has};
+ghost use Rattle.sup_tables.specs.Operations.{Operation, Covers, NoClash};
+ghost use Rattle.sup_tables.specs.Stored.{count_in};
+ghost use Rattle.sup_tables.specs.States.{StandsFor, Knowledge, knowledge, together, together_laws};
+
+use crate::table::count_with;
+use crate::tables::{Stores, Tables};
+use std::alloc::{AllocError, Global};
+use sup_causal::Lattice;
+
+impl Lattice for Tables {
+    ghost Meaning = { Knowledge };
+
+    ghost meaning = { knowledge };
+
+    ghost join = { together };
+
+    ghost laws = { together_laws };
+
+    /// The tables that know what both know: they stand for the operations of both.
+    fn joined(&self, alloc: Global, other: &Tables) -> Result<Tables, AllocError>
+        ensures knowledge { IfOk result (λ t. knowledge t ≡ together (knowledge self.now) (knowledge other.now)) }
+        ensures stands { IfOk result (λ t. (ops others : List Operation) → StandsFor self.now ops → StandsFor other.now others → NoClash (ops ++ others) → StandsFor t (ops ++ others)) }
+    {
+        let state = self.state.joined(alloc, &other.state)?;
+        let count = match count_of(state.store()) {
+            Some(count) => count,
+            None => return Err(AllocError),
+        };
+        let tables = Tables {
+            state,
+            count,
+            alloc: self.alloc,
+        };
+        tables.context();
+        Ok(tables)
+    }
+
+    /// Whether the other tables know all that these know: whether their operations cover those of these.
+    fn leq(&self, other: &Tables) -> bool
+        ensures below { IsTrue result ↔ (together (knowledge self.now) (knowledge other.now) ≡ knowledge other.now) }
+        ensures covers { (ops others : List Operation) → StandsFor self.now ops → StandsFor other.now others → NoClash (others ++ ops) → (IsTrue result ↔ Covers others ops) }
+    {
+        other.context();
+        self.state.leq(&other.state)
+    }
+
+    /// Takes in what other tables know. An `Err` changes nothing.
+    fn join_from(&mut self, alloc: Global, other: &Tables) -> Result<(), AllocError>
+        ensures knowledge { OnOk result (knowledge self.new ≡ together (knowledge self.old) (knowledge other.now)) }
+        ensures stands { OnOk result ((ops others : List Operation) → StandsFor self.old ops → StandsFor other.now others → NoClash (ops ++ others) → StandsFor self.new (ops ++ others)) }
+        ensures err { OnErr result (self.new ≡ self.old) }
+    {
+        let joined = self.joined(alloc, other)?;
+        *self = joined;
+        Ok(())
+    }
+}
+
+impl Tables {
+    /// The same tables once more.
+    pub fn try_clone(&self, alloc: Global) -> Result<Tables, AllocError>
+        ensures rows { IfOk result (λ copy. copy.rows ≡ self.now.rows) }
+        ensures context { IfOk result (λ copy. (d : DotValue) → has copy.context d ≡ has self.now.context d) }
+    {
+        // Joined with nothing, so that each row is copied once and looked up nowhere.
+        let nothing = Tables::empty(alloc);
+        self.context();
+        let copy = self.joined(alloc, &nothing)?;
+        copy.context();
+        Ok(copy)
+    }
+}
+
+// How many rows the stores have. None only where there are more than a count can say.
+fn count_of(store: &Stores) -> Option<usize>
+    ensures some { IfSome result (λ n. n ≡ count_in (values store.now.first.stores) + (count_in (values store.now.second.first.stores) + count_in (values store.now.second.second.stores))) }
+{
+    let names = count_with(0, &store.second.second)?;
+    let children = count_with(names, &store.second.first)?;
+    count_with(children, &store.first)
+}

@@ -1,0 +1,21 @@
+//! The replicated tables of members, children and names.
+#![tactic(auto)]
+
+mod adding;
+mod delta;
+pub mod fault;
+mod joining;
+pub mod laws;
+mod readers;
+mod removing;
+pub mod row;
+mod table;
+pub mod tables;
+
+pub use fault::PutFault;
+pub use row::{Entry, Row};
+pub use table::{Loser, Winner};
+pub use tables::Tables;
+
+#[cfg(test)]
+mod tests;

@@ -1,0 +1,96 @@
+//! What the tables answer: of the live entries of a key the one with the least dot wins.
+ghost use Rattle.std.specs.Prelude.{◌≡◌, IfOk, map};
+ghost use Rattle.std.specs.Option.{option_map};
+ghost use Rattle.sup_tables.specs.Rows.{members, children, names};
+ghost use Rattle.sup_tables.specs.Readers.{winner, winners, losers};
+ghost use Rattle.sup_tables.specs.Stored.{member_row, child_row, name_row};
+
+use crate::row::Row;
+use crate::table::{Loser, Winner, add_rows, first_under, firsts_of, rest_under};
+use crate::tables::Tables;
+use std::alloc::AllocError;
+use sup_causal::Dot;
+use sup_specs::{ChildId, ChildSpec, MemberInfo, Name, NodeName};
+
+impl Tables {
+    /// The dot and the value of a member's winner.
+    pub fn member(&self, m: &NodeName) -> Option<(Dot, &MemberInfo)>
+        ensures { option_map (λ r. member_row m.now r.0 r.1.now) result ≡ winner self.now.rows members m.now }
+    {
+        first_under(&self.state.store().first, m)
+    }
+
+    /// The dot and the value of a child's winner.
+    pub fn child(&self, id: &ChildId) -> Option<(Dot, &ChildSpec)>
+        ensures { option_map (λ r. child_row id.now r.0 r.1.now) result ≡ winner self.now.rows children id.now }
+    {
+        first_under(&self.state.store().second.first, id)
+    }
+
+    /// The dot and the value of a name's winner.
+    pub fn name(&self, name: &Name) -> Option<(Dot, &ChildId)>
+        ensures { option_map (λ r. name_row name.now r.0 r.1.now) result ≡ winner self.now.rows names name.now }
+    {
+        first_under(&self.state.store().second.second, name)
+    }
+    /// The members, each with its winner, by the bytes of the key. An `Err` where a growth was refused.
+    pub fn members(&self) -> Result<Vec<Winner<'_, NodeName, MemberInfo>>, AllocError>
+        ensures { IfOk result (λ found. map (λ w. member_row w.key.now w.dot.now w.value.now) found.items ≡ winners self.now.rows members) }
+    {
+        let found = firsts_of(self.alloc, &self.state.store().first)?;
+        Ok(found)
+    }
+
+    /// The children, each with its winner, by the bytes of the key. An `Err` where a growth was refused.
+    pub fn children(&self) -> Result<Vec<Winner<'_, ChildId, ChildSpec>>, AllocError>
+        ensures { IfOk result (λ found. map (λ w. child_row w.key.now w.dot.now w.value.now) found.items ≡ winners self.now.rows children) }
+    {
+        let found = firsts_of(self.alloc, &self.state.store().second.first)?;
+        Ok(found)
+    }
+
+    /// The names, each with its winner, by the bytes of the key. An `Err` where a growth was refused.
+    pub fn names(&self) -> Result<Vec<Winner<'_, Name, ChildId>>, AllocError>
+        ensures { IfOk result (λ found. map (λ w. name_row w.key.now w.dot.now w.value.now) found.items ≡ winners self.now.rows names) }
+    {
+        let found = firsts_of(self.alloc, &self.state.store().second.second)?;
+        Ok(found)
+    }
+
+    /// The dots and the values of a member's losers, by dot. An `Err` where a growth was refused.
+    pub fn member_losers(&self, m: &NodeName) -> Result<Vec<Loser<'_, MemberInfo>>, AllocError>
+        ensures { IfOk result (λ found. map (λ l. member_row m.now l.dot.now l.value.now) found.items ≡ losers self.now.rows members m.now) }
+    {
+        let found = rest_under(self.alloc, &self.state.store().first, m)?;
+        Ok(found)
+    }
+
+    /// The dots and the values of a child's losers, by dot. An `Err` where a growth was refused.
+    pub fn child_losers(&self, id: &ChildId) -> Result<Vec<Loser<'_, ChildSpec>>, AllocError>
+        ensures { IfOk result (λ found. map (λ l. child_row id.now l.dot.now l.value.now) found.items ≡ losers self.now.rows children id.now) }
+    {
+        let found = rest_under(self.alloc, &self.state.store().second.first, id)?;
+        Ok(found)
+    }
+
+    /// The dots and the values of a name's losers, by dot. An `Err` where a growth was refused.
+    pub fn name_losers(&self, name: &Name) -> Result<Vec<Loser<'_, ChildId>>, AllocError>
+        ensures { IfOk result (λ found. map (λ l. name_row name.now l.dot.now l.value.now) found.items ≡ losers self.now.rows names name.now) }
+    {
+        let found = rest_under(self.alloc, &self.state.store().second.second, name)?;
+        Ok(found)
+    }
+
+    /// All rows, losers among them: members, children, names, each by key, then by dot. An `Err` where a growth was
+    /// refused.
+    pub fn rows(&self) -> Result<Vec<Row>, AllocError>
+        ensures { IfOk result (λ rows. rows.items ≡ self.now.rows) }
+    {
+        let store = self.state.store();
+        let mut rows = Vec::with_capacity(self.alloc, self.count)?;
+        add_rows(self.alloc, &mut rows, &store.first)?;
+        add_rows(self.alloc, &mut rows, &store.second.first)?;
+        add_rows(self.alloc, &mut rows, &store.second.second)?;
+        Ok(rows)
+    }
+}

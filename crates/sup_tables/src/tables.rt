@@ -1,0 +1,103 @@
+//! The three tables under one context.
+ghost use Rattle.std.specs.Prelude.{◌≡◌, ◌+◌, [], length};
+ghost use Rattle.std.specs.BTreeMap.{values};
+ghost use Rattle.sup_tables.specs.Stored.{AreCovered, state_of, count_in};
+ghost use Rattle.sup_tables.specs.States.{StandsFor, IsKept};
+
+use std::alloc::Global;
+use std::marker::Model;
+use sup_causal::CausalContext;
+use sup_dot_store::{Both, Causal, DotFun, DotMap};
+use sup_specs::{ChildId, ChildSpec, MemberInfo, Name, NodeName};
+
+// Values under keys and dots.
+pub(crate) type Table<K, V> = DotMap<K, DotFun<V>>;
+
+pub(crate) type Members = Table<NodeName, MemberInfo>;
+
+pub(crate) type Children = Table<ChildId, ChildSpec>;
+
+pub(crate) type Names = Table<Name, ChildId>;
+
+pub(crate) type Stores = Both<Members, Both<Children, Names>>;
+
+/// What a node knows of members, children and names. A contract sees it as its context, by the test `has`, and its
+/// rows, by table, key and dot.
+#[derive(Drop)]
+pub struct Tables {
+    pub(crate) state: Causal<Stores>,
+    // How many rows there are, so that nobody has to count them.
+    pub(crate) count: usize,
+    pub(crate) alloc: Global,
+    pub ghost counted: { count ≡ count_in (values state.store.first.stores) + (count_in (values state.store.second.first.stores) + count_in (values state.store.second.second.stores)) },
+}
+
+impl Model for Tables {
+    ghost use Rattle.sup_tables.specs.States.{State};
+    ghost use Rattle.sup_tables.specs.Stored.{state_of};
+
+    ghost Value = { State };
+
+    ghost view = { λ t. state_of t.state.context (record { member_values = t.state.store.first.stores.entries; child_values = t.state.store.second.first.stores.entries; name_values = t.state.store.second.second.stores.entries }) };
+}
+
+impl Tables {
+    /// The tables that know nothing.
+    pub fn empty(alloc: Global) -> Tables
+        ensures { StandsFor result [] }
+    {
+        let members = DotMap::new(alloc);
+        let children = DotMap::new(alloc);
+        let names = DotMap::new(alloc);
+        tables_of(
+            alloc,
+            members,
+            children,
+            names,
+            CausalContext::empty(alloc),
+            0,
+        )
+    }
+
+    /// The dots that the tables know.
+    pub fn context(&self) -> &CausalContext
+        ensures value { result.now ≡ self.now.context }
+        ensures kept { IsKept self.now }
+    {
+        self.state.context()
+    }
+
+    /// How many rows there are, losers among them.
+    pub fn row_count(&self) -> usize
+        ensures { result ≡ length self.now.rows }
+    {
+        self.count
+    }
+}
+
+// The tables of these stores.
+pub(crate) fn tables_of(
+    alloc: Global,
+    members: Members,
+    children: Children,
+    names: Names,
+    context: CausalContext,
+    count: usize,
+) -> Tables
+    requires covered { AreCovered context (record { member_values = members.stores.entries; child_values = children.stores.entries; name_values = names.stores.entries }) }
+    requires counted { count ≡ count_in (values members.stores) + (count_in (values children.stores) + count_in (values names.stores)) }
+    ensures { result ≡ state_of context (record { member_values = members.stores.entries; child_values = children.stores.entries; name_values = names.stores.entries }) }
+{
+    let store = Both {
+        first: members,
+        second: Both {
+            first: children,
+            second: names,
+        },
+    };
+    Tables {
+        state: Causal::new(store, context),
+        count,
+        alloc,
+    }
+}

@@ -1,0 +1,172 @@
+//! Stories of nodes that join, start, register and remove, at values that were worked out by hand.
+mod node;
+mod seen;
+
+use crate::laws;
+use node::Node;
+use std::process::Abort;
+use sup_causal::{Dot, MAX};
+
+// Whether the dots are these, in this order.
+fn are(dots: &[Dot], wanted: &[Dot]) -> bool {
+    dots == wanted
+}
+
+// The node c that knows of a start of db by a and by itself, neither of which knew of the other, and the dots of both.
+fn two_starts(rt: &(impl Abort + AllocGlobal)) -> (Node, Dot, Dot) {
+    let mut c = Node::new(rt, "c");
+    let mut a = Node::new(rt, "a");
+    let slow = c.start(rt, "db", "slow");
+    let quick = a.start(rt, "db", "quick");
+    c.absorb(rt, &a);
+    (c, quick, slow)
+}
+
+#[test]
+fn of_equal_counters_the_least_node_wins(rt: HostRuntime) {
+    let (c, quick, slow) = two_starts(&rt);
+    assert!(rt; quick.counter == 1 && slow.counter == 1);
+    assert!(rt; c.child_is(&rt, "db", quick, "quick"));
+    assert!(rt; c.child_loser_is(&rt, "db", slow, "slow"));
+    assert!(rt; c.count() == 2);
+}
+
+#[test]
+fn the_least_counter_wins_before_the_least_node(rt: HostRuntime) {
+    let mut a = Node::new(&rt, "a");
+    let mut b = Node::new(&rt, "b");
+    a.join(&rt, "");
+    let second = a.start(&rt, "db", "quick");
+    let first = b.start(&rt, "db", "slow");
+    let both = a.merged(&rt, &b);
+    assert!(rt; second.counter == 2 && first.counter == 1);
+    assert!(rt; both.child_is(&rt, "db", first, "slow"));
+}
+
+#[test]
+fn a_replacement_names_the_winner_and_the_loser(rt: HostRuntime) {
+    let (mut c, quick, slow) = two_starts(&rt);
+    let (new, dots) = c.replace(&rt, "db", "new");
+    assert!(rt; new.counter == 2 && new.node == c.name);
+    assert!(rt; are(&dots, &[quick, slow]));
+    assert!(rt; c.count() == 1);
+    assert!(rt; c.child_is(&rt, "db", new, "new"));
+}
+
+#[test]
+fn a_deleted_child_takes_its_registrations_along(rt: HostRuntime) {
+    let (mut c, quick, slow) = two_starts(&rt);
+    let won = c.register(&rt, "www", "db");
+    let kept = c.register(&rt, "api", "other");
+    let lost = c.register(&rt, "api", "db");
+    let dots = c.delete(&rt, "db");
+    assert!(rt; are(&dots, &[quick, slow, won, lost]));
+    assert!(rt; c.count() == 1);
+    assert!(rt; c.name_is(&rt, "api", kept, "other"));
+}
+
+#[test]
+fn a_finished_child_leaves_the_loser_to_win(rt: HostRuntime) {
+    let (mut c, quick, slow) = two_starts(&rt);
+    c.finish(&rt, quick);
+    assert!(rt; c.child_is(&rt, "db", slow, "slow"));
+    assert!(rt; c.count() == 1);
+}
+
+#[test]
+fn what_others_still_know_brings_nothing_back(rt: HostRuntime) {
+    let (mut c, quick, slow) = two_starts(&rt);
+    let before = c.copy(&rt);
+    c.finish(&rt, quick);
+    assert!(rt; c.knows_all_of(&before) && !before.knows_all_of(&c));
+    c.absorb(&rt, &before);
+    assert!(rt; c.count() == 1);
+    assert!(rt; c.child_is(&rt, "db", slow, "slow"));
+}
+
+#[test]
+fn a_copy_knows_and_shows_the_same(rt: HostRuntime) {
+    let (c, quick, slow) = two_starts(&rt);
+    let copy = c.copy(&rt);
+    assert!(rt; c.knows_all_of(&copy) && copy.knows_all_of(&c));
+    assert!(rt; copy.count() == 2);
+    assert!(rt; copy.row_is(&rt, 0, quick, "children", "db"));
+    assert!(rt; copy.row_is(&rt, 1, slow, "children", "db"));
+}
+
+#[test]
+fn an_unregistered_name_takes_winner_and_loser(rt: HostRuntime) {
+    let mut a = Node::new(&rt, "a");
+    let mut b = Node::new(&rt, "b");
+    let won = a.register(&rt, "n", "db");
+    let lost = b.register(&rt, "n", "web");
+    a.absorb(&rt, &b);
+    assert!(rt; a.name_is(&rt, "n", won, "db"));
+    assert!(rt; a.name_loser_is(&rt, "n", lost, "web"));
+    let dots = a.unregister(&rt, "n");
+    assert!(rt; are(&dots, &[won, lost]) && a.count() == 0);
+    let none = a.unregister(&rt, "n");
+    assert!(rt; none.is_empty());
+}
+
+#[test]
+fn a_member_that_left_comes_back_under_a_new_dot(rt: HostRuntime) {
+    let mut a = Node::new(&rt, "a");
+    let one = a.join(&rt, "");
+    let two = a.join(&rt, "again");
+    assert!(rt; a.member_is(one, ""));
+    assert!(rt; a.member_loser_is(&rt, two, "again"));
+    let dots = a.leave(&rt);
+    assert!(rt; are(&dots, &[one, two]) && a.count() == 0);
+    let back = a.join(&rt, "back");
+    assert!(rt; back.counter == 3 && a.member_is(back, "back"));
+}
+
+// A node b with a row in each table and two children beside, out of order, and the dots in the order of the tables.
+fn one_in_each(rt: &(impl Abort + AllocGlobal)) -> (Node, [Dot; 4]) {
+    let mut b = Node::new(rt, "b");
+    let www = b.register(rt, "www", "db");
+    let db = b.start(rt, "db", "k");
+    let cache = b.start(rt, "cache", "k");
+    let member = b.join(rt, "");
+    (b, [member, cache, db, www])
+}
+
+#[test]
+fn lists_go_by_key(rt: HostRuntime) {
+    let (b, dots) = one_in_each(&rt);
+    assert!(rt; b.lists_member(&rt, "b", dots[0]));
+    assert!(rt; b.lists_children(&rt, ["cache", "db"], [dots[1], dots[2]]));
+    assert!(rt; b.lists_name(&rt, "www", dots[3]));
+}
+
+#[test]
+fn rows_go_by_table_and_then_by_key(rt: HostRuntime) {
+    let (b, dots) = one_in_each(&rt);
+    assert!(rt; b.count() == 4);
+    assert!(rt; b.row_is(&rt, 0, dots[0], "members", "b"));
+    assert!(rt; b.row_is(&rt, 1, dots[1], "children", "cache"));
+    assert!(rt; b.row_is(&rt, 2, dots[2], "children", "db"));
+    assert!(rt; b.row_is(&rt, 3, dots[3], "names", "www"));
+}
+
+#[test]
+fn nothing_is_added_past_the_greatest_counter(rt: HostRuntime) {
+    let mut a = Node::new(&rt, "a");
+    let last = Dot {
+        counter: MAX,
+        node: a.name,
+    };
+    assert!(rt; !a.is_spent(&rt));
+    a.finish(&rt, last);
+    assert!(rt; a.is_spent(&rt));
+    assert!(rt; a.knows(&last));
+}
+
+#[test]
+fn laws_take_no_values() {
+    laws::order_and_repeats_are_free();
+    laws::covering_is_a_preorder();
+    laws::unnamed_adds_stay();
+    laws::next_follows_the_greatest();
+}

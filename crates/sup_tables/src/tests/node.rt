@@ -1,0 +1,167 @@
+//! A node of the tests, with what it knows. Its calls promise nothing, and end the test where one of the tables' fails.
+use crate::*;
+use std::process::Abort;
+use sup_causal::{Dot, Lattice, MAX};
+use sup_specs::{ChildId, ChildSpec, Kind, MemberInfo, Name, NodeName, Restart, Shutdown, Text};
+
+#[derive(Drop)]
+pub(crate) struct Node {
+    pub(crate) name: NodeName,
+    pub(crate) tables: Tables,
+}
+
+pub(crate) fn child_id(rt: &(impl Abort + AllocGlobal), id: &str) -> ChildId {
+    ChildId::parse(rt.alloc(), id).expect(rt, "an id")
+}
+
+pub(crate) fn registered(rt: &(impl Abort + AllocGlobal), name: &str) -> Name {
+    Name::parse(rt.alloc(), name).expect(rt, "a name")
+}
+
+fn text(rt: &(impl Abort + AllocGlobal), text: &str) -> Text {
+    Text::parse(rt.alloc(), text).expect(rt, "a text")
+}
+
+fn spec(rt: &(impl Abort + AllocGlobal), kind: &str) -> ChildSpec {
+    ChildSpec {
+        kind: Kind::parse(rt.alloc(), kind).expect(rt, "a kind"),
+        arg: text(rt, ""),
+        restart: Restart::Permanent,
+        shutdown: Shutdown::Millis(5000),
+    }
+}
+
+impl Node {
+    pub(crate) fn new(rt: &(impl Abort + AllocGlobal), name: &str) -> Node {
+        Node {
+            name: NodeName::parse(name).expect(rt, "a node's name"),
+            tables: Tables::empty(rt.alloc()),
+        }
+    }
+
+    fn take(&mut self, rt: &(impl Abort + AllocGlobal), delta: &Tables) {
+        self.tables
+            .join_from(rt.alloc(), delta)
+            .expect(rt, "a join")
+    }
+
+    // Takes in all that another node knows.
+    pub(crate) fn absorb(&mut self, rt: &(impl Abort + AllocGlobal), other: &Node) {
+        self.take(rt, &other.tables)
+    }
+
+    // A node of the same name that knows what both know.
+    pub(crate) fn merged(&self, rt: &(impl Abort + AllocGlobal), other: &Node) -> Node {
+        Node {
+            name: self.name,
+            tables: self
+                .tables
+                .joined(rt.alloc(), &other.tables)
+                .expect(rt, "a join"),
+        }
+    }
+
+    pub(crate) fn copy(&self, rt: &(impl Abort + AllocGlobal)) -> Node {
+        Node {
+            name: self.name,
+            tables: self.tables.try_clone(rt.alloc()).expect(rt, "a copy"),
+        }
+    }
+
+    // Whether it knows all that another node knows.
+    pub(crate) fn knows_all_of(&self, other: &Node) -> bool {
+        other.tables.leq(&self.tables)
+    }
+
+    pub(crate) fn knows(&self, dot: &Dot) -> bool {
+        self.tables.context().contains(dot)
+    }
+
+    pub(crate) fn count(&self) -> usize {
+        self.tables.row_count()
+    }
+
+    pub(crate) fn join(&mut self, rt: &(impl Abort + AllocGlobal), label: &str) -> Dot {
+        let info = MemberInfo {
+            label: text(rt, label),
+        };
+        let (delta, dot) = self.tables.put_member(self.name, info).expect(rt, "an add");
+        self.take(rt, &delta);
+        dot
+    }
+
+    pub(crate) fn leave(&mut self, rt: &(impl Abort + AllocGlobal)) -> Vec<Dot> {
+        let (delta, dots) = self.tables.drop_member(&self.name).expect(rt, "a removal");
+        self.take(rt, &delta);
+        dots
+    }
+
+    pub(crate) fn start(&mut self, rt: &(impl Abort + AllocGlobal), id: &str, kind: &str) -> Dot {
+        let put = self
+            .tables
+            .put_child(self.name, child_id(rt, id), spec(rt, kind));
+        let (delta, dot) = put.expect(rt, "an add");
+        self.take(rt, &delta);
+        dot
+    }
+
+    // The new dot, and the dots that the operation names.
+    pub(crate) fn replace(
+        &mut self,
+        rt: &(impl Abort + AllocGlobal),
+        id: &str,
+        kind: &str,
+    ) -> (Dot, Vec<Dot>) {
+        let put = self
+            .tables
+            .replace_child(self.name, child_id(rt, id), spec(rt, kind));
+        let (delta, dot, dots) = put.expect(rt, "an add");
+        self.take(rt, &delta);
+        (dot, dots)
+    }
+
+    pub(crate) fn delete(&mut self, rt: &(impl Abort + AllocGlobal), id: &str) -> Vec<Dot> {
+        let id = child_id(rt, id);
+        let (delta, dots) = self.tables.drop_child(&id).expect(rt, "a removal");
+        self.take(rt, &delta);
+        dots
+    }
+
+    pub(crate) fn finish(&mut self, rt: &(impl Abort + AllocGlobal), dot: Dot) {
+        assert!(rt; 1 <= dot.counter && dot.counter <= MAX);
+        let delta = self.tables.finish_child(dot).expect(rt, "a removal");
+        self.take(rt, &delta);
+    }
+
+    pub(crate) fn register(
+        &mut self,
+        rt: &(impl Abort + AllocGlobal),
+        name: &str,
+        id: &str,
+    ) -> Dot {
+        let put = self
+            .tables
+            .put_name(self.name, registered(rt, name), child_id(rt, id));
+        let (delta, dot) = put.expect(rt, "an add");
+        self.take(rt, &delta);
+        dot
+    }
+
+    pub(crate) fn unregister(&mut self, rt: &(impl Abort + AllocGlobal), name: &str) -> Vec<Dot> {
+        let name = registered(rt, name);
+        let (delta, dots) = self.tables.drop_name(&name).expect(rt, "a removal");
+        self.take(rt, &delta);
+        dots
+    }
+
+    // Whether a start is refused because its dots are spent.
+    pub(crate) fn is_spent(&self, rt: &(impl Abort + AllocGlobal)) -> bool {
+        match self
+            .tables
+            .put_child(self.name, child_id(rt, "db"), spec(rt, "k"))
+        {
+            Err(PutFault::DotsSpent) => true,
+            _ => false,
+        }
+    }
+}

@@ -1,0 +1,34 @@
+use Rattle.std.proofs.Common.{◌≡◌, ◌++◌, List, take, drop, length, refl, sym, subst, rules, arith}
+use Rattle.supctl.specs.declared.world.node.Node.{Node}
+use Rattle.supctl.specs.declared.world.outbox.Outbox.{Outbox}
+use Rattle.supctl.specs.Stands.{AllStand}
+use Rattle.supctl.specs.Steps.{step}
+use Rattle.supctl.proofs.WorldLaws.{ok_allows, err_allows, lent_back, came_back}
+use Rattle.supctl.proofs.world.state.World.step.Goals as goal
+
+pub returns-in-Ok : goal.returns-in-Ok
+returns-in-Ok c model stand =
+    let nodes : c.deref_mut.result.now ≡ c.args.self.now.nodes.items = search rules in
+    let outboxes : c.deref_mut-2.result.now ≡ c.args.self.now.outboxes.items = search rules in
+    let lent : AllStand c.deref_mut.result.now c.deref_mut-2.result.now model =
+    subst (λ (n : List Node). AllStand n c.deref_mut-2.result.now model) (sym nodes) (subst (λ (o : List Outbox). AllStand c.args.self.now.nodes.items o model) (sym outboxes) stand) in
+    let n : take c.args.self.now.nodes.len (c.act.new.nodes ++ drop (length c.act.new.nodes) c.args.self.now.nodes.items) ≡ c.act.new.nodes =
+    lent_back c.args.self.now.nodes.len c.act.new.nodes c.args.self.now.nodes.items (first_of (search rules, omega (arith, c.args.self.now.nodes.ok.0))) (first_of (search rules, omega arith)) in
+    let o : take c.args.self.now.outboxes.len (c.act.new.outboxes ++ drop (length c.act.new.outboxes) c.args.self.now.outboxes.items) ≡ c.act.new.outboxes =
+    lent_back c.args.self.now.outboxes.len c.act.new.outboxes c.args.self.now.outboxes.items (first_of (search rules, omega (arith, c.args.self.now.outboxes.ok.0))) (first_of (search rules, omega arith)) in
+    came_back model c.args.step.now _ _ _ _ _ (sym n) (sym o)
+    (ok_allows model c.args.step.now c.act.new.nodes c.act.new.outboxes c.in-Ok.answer (step model c.args.step.now) refl (c.in-Ok.ensures.gives model lent))
+
+pub returns-in-Err : goal.returns-in-Err
+returns-in-Err c model stand =
+    let nodes : c.deref_mut.result.now ≡ c.args.self.now.nodes.items = search rules in
+    let outboxes : c.deref_mut-2.result.now ≡ c.args.self.now.outboxes.items = search rules in
+    let lent : AllStand c.deref_mut.result.now c.deref_mut-2.result.now model =
+    subst (λ (n : List Node). AllStand n c.deref_mut-2.result.now model) (sym nodes) (subst (λ (o : List Outbox). AllStand c.args.self.now.nodes.items o model) (sym outboxes) stand) in
+    let n : take c.args.self.now.nodes.len (c.act.new.nodes ++ drop (length c.act.new.nodes) c.args.self.now.nodes.items) ≡ c.act.new.nodes =
+    lent_back c.args.self.now.nodes.len c.act.new.nodes c.args.self.now.nodes.items (first_of (search rules, omega (arith, c.args.self.now.nodes.ok.0))) (first_of (search rules, omega arith)) in
+    let o : take c.args.self.now.outboxes.len (c.act.new.outboxes ++ drop (length c.act.new.outboxes) c.args.self.now.outboxes.items) ≡ c.act.new.outboxes =
+    lent_back c.args.self.now.outboxes.len c.act.new.outboxes c.args.self.now.outboxes.items (first_of (search rules, omega (arith, c.args.self.now.outboxes.ok.0))) (first_of (search rules, omega arith)) in
+    came_back model c.args.step.now _ _ _ _ _ (sym n) (sym o)
+    (err_allows model c.args.step.now c.act.new.nodes c.deref_mut.result.now c.act.new.outboxes c.deref_mut-2.result.now c.in-Err.refusal (step model c.args.step.now) refl (c.in-Err.ensures.gives model lent)
+    c.in-Err.ensures.nodes c.in-Err.ensures.outboxes lent)

@@ -1,0 +1,30 @@
+-- The headline's parts, said of the model world (this project; an add wins over what it has not seen removed: Almeida, Shoker, Baquero 2018).
+use Rattle.std.specs.Prelude.{◌≡◌, ◌≢◌, false, List, Contains, AllPairs}
+use Rattle.sup_specs.specs.Values.{Bytes}
+use Rattle.sup_causal.specs.declared.dot.Dot.{Dot}
+use Rattle.sup_tables.specs.declared.row.Row.{Row}
+use Rattle.sup_tables.specs.Rows.{Table, table_of, key_of}
+use Rattle.sup_tables.specs.Operations.{known, named, added, live, SameOperations}
+use Rattle.sup_tables.specs.Readers.{entries, winners}
+use Rattle.supctl.specs.declared.world.answer.Answer.{Answer}
+use Rattle.supctl.specs.declared.world.step.Step.{Step}
+use Rattle.supctl.specs.Worlds.{Site, World, new_world}
+use Rattle.supctl.specs.Runs.{Run, new_dots}
+
+-- two nodes agree: the same known dots, the same entries of each key in the same order, so the same winners and losers
+pub record Agree (a b : Site) : Type 0 where
+  pub dots : (d : Dot) → known a.operations d ≡ known b.operations d
+  pub entries : (table : Table) (key : Bytes) → entries (live a.operations) table key ≡ entries (live b.operations) table key
+  pub winners : (table : Table) → winners (live a.operations) table ≡ winners (live b.operations) table
+
+-- nodes that absorbed the same operations, in any order and any number of times, agree
+abbrev pub SameAgree : Type 0
+SameAgree = (a b : Site) → SameOperations a.operations b.operations → Agree a b
+
+-- an absorbed add that no absorbed operation names is a winner or a loser of its key
+abbrev pub AddsStay : Type 0
+AddsStay = (a : Site) (r : Row) → Contains (added a.operations) r → named a.operations r.dot ≡ false → Contains (entries (live a.operations) (table_of r.entry) (key_of r.entry)) r
+
+-- no two operations of one run add the same dot
+abbrev pub NoDotTwice : Type 0
+NoDotTwice = (names : List Bytes) (steps : List Step) (answers : List Answer) (w : World) → Run (new_world names) steps answers w → AllPairs (λ (d e : Dot). d ≢ e) (new_dots answers)

@@ -1,0 +1,42 @@
+-- What the code's world may answer to a step, and runs (this project).
+use Rattle.std.specs.Prelude.{◌≡◌, ◌⊎◌, List, [], ◌∷◌, ◌++◌, IsOk, Result, Ok, Err}
+use Rattle.sup_causal.specs.declared.dot.Dot.{Dot}
+use Rattle.supctl.specs.declared.world.answer.Answer.{Answer}
+use Rattle.supctl.specs.declared.world.answer.Answer.TheVariants.{Added, Refused}
+use Rattle.supctl.specs.declared.world.refusal.Refusal.{Refusal}
+use Rattle.supctl.specs.declared.world.refusal.Refusal.TheVariants.{OutOfMemory}
+use Rattle.supctl.specs.declared.world.step.Step.{Step}
+use Rattle.supctl.specs.Worlds.{World}
+use Rattle.supctl.specs.Steps.{Stepped, step}
+
+abbrev pub answer_of : Result Stepped Refusal → Answer
+answer_of (Ok s) = s.answer
+answer_of (Err refusal) = Refused refusal
+
+-- a refused step changes nothing
+abbrev pub world_after : World → Result Stepped Refusal → World
+world_after w (Ok s) = s.world
+world_after w (Err refusal) = w
+
+-- From w, the step may be answered so and leave w': as the model says; or, in place of an answer that is no refusal, out of memory, and
+-- then nothing changed.
+abbrev pub Allows : World → Step → Answer → World → Type 0
+Allows w s answer w' =
+    ((answer ≡ answer_of (step w s)) × (w' ≡ world_after w (step w s)))
+    ⊎ (IsOk (step w s) × (answer ≡ Refused OutOfMemory) × (w' ≡ w))
+
+-- these answers to these steps, one after another
+abbrev pub Run : World → List Step → List Answer → World → Type 0
+Run w [] [] w' = w' ≡ w
+Run w (s ∷ steps) (answer ∷ rest) w' = (mid : World) × Allows w s answer mid × Run mid steps rest w'
+Run w [] (answer ∷ rest) w' = ⊥
+Run w (s ∷ steps) [] w' = ⊥
+
+-- the dots that a run made
+abbrev pub dots_of : Answer → List Dot
+dots_of (Added dot) = dot ∷ []
+dots_of _ = []
+
+abbrev pub new_dots : List Answer → List Dot
+new_dots [] = []
+new_dots (answer ∷ rest) = dots_of answer ++ new_dots rest

@@ -1,0 +1,38 @@
+//! Letters as texts.
+
+ghost use Rattle.std.specs.Prelude.{Some};
+ghost use Rattle.supctl.specs.Text.{letter_kind_text, letter_text};
+
+use crate::text::node_name::node_name_text;
+use crate::world::{Letter, LetterKind};
+use std::fmt;
+
+/// The line of a letter.
+#[derive(Clone, Copy)]
+pub struct LetterText(pub Letter);
+
+impl fmt::Display for LetterText {
+    ghost output = { λ l. Some (letter_text l.0) };
+
+    fn fmt<W: fmt::Write>(&self, f: &mut fmt::Formatter<W>) -> fmt::Result {
+        let from = node_name_text(&self.0.from);
+        let k = self.0.k;
+        let to = node_name_text(&self.0.to);
+        let kind = LetterKindText(self.0.kind);
+        write!(f, "  sent {from} {k} to {to} {kind}\n")
+    }
+}
+
+/// What a letter brings, as `delta 3 whole`.
+#[derive(Clone, Copy)]
+struct LetterKindText(LetterKind);
+
+impl fmt::Display for LetterKindText {
+    ghost output = { λ k. Some (letter_kind_text k.0) };
+
+    fn fmt<W: fmt::Write>(&self, f: &mut fmt::Formatter<W>) -> fmt::Result {
+        match self.0 {
+            LetterKind::Whole(count) => write!(f, "delta {count} whole"),
+        }
+    }
+}

@@ -1,0 +1,17 @@
+//! Laws of the model world, each the contract of a function that does nothing.
+ghost use Rattle.supctl.specs.Headline.{SameAgree, AddsStay, NoDotTwice};
+
+/// Nodes that absorbed the same operations, in any order and any number of times, have the same known dots and the same tables.
+pub fn same_operations_agree()
+    ensures { SameAgree }
+{}
+
+/// An add that no absorbed removal names stays, as winner or loser of its key.
+pub fn unremoved_adds_stay()
+    ensures { AddsStay }
+{}
+
+/// No two operations of one run add the same dot.
+pub fn no_dot_twice()
+    ensures { NoDotTwice }
+{}
