@@ -1,17 +1,20 @@
 -- The operation that each command issues at a node, or its refusal (this project).
-use Rattle.std.specs.Prelude.{ℕ, ◌+◌, not, Bool, List, length, nat_le, Result, Ok, Err}
-use Rattle.sup_specs.specs.declared.child.ChildSpec.{ChildSpec}
+use Rattle.std.specs.Prelude.{ℕ, ◌+◌, not, Bool, List, length, nat_le, Result, Ok}
 use Rattle.sup_specs.specs.Values.{Bytes}
 use Rattle.sup_causal.specs.declared.dot.Dot.{Dot}
 use Rattle.sup_causal.specs.declared.dot.TheConstants.{MAX}
 use Rattle.sup_tables.specs.declared.row.Row.{Row}
-use Rattle.sup_tables.specs.Rows.{children}
+use Rattle.sup_tables.specs.Rows.{members, children, names}
 use Rattle.sup_tables.specs.Operations.{Operation, live, greatest}
 use Rattle.sup_tables.specs.Readers.{is_present}
-use Rattle.sup_tables.specs.Makers.{put_child, drop_child}
+use Rattle.sup_tables.specs.Makers.{put_member, drop_member, put_child, replace_child, drop_child, put_name, drop_name}
+use Rattle.supctl.specs.declared.world.answer.Answer.{Answer}
+use Rattle.supctl.specs.declared.world.answer.Answer.TheVariants.{Added, Replaced, Removed}
+use Rattle.supctl.specs.declared.world.command.Command.{Command}
+use Rattle.supctl.specs.declared.world.command.Command.TheVariants.{Join, Leave, Start, Replace, Delete, Register, Unregister}
 use Rattle.supctl.specs.declared.world.refusal.Refusal.{Refusal}
-use Rattle.supctl.specs.declared.world.refusal.Refusal.TheVariants.{AlreadyPresent, NotFound, DotsSpent, TableFull}
-use Rattle.supctl.specs.Checks.{row_limit, refused_if, then_do}
+use Rattle.supctl.specs.declared.world.refusal.Refusal.TheVariants.{AlreadyPresent, NotFound, AlreadyMember, NotMember, NameTaken, NoSuchChild, NameUnknown, DotsSpent, TableFull}
+use Rattle.supctl.specs.Checks.{row_limit, refused_if}
 use Rattle.supctl.specs.Worlds.{Site}
 
 -- what a command reads: whose node it is, its live rows, and the greatest of its own counters that is known
@@ -32,20 +35,43 @@ is_full r = nat_le row_limit (length r.rows)
 abbrev pub is_spent : Reading → Bool
 is_spent r = nat_le MAX r.counter
 
--- the checks of a start: 4, 15, 11
-abbrev pub may_start : Reading → Bytes → Result (Unit {0}) Refusal
-may_start r id =
-    refused_if (is_present r.rows children id) AlreadyPresent
-    (refused_if (is_full r) TableFull
-    (refused_if (is_spent r) DotsSpent
-    (Ok tt)))
+-- what adds needs a dot
+abbrev pub has_dot : Reading → Result (Unit {0}) Refusal
+has_dot r = refused_if (is_spent r) DotsSpent (Ok tt)
 
-abbrev pub start : Reading → Bytes → ChildSpec → Result Operation Refusal
-start r id spec = then_do (may_start r id) (λ _. Ok (put_child (next r) id spec))
+-- and, where nothing is removed, room for a row
+abbrev pub has_room : Reading → Result (Unit {0}) Refusal
+has_room r = refused_if (is_full r) TableFull (has_dot r)
 
--- the check of a delete: 5
-abbrev pub may_delete : Reading → Bytes → Result (Unit {0}) Refusal
-may_delete r id = refused_if (not (is_present r.rows children id)) NotFound (Ok tt)
+-- the checks of a command, in their order
+abbrev pub may : Reading → Command → Result (Unit {0}) Refusal
+may r (Join info) = refused_if (is_present r.rows members r.me) AlreadyMember (has_room r)
+may r (Leave member) = refused_if (not (is_present r.rows members member)) NotMember (Ok tt)
+may r (Start id spec) = refused_if (is_present r.rows children id) AlreadyPresent (has_room r)
+may r (Replace id spec) = refused_if (not (is_present r.rows children id)) NotFound (has_dot r)
+may r (Delete id) = refused_if (not (is_present r.rows children id)) NotFound (Ok tt)
+may r (Register name id) =
+    refused_if (not (is_present r.rows children id)) NoSuchChild
+    (refused_if (is_present r.rows names name) NameTaken
+    (has_room r))
+may r (Unregister name) = refused_if (not (is_present r.rows names name)) NameUnknown (Ok tt)
 
-abbrev pub delete : Reading → Bytes → Result Operation Refusal
-delete r id = then_do (may_delete r id) (λ _. Ok (drop_child r.rows id))
+-- the operation of a command: what it adds has the next dot, what it names is live
+abbrev pub operation : Reading → Command → Operation
+operation r (Join info) = put_member (next r) r.me info
+operation r (Leave member) = drop_member r.rows member
+operation r (Start id spec) = put_child (next r) id spec
+operation r (Replace id spec) = replace_child r.rows (next r) id spec
+operation r (Delete id) = drop_child r.rows id
+operation r (Register name id) = put_name (next r) name id
+operation r (Unregister name) = drop_name r.rows name
+
+-- what a command tells of its operation: the dot that it adds, the dots that it names
+abbrev pub reply : Command → Dot → List Dot → Answer
+reply (Join info) dot removed = Added dot
+reply (Leave member) dot removed = Removed removed
+reply (Start id spec) dot removed = Added dot
+reply (Replace id spec) dot removed = Replaced dot removed
+reply (Delete id) dot removed = Removed removed
+reply (Register name id) dot removed = Added dot
+reply (Unregister name) dot removed = Removed removed

@@ -8,14 +8,18 @@ use Rattle.sup_tables.specs.Operations.{known, named, added, live, SameOperation
 use Rattle.sup_tables.specs.Readers.{entries, winners}
 use Rattle.supctl.specs.declared.world.answer.Answer.{Answer}
 use Rattle.supctl.specs.declared.world.step.Step.{Step}
+use Rattle.sup_placement.specs.Place.{Weigher}
+use Rattle.supctl.specs.Shown.{child_place}
 use Rattle.supctl.specs.Worlds.{Site, World, new_world}
 use Rattle.supctl.specs.Runs.{Run, new_dots}
 
--- two nodes agree: the same known dots, the same entries of each key in the same order, so the same winners and losers
+-- two nodes agree: the same known dots, the same entries of each key in the same order, so the same winners and losers, and each child
+-- on the same member, if any
 pub record Agree (a b : Site) : Type 0 where
   pub dots : (d : Dot) → known a.operations d ≡ known b.operations d
   pub entries : (table : Table) (key : Bytes) → entries (live a.operations) table key ≡ entries (live b.operations) table key
   pub winners : (table : Table) → winners (live a.operations) table ≡ winners (live b.operations) table
+  pub places : (weight : Weigher) (id : Bytes) → child_place weight (live a.operations) id ≡ child_place weight (live b.operations) id
 
 -- nodes that absorbed the same operations, in any order and any number of times, agree
 abbrev pub SameAgree : Type 0
@@ -27,4 +31,4 @@ AddsStay = (a : Site) (r : Row) → Contains (added a.operations) r → named a.
 
 -- no two operations of one run add the same dot
 abbrev pub NoDotTwice : Type 0
-NoDotTwice = (names : List Bytes) (steps : List Step) (answers : List Answer) (w : World) → Run (new_world names) steps answers w → AllPairs (λ (d e : Dot). d ≢ e) (new_dots answers)
+NoDotTwice = (weight : Weigher) (names : List Bytes) (steps : List Step) (answers : List Answer) (w : World) → Run weight (new_world names) steps answers w → AllPairs (λ (d e : Dot). d ≢ e) (new_dots answers)

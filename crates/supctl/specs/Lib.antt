@@ -6,6 +6,7 @@ pub mod Script
 pub mod Checks
 pub mod Worlds
 pub mod Commands
+pub mod Shown
 pub mod Steps
 pub mod Runs
 pub mod Sound

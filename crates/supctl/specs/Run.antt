@@ -1,6 +1,7 @@
 -- What a run prints, and how it ends (this project).
 use Rattle.std.specs.Prelude.{◌≡◌, ℕ, ◌<◌, ◌≤◌, ◌⊎◌, List, [], ◌∷◌, ◌++◌, length, take, Option, Result, Ok, Err, IfSome}
 use Rattle.std.specs.Io.KnownBytes.{Appends, Consumes, Keeps}
+use Rattle.sup_placement.specs.Place.{Weigher}
 use Rattle.supctl.specs.Script.{ScriptText, script_of}
 use Rattle.supctl.specs.Text.{answer_text}
 use Rattle.supctl.specs.Worlds.{World, new_world}
@@ -20,53 +21,53 @@ abbrev pub Bytes : Type 0
 Bytes = Option (List ℕ)
 
 -- From this world these steps may print this and leave that world.
-abbrev pub Plays : World → List Step → List ℕ → World → Type 0
-Plays world [] printed after = (printed ≡ []) × (after ≡ world)
-Plays world (step ∷ steps) printed after =
+abbrev pub Plays : Weigher → World → List Step → List ℕ → World → Type 0
+Plays weight world [] printed after = (printed ≡ []) × (after ≡ world)
+Plays weight world (step ∷ steps) printed after =
     (answer : Answer) × (between : World) × (later : List ℕ)
-    × Allows world step answer between × Plays between steps later after × (printed ≡ answer_text answer ++ later)
+    × Allows weight world step answer between × Plays weight between steps later after × (printed ≡ answer_text answer ++ later)
 
 -- One step from the model world, with its text written whole, or a front of it.
-abbrev pub PlaysFrom : {X : Type 0} → World → Step → Real → Bytes → Bytes → Result X Fault → Type 0
-PlaysFrom model step after before written (Ok x) =
-    (answer : Answer) × Follows model step answer after × Appends before written (answer_text answer)
-PlaysFrom model step after before written (Err fault) =
-    (answer : Answer) × (count : ℕ) × Follows model step answer after × Appends before written (take count (answer_text answer))
+abbrev pub PlaysFrom : {X : Type 0} → Weigher → World → Step → Real → Bytes → Bytes → Result X Fault → Type 0
+PlaysFrom weight model step after before written (Ok x) =
+    (answer : Answer) × Follows weight model step answer after × Appends before written (answer_text answer)
+PlaysFrom weight model step after before written (Err fault) =
+    (answer : Answer) × (count : ℕ) × Follows weight model step answer after × Appends before written (take count (answer_text answer))
 
 -- One step, from every model world that the code's stands for.
-abbrev pub PlaysOne : {X : Type 0} → Real → Step → Real → Bytes → Bytes → Result X Fault → Type 0
-PlaysOne real step after before written result =
-    (model : World) → WorldStandsFor real model → PlaysFrom model step after before written result
+abbrev pub PlaysOne : {X : Type 0} → Weigher → Real → Step → Real → Bytes → Bytes → Result X Fault → Type 0
+PlaysOne weight real step after before written result =
+    (model : World) → WorldStandsFor real model → PlaysFrom weight model step after before written result
 
 -- The writer has got what all of these steps print.
-pub record PrintsAll (world : World) (steps : List Step) (before written : Bytes) : Type 0 where
+pub record PrintsAll (weight : Weigher) (world : World) (steps : List Step) (before written : Bytes) : Type 0 where
   pub printed : List ℕ
   pub final : World
-  pub plays : Plays world steps printed final
+  pub plays : Plays weight world steps printed final
   pub writes : Appends before written printed
 
 -- The writer has got a front of what the first of these steps print.
-pub record PrintsFront (world : World) (steps : List Step) (before written : Bytes) : Type 0 where
+pub record PrintsFront (weight : Weigher) (world : World) (steps : List Step) (before written : Bytes) : Type 0 where
   pub made : ℕ
   pub bytes : ℕ
   pub printed : List ℕ
   pub final : World
-  pub plays : Plays world (take made steps) printed final
+  pub plays : Plays weight world (take made steps) printed final
   pub writes : Appends before written (take bytes printed)
 
 -- The run was stopped: nothing was written, or a front of what the script prints.
-abbrev pub Stops : List ℕ → Bytes → Bytes → Type 0
-Stops input before written = Keeps before written
-    ⊎ ((s : ScriptText) × (script_of input ≡ Ok s) × PrintsFront (new_world s.0) s.1 before written)
+abbrev pub Stops : Weigher → List ℕ → Bytes → Bytes → Type 0
+Stops weight input before written = Keeps before written
+    ⊎ ((s : ScriptText) × (script_of input ≡ Ok s) × PrintsFront weight (new_world s.0) s.1 before written)
 
 -- How a run over this input ends, and what the writer has got then.
-abbrev pub Ends : {X : Type 0} → List ℕ → Bytes → Bytes → Result X Fault → Type 0
-Ends input before written (Ok x) = (length input ≤ 1048576)
-    × ((s : ScriptText) × (script_of input ≡ Ok s) × PrintsAll (new_world s.0) s.1 before written)
-Ends input before written (Err (BadLine number)) = (length input ≤ 1048576) × (script_of input ≡ Err number) × Keeps before written
-Ends input before written (Err BadInput) = (1048576 < length input) × Keeps before written
-Ends input before written (Err Device) = Stops input before written
-Ends input before written (Err OutOfMemory) = Stops input before written
+abbrev pub Ends : {X : Type 0} → Weigher → List ℕ → Bytes → Bytes → Result X Fault → Type 0
+Ends weight input before written (Ok x) = (length input ≤ 1048576)
+    × ((s : ScriptText) × (script_of input ≡ Ok s) × PrintsAll weight (new_world s.0) s.1 before written)
+Ends weight input before written (Err (BadLine number)) = (length input ≤ 1048576) × (script_of input ≡ Err number) × Keeps before written
+Ends weight input before written (Err BadInput) = (1048576 < length input) × Keeps before written
+Ends weight input before written (Err Device) = Stops weight input before written
+Ends weight input before written (Err OutOfMemory) = Stops weight input before written
 
 abbrev pub status_at : {X : Type 0} → Result X Fault → ℕ
 status_at (Ok x) = 0
@@ -77,12 +78,12 @@ fault_line_at (Ok x) = []
 fault_line_at (Err fault) = fault_text fault
 
 -- The status tells how the run ended, and the error writer has got that end's fault step or a front of it.
-abbrev pub Simulates : Bytes → Bytes → Bytes → Bytes → Bytes → ℕ → Type 0
-Simulates input before written errors_before errors_written status =
+abbrev pub Simulates : Weigher → Bytes → Bytes → Bytes → Bytes → Bytes → ℕ → Type 0
+Simulates weight input before written errors_before errors_written status =
     (end : Result (Unit {0}) Fault) × (count : ℕ)
     × (status ≡ status_at end)
     × Appends errors_before errors_written (take count (fault_line_at end))
-    × IfSome input (λ bytes. Ends bytes before written end)
+    × IfSome input (λ bytes. Ends weight bytes before written end)
 
 -- Memory was refused before anything was read or written, and that was said.
 abbrev pub WantsMemory : Bytes → Bytes → ℕ → Type 0

@@ -2,10 +2,11 @@
 use Rattle.std.specs.Prelude.{◌≡◌, ◌⊎◌, List, [], ◌∷◌, ◌++◌, IsOk, Result, Ok, Err}
 use Rattle.sup_causal.specs.declared.dot.Dot.{Dot}
 use Rattle.supctl.specs.declared.world.answer.Answer.{Answer}
-use Rattle.supctl.specs.declared.world.answer.Answer.TheVariants.{Added, Refused}
+use Rattle.supctl.specs.declared.world.answer.Answer.TheVariants.{Added, Replaced, Refused}
 use Rattle.supctl.specs.declared.world.refusal.Refusal.{Refusal}
 use Rattle.supctl.specs.declared.world.refusal.Refusal.TheVariants.{OutOfMemory}
 use Rattle.supctl.specs.declared.world.step.Step.{Step}
+use Rattle.sup_placement.specs.Place.{Weigher}
 use Rattle.supctl.specs.Worlds.{World}
 use Rattle.supctl.specs.Steps.{Stepped, step}
 
@@ -20,21 +21,22 @@ world_after w (Err refusal) = w
 
 -- From w, the step may be answered so and leave w': as the model says; or, in place of an answer that is no refusal, out of memory, and
 -- then nothing changed.
-abbrev pub Allows : World → Step → Answer → World → Type 0
-Allows w s answer w' =
-    ((answer ≡ answer_of (step w s)) × (w' ≡ world_after w (step w s)))
-    ⊎ (IsOk (step w s) × (answer ≡ Refused OutOfMemory) × (w' ≡ w))
+abbrev pub Allows : Weigher → World → Step → Answer → World → Type 0
+Allows weight w s answer w' =
+    ((answer ≡ answer_of (step weight w s)) × (w' ≡ world_after w (step weight w s)))
+    ⊎ (IsOk (step weight w s) × (answer ≡ Refused OutOfMemory) × (w' ≡ w))
 
 -- these answers to these steps, one after another
-abbrev pub Run : World → List Step → List Answer → World → Type 0
-Run w [] [] w' = w' ≡ w
-Run w (s ∷ steps) (answer ∷ rest) w' = (mid : World) × Allows w s answer mid × Run mid steps rest w'
-Run w [] (answer ∷ rest) w' = ⊥
-Run w (s ∷ steps) [] w' = ⊥
+abbrev pub Run : Weigher → World → List Step → List Answer → World → Type 0
+Run weight w [] [] w' = w' ≡ w
+Run weight w (s ∷ steps) (answer ∷ rest) w' = (mid : World) × Allows weight w s answer mid × Run weight mid steps rest w'
+Run weight w [] (answer ∷ rest) w' = ⊥
+Run weight w (s ∷ steps) [] w' = ⊥
 
 -- the dots that a run made
 abbrev pub dots_of : Answer → List Dot
 dots_of (Added dot) = dot ∷ []
+dots_of (Replaced dot removed) = dot ∷ []
 dots_of _ = []
 
 abbrev pub new_dots : List Answer → List Dot

@@ -12,6 +12,7 @@ use Rattle.supctl.specs.declared.world.refusal.Refusal.{Refusal}
 use Rattle.supctl.specs.declared.world.refusal.Refusal.TheVariants.{DotsSpent, OutOfMemory}
 use Rattle.supctl.specs.declared.world.step.Step.{Step}
 use Rattle.supctl.specs.declared.world.state.World.{World as Real}
+use Rattle.sup_placement.specs.Place.{Weigher}
 use Rattle.supctl.specs.Worlds.{Message, Site, World}
 use Rattle.supctl.specs.Steps.{Outcome, Stepped}
 use Rattle.supctl.specs.Runs.{Allows}
@@ -43,8 +44,8 @@ abbrev pub WorldStandsFor : Real → World → Type 0
 WorldStandsFor real model = AllStand real.nodes.items real.outboxes.items model
 
 -- the world answers and becomes what the model allows
-abbrev pub Follows : World → Step → Answer → Real → Type 0
-Follows model step answer real = (after : World) × Allows model step answer after × WorldStandsFor real after
+abbrev pub Follows : Weigher → World → Step → Answer → Real → Type 0
+Follows weight model step answer real = (after : World) × Allows weight model step answer after × WorldStandsFor real after
 
 -- The result is what is expected: the same refusal; else what R says, or out of memory in its place.
 abbrev pub Gives : {A B : Type 0} → (A → B → Type 0) → Result B Refusal → Result A Refusal → Type 0

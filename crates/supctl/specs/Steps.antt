@@ -1,21 +1,21 @@
 -- One step of the model world: its answer and the world after it, or its refusal (this project).
 use Rattle.std.specs.Prelude.{ℕ, ◌+◌, ◌==◌, not, Bool, true, false, List, [], ◌∷◌, ◌++◌, length, is_some, nat_le, Option, Result, Ok, Err}
-use Rattle.sup_specs.specs.declared.child.ChildSpec.{ChildSpec}
 use Rattle.sup_specs.specs.Values.{Bytes}
 use Rattle.sup_causal.specs.declared.dot.TheConstants.{MAX}
-use Rattle.sup_tables.specs.Rows.{children}
 use Rattle.sup_tables.specs.Operations.{Operation, live, covers}
-use Rattle.sup_tables.specs.Readers.{winners}
+use Rattle.sup_placement.specs.Place.{Weigher}
 use Rattle.supctl.specs.declared.world.answer.Answer.{Answer}
-use Rattle.supctl.specs.declared.world.answer.Answer.TheVariants.{Added, Removed, Sent, Absorbed, Known, Shown}
+use Rattle.supctl.specs.declared.world.answer.Answer.TheVariants.{Sent, Absorbed, Known, Shown}
 use Rattle.supctl.specs.declared.world.answer.LetterKind.TheVariants.{Whole}
+use Rattle.supctl.specs.declared.world.command.Command.{Command}
 use Rattle.supctl.specs.declared.world.refusal.Refusal.{Refusal}
 use Rattle.supctl.specs.declared.world.refusal.Refusal.TheVariants.{UnknownNode, UpToDate, NoSuchMessage, CountSpent}
 use Rattle.supctl.specs.declared.world.step.Step.{Step}
-use Rattle.supctl.specs.declared.world.step.Step.TheVariants.{Start, Delete, Ship, Deliver, Show}
+use Rattle.supctl.specs.declared.world.step.Step.TheVariants.{Act, Ship, Deliver, Show}
 use Rattle.supctl.specs.Checks.{refused_if, or_refused, then_do}
 use Rattle.supctl.specs.Worlds.{Message, Site, World, is_named, site_of, with_site, nth}
-use Rattle.supctl.specs.Commands.{reading, next, start, delete}
+use Rattle.supctl.specs.Commands.{reading, next, may, operation, reply}
+use Rattle.supctl.specs.Shown.{lines}
 
 -- the answer of one node, and the node after it
 pub record Outcome : Type 0 where
@@ -39,11 +39,10 @@ abbrev pub changes : Site → List Operation → Answer → Result Outcome Refus
 changes site more answer = then_do (may_change site.count) (λ _. Ok (record { answer = answer; site = changed site more }))
 
 -- a command that isn't refused adds its operation
-abbrev pub start_at : Site → Bytes → ChildSpec → Result Outcome Refusal
-start_at site id spec = then_do (start (reading site) id spec) (λ op. changes site (op ∷ []) (Added (next (reading site))))
-
-abbrev pub delete_at : Site → Bytes → Result Outcome Refusal
-delete_at site id = then_do (delete (reading site) id) (λ op. changes site (op ∷ []) (Removed op.removes))
+abbrev pub command_at : Site → Command → Result Outcome Refusal
+command_at site c =
+    then_do (may (reading site) c) (λ _.
+    changes site (operation (reading site) c ∷ []) (reply c (next (reading site)) (operation (reading site) c).removes))
 
 abbrev pub posts : Site → Message → Outcome
 posts site m = record {
@@ -70,8 +69,8 @@ abbrev pub deliver_at : Site → Message → Result Outcome Refusal
 deliver_at site m = takes_in site m.operations (covers site.operations m.operations)
 
 -- each node is in its first boot
-abbrev pub show_at : Site → Result Outcome Refusal
-show_at site = Ok (record { answer = Shown site.name 1 (winners (live site.operations) children); site = site })
+abbrev pub show_at : Weigher → Site → Result Outcome Refusal
+show_at weight site = Ok (record { answer = Shown site.name 1 (lines weight (live site.operations)); site = site })
 
 -- one node acts, if it is there
 abbrev pub at_node : World → Bytes → (Site → Result Outcome Refusal) → Result Stepped Refusal
@@ -91,9 +90,8 @@ abbrev pub ship_in : World → Bytes → Site → Result Outcome Refusal
 ship_in w to site = refused_if (not (is_some (site_of w to))) UnknownNode (ship_at site to)
 
 -- one step. First the world's checks: the node that acts, then the target; of a delivery the sender, the message, the receiver
-abbrev pub step : World → Step → Result Stepped Refusal
-step w (Start node id spec) = at_node w node (λ site. start_at site id spec)
-step w (Delete node id) = at_node w node (λ site. delete_at site id)
-step w (Ship node to) = at_node w node (ship_in w to)
-step w (Deliver from k) = then_do (message_in w from k) (λ m. at_node w m.to (λ receiver. deliver_at receiver m))
-step w (Show node) = at_node w node show_at
+abbrev pub step : Weigher → World → Step → Result Stepped Refusal
+step weight w (Act node c) = at_node w node (λ site. command_at site c)
+step weight w (Ship node to) = at_node w node (ship_in w to)
+step weight w (Deliver from k) = then_do (message_in w from k) (λ m. at_node w m.to (λ receiver. deliver_at receiver m))
+step weight w (Show node) = at_node w node (show_at weight)

@@ -7,16 +7,19 @@ use Rattle.sup_specs.specs.declared.child.Restart.TheVariants.{Permanent, Transi
 use Rattle.sup_specs.specs.declared.child.Shutdown.{Shutdown}
 use Rattle.sup_specs.specs.declared.child.Shutdown.TheVariants.{Brutal, Millis, Infinity}
 use Rattle.sup_causal.specs.declared.dot.Dot.{Dot}
-use Rattle.sup_tables.specs.declared.row.Row.{Row}
 use Rattle.sup_tables.specs.declared.row.Entry.{Entry}
 use Rattle.sup_tables.specs.declared.row.Entry.TheVariants as entry
 use Rattle.supctl.specs.declared.world.answer.Answer.{Answer}
-use Rattle.supctl.specs.declared.world.answer.Answer.TheVariants.{Added, Removed, Sent, Absorbed, Known, Shown, Refused}
+use Rattle.supctl.specs.declared.world.answer.Answer.TheVariants.{Added, Replaced, Removed, Sent, Absorbed, Known, Shown, Refused}
 use Rattle.supctl.specs.declared.world.answer.Letter.{Letter}
 use Rattle.supctl.specs.declared.world.answer.LetterKind.{LetterKind}
 use Rattle.supctl.specs.declared.world.answer.LetterKind.TheVariants.{Whole}
+use Rattle.supctl.specs.declared.world.line.Line.{Line}
+use Rattle.supctl.specs.declared.world.line.Line.TheVariants.{Member, Child, Name, Loser}
+use Rattle.supctl.specs.declared.world.line.Place.{Place}
+use Rattle.supctl.specs.declared.world.line.Place.TheVariants.{On, Unplaced, Gone}
 use Rattle.supctl.specs.declared.world.refusal.Refusal.{Refusal}
-use Rattle.supctl.specs.declared.world.refusal.Refusal.TheVariants.{UnknownNode, AlreadyPresent, NotFound, DotsSpent, UpToDate, NoSuchMessage, TableFull, OutOfMemory, CountSpent}
+use Rattle.supctl.specs.declared.world.refusal.Refusal.TheVariants.{UnknownNode, AlreadyPresent, NotFound, AlreadyMember, NotMember, NameTaken, NoSuchChild, NameUnknown, DotsSpent, UpToDate, NoSuchMessage, TableFull, OutOfMemory, CountSpent}
 
 -- the pieces of a text, one after another
 abbrev pub text : List (List ℕ) → List ℕ
@@ -29,6 +32,11 @@ abbrev pub refusal_text : Refusal → List ℕ
 refusal_text UnknownNode = codes "3 UnknownNode"
 refusal_text AlreadyPresent = codes "4 AlreadyPresent"
 refusal_text NotFound = codes "5 NotFound"
+refusal_text AlreadyMember = codes "6 AlreadyMember"
+refusal_text NotMember = codes "7 NotMember"
+refusal_text NameTaken = codes "8 NameTaken"
+refusal_text NoSuchChild = codes "9 NoSuchChild"
+refusal_text NameUnknown = codes "10 NameUnknown"
 refusal_text DotsSpent = codes "11 DotsSpent"
 refusal_text UpToDate = codes "12 UpToDate"
 refusal_text NoSuchMessage = codes "13 NoSuchMessage"
@@ -58,18 +66,24 @@ shutdown_text Infinity = codes "infinity"
 abbrev pub spec_text : ChildSpec → List ℕ
 spec_text spec = text (spec.kind ∷ codes " " ∷ restart_text spec.restart ∷ codes " " ∷ shutdown_text spec.shutdown ∷ codes " arg=" ∷ spec.arg ∷ [])
 
--- child ID DOT KIND RESTART SHUTDOWN arg=TEXT unplaced
-abbrev pub child_text : Dot → List ℕ → ChildSpec → List ℕ
-child_text dot id spec = text (codes "child " ∷ id ∷ codes " " ∷ dot_text dot ∷ codes " " ∷ spec_text spec ∷ codes " unplaced\n" ∷ [])
+-- on M, unplaced, gone
+abbrev pub place_text : Place → List ℕ
+place_text (On member) = text (codes "on " ∷ member ∷ [])
+place_text Unplaced = codes "unplaced"
+place_text Gone = codes "gone"
 
--- the line of a row. Members and names have none yet
-abbrev pub entry_text : Dot → Entry → List ℕ
-entry_text dot (entry.Member node info) = []
-entry_text dot (entry.Child id spec) = child_text dot id spec
-entry_text dot (entry.Name name id) = []
+-- the table and the key of an entry
+abbrev pub key_text : Entry → List ℕ
+key_text (entry.Member member info) = text (codes "member " ∷ member ∷ [])
+key_text (entry.Child id spec) = text (codes "child " ∷ id ∷ [])
+key_text (entry.Name name id) = text (codes "name " ∷ name ∷ [])
 
-abbrev pub row_text : Row → List ℕ
-row_text row = entry_text row.dot row.entry
+-- member M DOT label=TEXT, child ID DOT KIND RESTART SHUTDOWN arg=TEXT PLACE, name NAME DOT ID PLACE, loser TABLE KEY DOT
+abbrev pub line_text : Line → List ℕ
+line_text (Member member dot info) = text (codes "member " ∷ member ∷ codes " " ∷ dot_text dot ∷ codes " label=" ∷ info.label ∷ codes "\n" ∷ [])
+line_text (Child id dot spec place) = text (codes "child " ∷ id ∷ codes " " ∷ dot_text dot ∷ codes " " ∷ spec_text spec ∷ codes " " ∷ place_text place ∷ codes "\n" ∷ [])
+line_text (Name name dot id place) = text (codes "name " ∷ name ∷ codes " " ∷ dot_text dot ∷ codes " " ∷ id ∷ codes " " ∷ place_text place ∷ codes "\n" ∷ [])
+line_text (Loser row) = text (codes "loser " ∷ key_text row.entry ∷ codes " " ∷ dot_text row.dot ∷ codes "\n" ∷ [])
 
 -- delta 3 whole
 abbrev pub letter_kind_text : LetterKind → List ℕ
@@ -82,9 +96,10 @@ letter_text letter = text (codes "  sent " ∷ letter.from ∷ codes " " ∷ dec
 -- the lines of an answer
 abbrev pub answer_text : Answer → List ℕ
 answer_text (Added dot) = text (codes "ok " ∷ dot_text dot ∷ codes "\n" ∷ [])
+answer_text (Replaced dot dots) = text (codes "ok " ∷ dot_text dot ∷ codes " removed" ∷ flat_map spaced_dot dots ∷ codes "\n" ∷ [])
 answer_text (Removed dots) = text (codes "ok removed" ∷ flat_map spaced_dot dots ∷ codes "\n" ∷ [])
 answer_text (Sent letter) = text (codes "ok sent\n" ∷ letter_text letter ∷ [])
 answer_text Absorbed = codes "ok absorbed\n"
 answer_text Known = codes "ok known\n"
-answer_text (Shown node boot children) = text (codes "node " ∷ node ∷ codes " boot " ∷ decimal boot ∷ codes "\n" ∷ flat_map row_text children ∷ [])
+answer_text (Shown node boot lines) = text (codes "node " ∷ node ∷ codes " boot " ∷ decimal boot ∷ codes "\n" ∷ flat_map line_text lines ∷ [])
 answer_text (Refused refusal) = text (codes "refused " ∷ refusal_text refusal ∷ codes "\n" ∷ [])

@@ -26,6 +26,9 @@ node_name_of word = unless_faulty (text_fault NodeBytes 1 64 word) word
 unfoldable pub child_id_of : Word → Option Word
 child_id_of word = unless_faulty (text_fault Visible 1 128 word) word
 
+unfoldable pub registered_name_of : Word → Option Word
+registered_name_of word = unless_faulty (text_fault Visible 1 128 word) word
+
 unfoldable pub kind_of : Word → Option Word
 kind_of word = unless_faulty (text_fault Visible 1 128 word) word
 

@@ -1,6 +1,7 @@
 //! The program's run, from its words and input to its output and status.
 
 ghost use Rattle.std.specs.Prelude.{◌≡◌, ◌≢◌, ◌≤◌, ◌+◌, length, OnOk, IfErr, IfSome, map};
+ghost use Rattle.sup_placement.specs.Weights.{sha256_weight};
 ghost use Rattle.supctl.specs.CommandLine.{IsCommand, IsNoCommand};
 ghost use Rattle.supctl.specs.Faults.{IsOutside};
 ghost use Rattle.supctl.specs.Stands.{WorldStandsFor};
@@ -18,6 +19,7 @@ use clap::Error;
 use std::alloc::Global;
 use std::convert::AsStr;
 use std::io::{Read, Write};
+use sup_placement::{Sha256Weigh, Weigh};
 
 /// The exit status where the words are refused.
 pub const USAGE: u8 = 2;
@@ -39,7 +41,7 @@ pub fn run<S: AsStr, R: Read, W: Write, E: Write>(
 ) -> u8
     // A command of those that there are.
     ensures simulates { IsCommand (map S.text words.now)
-        → Simulates (R.remaining reader.old) (W.contents writer.old) (W.contents writer.new)
+        → Simulates sha256_weight (R.remaining reader.old) (W.contents writer.old) (W.contents writer.new)
         (E.contents errors.old) (E.contents errors.new) result }
     ensures taken { TakesAtMost (LIMIT + 1) (R.remaining reader.old) (R.remaining reader.new) }
 
@@ -64,7 +66,7 @@ pub fn run_plain<S: AsStr, R: Read, W: Write, E: Write>(
 ) -> Ran
     // A command of those that there are.
     ensures simulates { IsCommand (map S.text words.now)
-        → Simulates (R.remaining reader.old) (W.contents writer.old) (W.contents writer.new)
+        → Simulates sha256_weight (R.remaining reader.old) (W.contents writer.old) (W.contents writer.new)
         (E.contents errors.old) (E.contents errors.new) (status_in result) }
     ensures taken { TakesAtMost (LIMIT + 1) (R.remaining reader.old) (R.remaining reader.new) }
 
@@ -75,7 +77,7 @@ pub fn run_plain<S: AsStr, R: Read, W: Write, E: Write>(
     ensures unwritten { IsNoCommand (map S.text words.now) → writer.new ≡ writer.old }
 {
     match read_words(alloc, words) {
-        Ok(()) => Ran::Status(simulate(alloc, reader, writer, errors)),
+        Ok(()) => Ran::Status(simulate(alloc, &Sha256Weigh, reader, writer, errors)),
         Err(error) if is_want_of_memory(&error) => Ran::Status(want_of_memory(errors)),
         Err(error) => Ran::Status(refuse(alloc, &error, errors)),
     }
@@ -103,17 +105,18 @@ pub fn want_of_memory<E: Write>(errors: &mut E) -> u8
 }
 
 // Runs the script that the reader has.
-fn simulate<R: Read, W: Write, E: Write>(
+fn simulate<G: Weigh, R: Read, W: Write, E: Write>(
     alloc: Global,
+    weigher: &G,
     reader: &mut R,
     writer: &mut W,
     errors: &mut E,
 ) -> u8
-    ensures simulates { Simulates (R.remaining reader.old) (W.contents writer.old)
+    ensures simulates { Simulates G.weight_of (R.remaining reader.old) (W.contents writer.old)
         (W.contents writer.new) (E.contents errors.old) (E.contents errors.new) result }
     ensures taken { TakesAtMost (LIMIT + 1) (R.remaining reader.old) (R.remaining reader.new) }
 {
-    match run_script(alloc, reader, writer) {
+    match run_script(alloc, weigher, reader, writer) {
         Ok(()) => 0,
         Err(fault) => {
             report(errors, fault);
@@ -122,59 +125,71 @@ fn simulate<R: Read, W: Write, E: Write>(
     }
 }
 
-fn run_script<R: Read, W: Write>(alloc: Global, reader: &mut R, writer: &mut W) -> Result<(), Fault>
+fn run_script<G: Weigh, R: Read, W: Write>(
+    alloc: Global,
+    weigher: &G,
+    reader: &mut R,
+    writer: &mut W,
+) -> Result<(), Fault>
     ensures ends { IfSome (R.remaining reader.old)
-        (λ bytes. Ends bytes (W.contents writer.old) (W.contents writer.new) result) }
+        (λ bytes. Ends G.weight_of bytes (W.contents writer.old) (W.contents writer.new) result) }
     ensures taken { TakesAtMost (LIMIT + 1) (R.remaining reader.old) (R.remaining reader.new) }
 {
     let mut asked = 0;
     let input = read_input(alloc, reader, &mut asked)?;
-    run_bytes(alloc, input.as_slice(), writer)
+    run_bytes(alloc, weigher, input.as_slice(), writer)
 }
 
 // The whole script is checked before its first step.
-fn run_bytes<W: Write>(alloc: Global, input: &[u8], writer: &mut W) -> Result<(), Fault>
+fn run_bytes<G: Weigh, W: Write>(
+    alloc: Global,
+    weigher: &G,
+    input: &[u8],
+    writer: &mut W,
+) -> Result<(), Fault>
     requires { length input.now ≤ LIMIT }
-    ensures { Ends input.now (W.contents writer.old) (W.contents writer.new) result }
+    ensures { Ends G.weight_of input.now (W.contents writer.old) (W.contents writer.new) result }
 {
     let Script { nodes, steps } = read_script(alloc, input)?;
     let mut world = World::new(alloc, nodes.as_slice())?;
-    match play(alloc, &mut world, steps.as_slice(), writer) {
+    match play(alloc, weigher, &mut world, steps.as_slice(), writer) {
         Ok(()) => Ok(()),
         Err(fault) => Err(fault),
     }
 }
 
 // Makes the steps in order, and writes what each answers.
-fn play<W: Write>(
+fn play<G: Weigh, W: Write>(
     alloc: Global,
+    weigher: &G,
     world: &mut World,
     steps: &[Step],
     writer: &mut W,
 ) -> Result<(), Fault>
     ensures all { (model : Model) → WorldStandsFor world.old model → OnOk result
-        (PrintsAll model steps.now (W.contents writer.old) (W.contents writer.new)) }
+        (PrintsAll G.weight_of model steps.now (W.contents writer.old) (W.contents writer.new)) }
     ensures front { (model : Model) → WorldStandsFor world.old model
-        → PrintsFront model steps.now (W.contents writer.old) (W.contents writer.new) }
+        → PrintsFront G.weight_of model steps.now (W.contents writer.old) (W.contents writer.new) }
     ensures faults { IfErr result IsOutside }
 {
     for step in steps {
-        play_one(alloc, world, step, writer)?;
+        play_one(alloc, weigher, world, step, writer)?;
     }
     Ok(())
 }
 
-fn play_one<W: Write>(
+fn play_one<G: Weigh, W: Write>(
     alloc: Global,
+    weigher: &G,
     world: &mut World,
     step: &Step,
     writer: &mut W,
 ) -> Result<(), Fault>
-    ensures plays { PlaysOne world.old step.now world.new
+    ensures plays { PlaysOne G.weight_of world.old step.now world.new
         (W.contents writer.old) (W.contents writer.new) result }
     ensures faults { IfErr result IsOutside }
 {
-    let answer = world.step(alloc, step);
+    let answer = world.step(alloc, step, weigher);
     let Ok(text) = answer_text(alloc, &answer) else {
         return Err(Fault::OutOfMemory);
     };

@@ -3,6 +3,7 @@
 ghost use Rattle.std.specs.Prelude.{map};
 ghost use Rattle.supctl.specs.Script.{script_of, ReadsAll, steps_of};
 
+mod commands;
 mod fault;
 mod line;
 mod lines;

@@ -3,16 +3,17 @@
 ghost use Rattle.std.specs.Prelude.{◌≡◌, IfOk, string_bytes};
 ghost use Rattle.supctl.specs.Text.{answer_text};
 
-mod child;
 mod dot;
 mod letter;
+mod line;
 mod node_name;
 mod refusal;
+mod spec;
 
 use crate::world::Answer;
-use child::rows_text;
 use dot::{DotText, spaced_dots};
 use letter::LetterText;
+use line::lines_text;
 use node_name::node_name_text;
 use refusal::RefusalText;
 use std::alloc::{AllocError, Global};
@@ -26,6 +27,12 @@ pub fn answer_text(alloc: Global, answer: &Answer) -> Result<String, AllocError>
             let dot = DotText(*dot);
             format!(in alloc; "ok {dot}\n")
         }
+        Answer::Replaced { dot, removed } => {
+            let dot = DotText(*dot);
+            let dots = spaced_dots(alloc, removed.as_slice())?;
+            let dots = dots.as_str();
+            format!(in alloc; "ok {dot} removed{dots}\n")
+        }
         Answer::Removed(dots) => {
             let dots = spaced_dots(alloc, dots.as_slice())?;
             let dots = dots.as_str();
@@ -37,15 +44,11 @@ pub fn answer_text(alloc: Global, answer: &Answer) -> Result<String, AllocError>
         }
         Answer::Absorbed => format!(in alloc; "ok absorbed\n"),
         Answer::Known => format!(in alloc; "ok known\n"),
-        Answer::Shown {
-            node,
-            boot,
-            children,
-        } => {
+        Answer::Shown { node, boot, lines } => {
             let node = node_name_text(node);
-            let rows = rows_text(alloc, children.as_slice())?;
-            let rows = rows.as_str();
-            format!(in alloc; "node {node} boot {boot}\n{rows}")
+            let lines = lines_text(alloc, lines.as_slice())?;
+            let lines = lines.as_str();
+            format!(in alloc; "node {node} boot {boot}\n{lines}")
         }
         Answer::Refused(refusal) => {
             let refusal = RefusalText(*refusal);

@@ -7,7 +7,10 @@ ghost use Rattle.supctl.specs.Stands.{NodeStandsFor, OutboxStandsFor, AllStand, 
 
 mod acts;
 pub mod answer;
+pub mod command;
 pub mod laws;
+pub mod line;
+mod lines;
 mod node;
 mod outbox;
 pub mod refusal;
@@ -16,11 +19,14 @@ pub mod step;
 
 use crate::world::node::Node;
 use crate::world::outbox::Outbox;
-pub use answer::{Answer, Dots, Letter, LetterKind, Rows};
+pub use answer::{Answer, Dots, Letter, LetterKind};
+pub use command::Command;
+pub use line::{Line, Lines, Place};
 pub use refusal::Refusal;
 pub use state::World;
 use std::alloc::{AllocError, Global};
 pub use step::Step;
+use sup_placement::Weigh;
 use sup_specs::NodeName;
 
 impl World {
@@ -36,10 +42,10 @@ impl World {
     /// Makes a step, and tells how it is answered. For each model world that this world stands for, the model allows
     /// the answer, and this world then stands for a world that the model allows after it. A refused step changes nothing;
     /// `OutOfMemory` comes only where a growth was refused, in place of an answer that is no refusal.
-    pub fn step(&mut self, alloc: Global, step: &Step) -> Answer
-        ensures { (model : Model) → WorldStandsFor self.old model → Follows model step.now result self.new }
+    pub fn step<W: Weigh>(&mut self, alloc: Global, step: &Step, weigher: &W) -> Answer
+        ensures { (model : Model) → WorldStandsFor self.old model → Follows W.weight_of model step.now result self.new }
     {
-        match act(alloc, &mut self.nodes, &mut self.outboxes, step) {
+        match act(alloc, &mut self.nodes, &mut self.outboxes, step, weigher) {
             Ok(answer) => answer,
             Err(refusal) => Answer::Refused(refusal),
         }
@@ -70,22 +76,22 @@ fn new_outboxes(alloc: Global, names: &[NodeName]) -> Result<Vec<Outbox>, AllocE
 }
 
 // Makes a step. A refused one changes nothing.
-fn act(
+fn act<W: Weigh>(
     alloc: Global,
     nodes: &mut [Node],
     outboxes: &mut [Outbox],
     step: &Step,
+    weigher: &W,
 ) -> Result<Answer, Refusal>
     requires { length outboxes.old ≡ length nodes.old }
-    ensures gives { (model : Model) → AllStand nodes.old outboxes.old model → Gives (WorldBecomes nodes.new outboxes.new) (model_step model step.now) result }
+    ensures gives { (model : Model) → AllStand nodes.old outboxes.old model → Gives (WorldBecomes nodes.new outboxes.new) (model_step W.weight_of model step.now) result }
     ensures nodes { OnErr result (nodes.new ≡ nodes.old) }
     ensures outboxes { OnErr result (outboxes.new ≡ outboxes.old) }
 {
     match step {
-        Step::Start { node, id, spec } => acts::start(alloc, nodes, node, id, spec),
-        Step::Delete { node, id } => acts::delete(alloc, nodes, node, id),
+        Step::Act { node, command } => acts::command(alloc, nodes, node, command),
         Step::Ship { node, to } => acts::ship(alloc, nodes, outboxes, node, to),
         Step::Deliver { from, k } => acts::deliver(alloc, nodes, outboxes, from, *k),
-        Step::Show { node } => acts::show(alloc, nodes, node),
+        Step::Show { node } => acts::show(alloc, nodes, node, weigher),
     }
 }

@@ -4,11 +4,11 @@ ghost use Rattle.std.specs.Prelude.{◌≡◌, ◌<◌, ◌≤◌, ◌^◌, IfOk
 ghost use Rattle.std.specs.List.{list_all};
 ghost use Rattle.std.specs.Char.{is_ascii_digit};
 ghost use Rattle.supctl.specs.Words.{Reads};
-ghost use Rattle.supctl.specs.Values.{child_id_of, is_numeral, kind_of, node_name_of, number_of, restart_of, shutdown_of, text_of};
+ghost use Rattle.supctl.specs.Values.{child_id_of, is_numeral, kind_of, node_name_of, number_of, registered_name_of, restart_of, shutdown_of, text_of};
 
 use crate::script::LineFault;
 use std::alloc::Global;
-use sup_specs::{ChildId, Kind, NodeName, Restart, Shutdown, Text};
+use sup_specs::{ChildId, Kind, Name, NodeName, Restart, Shutdown, Text};
 
 /// The greatest number of milliseconds.
 const MOST_MILLIS: u64 = 4_294_967_295;
@@ -27,6 +27,14 @@ pub fn read_child_id(alloc: Global, word: &str) -> Result<ChildId, LineFault>
     ensures { Reads (λ id. id) result (child_id_of word.now) }
 {
     Ok(ChildId::parse(alloc, word)?)
+}
+
+/// The name for a child that a word is.
+#[tactic(auto, unfolding(crate::specs::Values::registered_name_of))]
+pub fn read_registered_name(alloc: Global, word: &str) -> Result<Name, LineFault>
+    ensures { Reads (λ name. name) result (registered_name_of word.now) }
+{
+    Ok(Name::parse(alloc, word)?)
 }
 
 /// The kind of a child that a word is.

@@ -3,17 +3,20 @@ ghost use Rattle.std.specs.Prelude.{◌≡◌, ◌<◌, List, length, IfOk, IfEr
 ghost use Rattle.std.specs.List.{position_or_len};
 ghost use Rattle.supctl.specs.declared.world.step.Step.{Step};
 ghost use Rattle.supctl.specs.declared.world.outbox.Outbox.{Outbox as OutboxValue};
+ghost use Rattle.sup_placement.specs.Place.{Weigher};
 ghost use Rattle.supctl.specs.Sound.{IsUnderWay};
 ghost use Rattle.supctl.specs.Worlds.{Message as Sent, Site, World, is_named};
 ghost use Rattle.supctl.specs.Steps.{at_node, deliver_at, message_in, ship_at, step};
 ghost use Rattle.supctl.specs.Stands.{NodeStandsFor, MessageStandsFor, OutboxStandsFor, AllStand, PostBecomes, WorldBecomes, Gives, Finds};
 
 use crate::world::answer::{Answer, Letter, LetterKind};
+use crate::world::command::Command;
 use crate::world::node::Node;
 use crate::world::outbox::{Message, Outbox};
 use crate::world::refusal::Refusal;
 use std::alloc::Global;
-use sup_specs::{ChildId, ChildSpec, NodeName};
+use sup_placement::Weigh;
+use sup_specs::NodeName;
 
 // The place of the node of this name.
 fn place_of(nodes: &[Node], name: &NodeName) -> Result<usize, Refusal>
@@ -28,33 +31,18 @@ fn place_of(nodes: &[Node], name: &NodeName) -> Result<usize, Refusal>
     }
 }
 
-/// Starts a child at a node.
-pub fn start(
+/// Carries out a command at a node.
+pub fn command(
     alloc: Global,
     nodes: &mut [Node],
     name: &NodeName,
-    id: &ChildId,
-    spec: &ChildSpec,
+    command: &Command,
 ) -> Result<Answer, Refusal>
-    ensures gives { (model : World) (outboxes : List OutboxValue) → AllStand nodes.old outboxes model → Gives (WorldBecomes nodes.new outboxes) (step model (Step.Start name.now id.now spec.now)) result }
+    ensures gives { (weight : Weigher) (model : World) (outboxes : List OutboxValue) → AllStand nodes.old outboxes model → Gives (WorldBecomes nodes.new outboxes) (step weight model (Step.Act name.now command.now)) result }
     ensures refused { OnErr result (nodes.new ≡ nodes.old) }
 {
     let place = place_of(nodes, name)?;
-    nodes[place].start(alloc, id, spec)
-}
-
-/// Deletes a child at a node.
-pub fn delete(
-    alloc: Global,
-    nodes: &mut [Node],
-    name: &NodeName,
-    id: &ChildId,
-) -> Result<Answer, Refusal>
-    ensures gives { (model : World) (outboxes : List OutboxValue) → AllStand nodes.old outboxes model → Gives (WorldBecomes nodes.new outboxes) (step model (Step.Delete name.now id.now)) result }
-    ensures refused { OnErr result (nodes.new ≡ nodes.old) }
-{
-    let place = place_of(nodes, name)?;
-    nodes[place].delete(alloc, id)
+    nodes[place].command(alloc, command)
 }
 
 /// Sends all that a node knows to another.
@@ -66,7 +54,7 @@ pub fn ship(
     to: &NodeName,
 ) -> Result<Answer, Refusal>
     requires { length outboxes.old ≡ length nodes.now }
-    ensures gives { (model : World) → AllStand nodes.now outboxes.old model → Gives (WorldBecomes nodes.now outboxes.new) (step model (Step.Ship name.now to.now)) result }
+    ensures gives { (weight : Weigher) (model : World) → AllStand nodes.now outboxes.old model → Gives (WorldBecomes nodes.now outboxes.new) (step weight model (Step.Ship name.now to.now)) result }
     ensures refused { OnErr result (outboxes.new ≡ outboxes.old) }
 {
     let place = place_of(nodes, name)?;
@@ -100,7 +88,7 @@ pub fn deliver(
     k: u64,
 ) -> Result<Answer, Refusal>
     requires { length outboxes.now ≡ length nodes.old }
-    ensures gives { (model : World) → AllStand nodes.old outboxes.now model → Gives (WorldBecomes nodes.new outboxes.now) (step model (Step.Deliver from.now k)) result }
+    ensures gives { (weight : Weigher) (model : World) → AllStand nodes.old outboxes.now model → Gives (WorldBecomes nodes.new outboxes.now) (step weight model (Step.Deliver from.now k)) result }
     ensures refused { OnErr result (nodes.new ≡ nodes.old) }
 {
     let message = message_from(nodes, outboxes, from, k)?;
@@ -108,11 +96,16 @@ pub fn deliver(
 }
 
 /// Shows a node.
-pub fn show(alloc: Global, nodes: &[Node], name: &NodeName) -> Result<Answer, Refusal>
-    ensures { (model : World) (outboxes : List OutboxValue) → AllStand nodes.now outboxes model → Gives (WorldBecomes nodes.now outboxes) (step model (Step.Show name.now)) result }
+pub fn show<W: Weigh>(
+    alloc: Global,
+    nodes: &[Node],
+    name: &NodeName,
+    weigher: &W,
+) -> Result<Answer, Refusal>
+    ensures { (model : World) (outboxes : List OutboxValue) → AllStand nodes.now outboxes model → Gives (WorldBecomes nodes.now outboxes) (step W.weight_of model (Step.Show name.now)) result }
 {
     let place = place_of(nodes, name)?;
-    nodes[place].show(alloc)
+    nodes[place].show(alloc, weigher)
 }
 
 // The message that a node sent as its k-th.

@@ -1,17 +1,22 @@
 //! Answers to steps.
 ghost use Rattle.std.specs.Prelude.{◌≡◌};
 
+use crate::world::line::Lines;
 use crate::world::refusal::Refusal;
 use std::marker::Model;
 use sup_causal::Dot;
 use sup_specs::NodeName;
-use sup_tables::Row;
 
 /// What a step answers.
 #[derive(Drop)]
 pub enum Answer {
-    /// A child was added under this dot.
+    /// An entry was added under this dot.
     Added(Dot),
+    /// An entry was added under this dot, and these dots were removed, in dot order.
+    Replaced {
+        dot: Dot,
+        removed: Dots,
+    },
     /// These dots were removed, in dot order.
     Removed(Dots),
     /// A message was sent.
@@ -20,11 +25,11 @@ pub enum Answer {
     Absorbed,
     /// The node knew it all.
     Known,
-    /// What a node shows: which of its boots this is, and the winners of its children, by id.
+    /// What a node shows: which of its boots this is, and its members, children and names, each by key.
     Shown {
         node: NodeName,
         boot: u64,
-        children: Rows,
+        lines: Lines,
     },
     /// Nothing was done.
     Refused(Refusal),
@@ -75,36 +80,5 @@ impl Dots {
         ensures { result.now ≡ self.now }
     {
         &self.dots
-    }
-}
-
-/// Rows inside an answer. A contract sees them as a list.
-#[derive(Drop)]
-pub struct Rows {
-    rows: Vec<Row>,
-}
-
-impl Model for Rows {
-    ghost use Rattle.std.specs.Prelude.{List};
-    ghost use Rattle.sup_tables.specs.declared.row.Row.{Row};
-
-    ghost Value = { List Row };
-
-    ghost view = { λ r. r.rows.items };
-}
-
-impl Rows {
-    /// These rows.
-    pub fn new(rows: Vec<Row>) -> Rows
-        ensures { result ≡ rows.items }
-    {
-        Rows { rows }
-    }
-
-    /// The rows, in their order.
-    pub fn as_slice(&self) -> &[Row]
-        ensures { result.now ≡ self.now }
-    {
-        &self.rows
     }
 }

@@ -13,6 +13,16 @@ pub enum Refusal {
     AlreadyPresent,
     #[error("there is no such child")]
     NotFound,
+    #[error("the node is a member already")]
+    AlreadyMember,
+    #[error("there is no such member")]
+    NotMember,
+    #[error("the name is taken")]
+    NameTaken,
+    #[error("there is no such child to register")]
+    NoSuchChild,
+    #[error("there is no such name")]
+    NameUnknown,
     #[error("the node's dots are spent")]
     DotsSpent,
     #[error("there is nothing to send")]

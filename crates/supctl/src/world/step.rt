@@ -1,32 +1,16 @@
 //! Steps of a world.
-use sup_specs::{ChildId, ChildSpec, NodeName};
+use crate::world::command::Command;
+use sup_specs::NodeName;
 
 /// What a line of a script asks of a world.
 #[derive(Drop)]
 pub enum Step {
-    /// The node starts a child.
-    Start {
-        node: NodeName,
-        id: ChildId,
-        spec: ChildSpec,
-    },
-    /// The node deletes a child.
-    Delete {
-        node: NodeName,
-        id: ChildId,
-    },
+    /// The node is given a command.
+    Act { node: NodeName, command: Command },
     /// The node sends another one all that it knows.
-    Ship {
-        node: NodeName,
-        to: NodeName,
-    },
+    Ship { node: NodeName, to: NodeName },
     /// The message that a node sent as its k-th, k from 1, comes to its receiver.
-    Deliver {
-        from: NodeName,
-        k: u64,
-    },
-    /// The node shows its children. Nothing changes.
-    Show {
-        node: NodeName,
-    },
+    Deliver { from: NodeName, k: u64 },
+    /// The node shows its tables. Nothing changes.
+    Show { node: NodeName },
 }

@@ -1,44 +1,14 @@
-//! Children as texts.
+//! Specifications of children as texts.
 
-ghost use Rattle.std.specs.Prelude.{◌≡◌, IfOk, Some, string_bytes};
-ghost use Rattle.std.specs.List.{flat_map};
-ghost use Rattle.supctl.specs.Text.{restart_text, row_text, shutdown_text, spec_text};
+ghost use Rattle.std.specs.Prelude.{Some};
+ghost use Rattle.supctl.specs.Text.{restart_text, shutdown_text, spec_text};
 
-use crate::text::dot::DotText;
-use std::alloc::{AllocError, Global};
 use std::fmt;
 use sup_specs::{ChildSpec, Restart, Shutdown};
-use sup_tables::{Entry, Row};
-
-/// The lines of rows.
-pub fn rows_text(alloc: Global, rows: &[Row]) -> Result<String, AllocError>
-    ensures { IfOk result (λ s. string_bytes s ≡ flat_map row_text rows.now) }
-{
-    let mut text = String::new(alloc);
-    for row in rows {
-        let line = row_text(alloc, row)?;
-        text.push_str(line.as_str())?;
-    }
-    Ok(text)
-}
-
-fn row_text(alloc: Global, row: &Row) -> Result<String, AllocError>
-    ensures { IfOk result (λ s. string_bytes s ≡ row_text row.now) }
-{
-    match &row.entry {
-        Entry::Child(id, spec) => {
-            let id = id.as_str();
-            let dot = DotText(row.dot);
-            let spec = SpecText(spec);
-            format!(in alloc; "child {id} {dot} {spec} unplaced\n")
-        }
-        Entry::Member(_, _) | Entry::Name(_, _) => Ok(String::new(alloc)),
-    }
-}
 
 /// A specification, as `worker permanent 5000 arg=`.
 #[derive(Clone, Copy)]
-struct SpecText<'a>(&'a ChildSpec);
+pub struct SpecText<'a>(pub &'a ChildSpec);
 
 impl fmt::Display for SpecText<'_> {
     ghost output = { λ s. Some (spec_text s.0.now) };

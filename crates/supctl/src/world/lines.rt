@@ -1,0 +1,179 @@
+//! The lines of what tables show.
+ghost use Rattle.std.specs.Prelude.{◌≡◌, ◌++◌, IfOk, OnOk, flat_map, map};
+ghost use Rattle.sup_tables.specs.Rows.{members, children, names};
+ghost use Rattle.sup_tables.specs.Readers.{winners, losers};
+ghost use Rattle.sup_placement.specs.Place.{place};
+ghost use Rattle.supctl.specs.Shown.{lines, member_lines, child_lines, name_lines, eligible, on_or_unplaced, name_place};
+
+use crate::world::line::{Line, Place};
+use std::alloc::{AllocError, Global};
+use sup_placement::{Weigh, place};
+use sup_specs::{ChildId, Name, NodeName, Plain};
+use sup_tables::{Entry, Row, Tables};
+
+/// The lines of what tables show: of each table each key's winner, by key, and behind it the key's losers.
+pub fn lines_of<W: Weigh>(
+    alloc: Global,
+    tables: &Tables,
+    weigher: &W,
+) -> Result<Vec<Line>, AllocError>
+    ensures { IfOk result (λ found. found.items ≡ lines W.weight_of tables.now.rows) }
+{
+    let mut lines = Vec::new(alloc);
+    let members = eligible(alloc, tables)?;
+    push_members(alloc, &mut lines, tables)?;
+    push_children(alloc, &mut lines, tables, weigher, &members)?;
+    push_names(alloc, &mut lines, tables, weigher, &members)?;
+    Ok(lines)
+}
+
+// The members that children are placed on.
+fn eligible(alloc: Global, tables: &Tables) -> Result<Vec<NodeName>, AllocError>
+    ensures { IfOk result (λ found. found.items ≡ eligible tables.now.rows) }
+{
+    let winners = tables.members()?;
+    let mut names = Vec::new(alloc);
+    for winner in &winners {
+        names.push(*winner.key)?;
+    }
+    Ok(names)
+}
+
+fn push_members(alloc: Global, lines: &mut Vec<Line>, tables: &Tables) -> Result<(), AllocError>
+    ensures { OnOk result (lines.new.items ≡ lines.old.items ++ flat_map (member_lines tables.now.rows) (winners tables.now.rows members)) }
+{
+    let winners = tables.members()?;
+    for winner in &winners {
+        lines.push(Line::Member {
+            member: *winner.key,
+            dot: *winner.dot,
+            info: winner.value.try_clone(alloc)?,
+        })?;
+        push_member_losers(alloc, lines, tables, winner.key)?;
+    }
+    Ok(())
+}
+
+fn push_children<W: Weigh>(
+    alloc: Global,
+    lines: &mut Vec<Line>,
+    tables: &Tables,
+    weigher: &W,
+    eligible: &[NodeName],
+) -> Result<(), AllocError>
+    requires { eligible.now ≡ eligible tables.now.rows }
+    ensures { OnOk result (lines.new.items ≡ lines.old.items ++ flat_map (child_lines W.weight_of tables.now.rows) (winners tables.now.rows children)) }
+{
+    let winners = tables.children()?;
+    for winner in &winners {
+        lines.push(Line::Child {
+            id: winner.key.try_clone(alloc)?,
+            dot: *winner.dot,
+            spec: winner.value.try_clone(alloc)?,
+            place: child_place(weigher, eligible, winner.key),
+        })?;
+        push_child_losers(alloc, lines, tables, winner.key)?;
+    }
+    Ok(())
+}
+
+fn push_names<W: Weigh>(
+    alloc: Global,
+    lines: &mut Vec<Line>,
+    tables: &Tables,
+    weigher: &W,
+    eligible: &[NodeName],
+) -> Result<(), AllocError>
+    requires { eligible.now ≡ eligible tables.now.rows }
+    ensures { OnOk result (lines.new.items ≡ lines.old.items ++ flat_map (name_lines W.weight_of tables.now.rows) (winners tables.now.rows names)) }
+{
+    let winners = tables.names()?;
+    for winner in &winners {
+        lines.push(Line::Name {
+            name: winner.key.try_clone(alloc)?,
+            dot: *winner.dot,
+            id: winner.value.try_clone(alloc)?,
+            place: name_place(weigher, eligible, tables, winner.value),
+        })?;
+        push_name_losers(alloc, lines, tables, winner.key)?;
+    }
+    Ok(())
+}
+
+// Where a child is that is there.
+fn child_place<W: Weigh>(weigher: &W, eligible: &[NodeName], id: &ChildId) -> Place
+    ensures { result ≡ on_or_unplaced (place W.weight_of eligible.now id.now) }
+{
+    match place(weigher, eligible, id) {
+        Some(member) => Place::On(member),
+        None => Place::Unplaced,
+    }
+}
+
+// Where the child is that a name stands for.
+fn name_place<W: Weigh>(weigher: &W, eligible: &[NodeName], tables: &Tables, id: &ChildId) -> Place
+    requires { eligible.now ≡ eligible tables.now.rows }
+    ensures { result ≡ name_place W.weight_of tables.now.rows id.now }
+{
+    match tables.child(id) {
+        Some(_) => child_place(weigher, eligible, id),
+        None => Place::Gone,
+    }
+}
+
+fn push_member_losers(
+    alloc: Global,
+    lines: &mut Vec<Line>,
+    tables: &Tables,
+    member: &NodeName,
+) -> Result<(), AllocError>
+    ensures { OnOk result (lines.new.items ≡ lines.old.items ++ map Line.Loser (losers tables.now.rows members member.now)) }
+{
+    let losers = tables.member_losers(member)?;
+    for loser in &losers {
+        let entry = Entry::Member(*member, loser.value.try_clone(alloc)?);
+        lines.push(Line::Loser(Row {
+            dot: *loser.dot,
+            entry,
+        }))?;
+    }
+    Ok(())
+}
+
+fn push_child_losers(
+    alloc: Global,
+    lines: &mut Vec<Line>,
+    tables: &Tables,
+    id: &ChildId,
+) -> Result<(), AllocError>
+    ensures { OnOk result (lines.new.items ≡ lines.old.items ++ map Line.Loser (losers tables.now.rows children id.now)) }
+{
+    let losers = tables.child_losers(id)?;
+    for loser in &losers {
+        let entry = Entry::Child(id.try_clone(alloc)?, loser.value.try_clone(alloc)?);
+        lines.push(Line::Loser(Row {
+            dot: *loser.dot,
+            entry,
+        }))?;
+    }
+    Ok(())
+}
+
+fn push_name_losers(
+    alloc: Global,
+    lines: &mut Vec<Line>,
+    tables: &Tables,
+    name: &Name,
+) -> Result<(), AllocError>
+    ensures { OnOk result (lines.new.items ≡ lines.old.items ++ map Line.Loser (losers tables.now.rows names name.now)) }
+{
+    let losers = tables.name_losers(name)?;
+    for loser in &losers {
+        let entry = Entry::Name(name.try_clone(alloc)?, loser.value.try_clone(alloc)?);
+        lines.push(Line::Loser(Row {
+            dot: *loser.dot,
+            entry,
+        }))?;
+    }
+    Ok(())
+}
