@@ -5,7 +5,6 @@ ghost use Rattle.std.specs.List.{flat_map};
 ghost use Rattle.supctl.specs.Text.{key_text, line_text, place_text};
 
 use crate::text::dot::DotText;
-use crate::text::node_name::node_name_text;
 use crate::text::spec::SpecText;
 use crate::world::{Line, Place};
 use std::alloc::{AllocError, Global};
@@ -35,7 +34,7 @@ impl fmt::Display for LineText<'_> {
     fn fmt<W: fmt::Write>(&self, f: &mut fmt::Formatter<W>) -> fmt::Result {
         match self.0 {
             Line::Member { member, dot, info } => {
-                let member = node_name_text(member);
+                let member = member.as_str();
                 let dot = DotText(*dot);
                 let label = info.label.as_str();
                 write!(f, "member {member} {dot} label={label}\n")
@@ -83,7 +82,7 @@ impl fmt::Display for PlaceText {
     fn fmt<W: fmt::Write>(&self, f: &mut fmt::Formatter<W>) -> fmt::Result {
         match self.0 {
             Place::On(member) => {
-                let member = node_name_text(&member);
+                let member = member.as_str();
                 write!(f, "on {member}")
             }
             Place::Unplaced => write!(f, "unplaced"),
@@ -102,7 +101,7 @@ impl fmt::Display for KeyText<'_> {
     fn fmt<W: fmt::Write>(&self, f: &mut fmt::Formatter<W>) -> fmt::Result {
         match self.0 {
             Entry::Member(member, _) => {
-                let member = node_name_text(member);
+                let member = member.as_str();
                 write!(f, "member {member}")
             }
             Entry::Child(id, _) => {
