@@ -21,10 +21,10 @@ pub fn lines_of<W: Weigh>(
     ensures { IfOk result (λ found. found.items ≡ lines W.weight_of tables.now.rows) }
 {
     let mut lines = Vec::new(alloc);
-    let members = eligible(alloc, tables)?;
+    let hosts = eligible(alloc, tables)?;
     push_members(alloc, &mut lines, tables)?;
-    push_children(alloc, &mut lines, tables, weigher, &members)?;
-    push_names(alloc, &mut lines, tables, weigher, &members)?;
+    push_children(alloc, &mut lines, tables, weigher, &hosts)?;
+    push_names(alloc, &mut lines, tables, weigher, &hosts)?;
     Ok(lines)
 }
 
@@ -73,14 +73,14 @@ fn push_children<W: Weigh>(
     lines: &mut Vec<Line>,
     tables: &Tables,
     weigher: &W,
-    eligible: &[NodeName],
+    hosts: &[NodeName],
 ) -> Result<(), AllocError>
-    requires { eligible.now ≡ eligible tables.now.rows }
+    requires { hosts.now ≡ eligible tables.now.rows }
     ensures { OnOk result (lines.new.items ≡ lines.old.items ++ flat_map (child_lines W.weight_of tables.now.rows) (winners tables.now.rows children)) }
 {
     let winners = tables.children()?;
     for winner in &winners {
-        let place = child_place(weigher, eligible, winner.key);
+        let place = child_place(weigher, hosts, winner.key);
         push_child(alloc, lines, tables, winner, place)?;
     }
     Ok(())
@@ -113,14 +113,14 @@ fn push_names<W: Weigh>(
     lines: &mut Vec<Line>,
     tables: &Tables,
     weigher: &W,
-    eligible: &[NodeName],
+    hosts: &[NodeName],
 ) -> Result<(), AllocError>
-    requires { eligible.now ≡ eligible tables.now.rows }
+    requires { hosts.now ≡ eligible tables.now.rows }
     ensures { OnOk result (lines.new.items ≡ lines.old.items ++ flat_map (name_lines W.weight_of tables.now.rows) (winners tables.now.rows names)) }
 {
     let winners = tables.names()?;
     for winner in &winners {
-        let place = name_place(weigher, eligible, tables, winner.value);
+        let place = name_place(weigher, hosts, tables, winner.value);
         push_name(alloc, lines, tables, winner, place)?;
     }
     Ok(())
@@ -167,22 +167,22 @@ fn push_losers<V>(
 }
 
 // Where a child is that is there.
-fn child_place<W: Weigh>(weigher: &W, eligible: &[NodeName], id: &ChildId) -> Place
-    ensures { result ≡ on_or_unplaced (place W.weight_of eligible.now id.now) }
+fn child_place<W: Weigh>(weigher: &W, hosts: &[NodeName], id: &ChildId) -> Place
+    ensures { result ≡ on_or_unplaced (place W.weight_of hosts.now id.now) }
 {
-    match place(weigher, eligible, id) {
+    match place(weigher, hosts, id) {
         Some(member) => Place::On(member),
         None => Place::Unplaced,
     }
 }
 
 // Where the child is that a name stands for.
-fn name_place<W: Weigh>(weigher: &W, eligible: &[NodeName], tables: &Tables, id: &ChildId) -> Place
-    requires { eligible.now ≡ eligible tables.now.rows }
+fn name_place<W: Weigh>(weigher: &W, hosts: &[NodeName], tables: &Tables, id: &ChildId) -> Place
+    requires { hosts.now ≡ eligible tables.now.rows }
     ensures { result ≡ name_place W.weight_of tables.now.rows id.now }
 {
     match tables.child(id) {
-        Some(_) => child_place(weigher, eligible, id),
+        Some(_) => child_place(weigher, hosts, id),
         None => Place::Gone,
     }
 }
