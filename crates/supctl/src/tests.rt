@@ -3,6 +3,7 @@
 mod devices;
 mod first_path;
 mod rows;
+mod tables;
 mod texts;
 mod usage;
 
