@@ -2,19 +2,20 @@
 use Rattle.std.proofs.Common.{ℕ, List, Some, None, inl}
 use Rattle.std.specs.Prelude.{Err}
 use Rattle.std.proofs.KnownBytes.{Keeps-refl}
+use Rattle.sup_placement.specs.Place.{Weigher}
 use Rattle.supctl.specs.declared.fault.Fault.{Fault}
 use Rattle.supctl.specs.declared.fault.Fault.TheVariants.{BadLine, BadInput, Device, OutOfMemory}
 use Rattle.supctl.specs.Faults.{IsOutside}
 use Rattle.supctl.specs.Run.{Bytes, Ends, Simulates, Stops, WantsMemory}
 
 -- a run that was refused memory at once has written nothing, whatever its input is
-pub unstarted : (input before errors_before errors_written : Bytes) (status : ℕ) → WantsMemory errors_before errors_written status → Simulates input before before errors_before errors_written status
-unstarted None before errors_before errors_written status h = (Err OutOfMemory, h.1.0, h.0, h.1.1, tt)
-unstarted (Some bytes) before errors_before errors_written status h = (Err OutOfMemory, h.1.0, h.0, h.1.1, inl (Keeps-refl before))
+pub unstarted : (weight : Weigher) (input before errors_before errors_written : Bytes) (status : ℕ) → WantsMemory errors_before errors_written status → Simulates weight input before before errors_before errors_written status
+unstarted weight None before errors_before errors_written status h = (Err OutOfMemory, h.1.0, h.0, h.1.1, tt)
+unstarted weight (Some bytes) before errors_before errors_written status h = (Err OutOfMemory, h.1.0, h.0, h.1.1, inl (Keeps-refl before))
 
 -- a run that the device or memory ended
-pub stopped : (X : Type 0) (fault : Fault) (input : List ℕ) (before written : Bytes) → IsOutside fault → Stops input before written → Ends {X = X} input before written (Err fault)
-stopped X (BadLine number) input before written out h = absurd out
-stopped X BadInput input before written out h = absurd out
-stopped X Device input before written out h = h
-stopped X OutOfMemory input before written out h = h
+pub stopped : (X : Type 0) (weight : Weigher) (fault : Fault) (input : List ℕ) (before written : Bytes) → IsOutside fault → Stops weight input before written → Ends {X = X} weight input before written (Err fault)
+stopped X weight (BadLine number) input before written out h = absurd out
+stopped X weight BadInput input before written out h = absurd out
+stopped X weight Device input before written out h = h
+stopped X weight OutOfMemory input before written out h = h

@@ -13,6 +13,7 @@ use Rattle.sup_tables.specs.Readers.{entries, winners}
 use Rattle.sup_tables.proofs.OperationLaws.{known_same, live_same}
 use Rattle.sup_tables.proofs.AddLaws.{same_row, row_itself, has_live}
 use Rattle.sup_tables.proofs.PointLaws.{text_itself}
+use Rattle.supctl.specs.Shown.{child_place}
 use Rattle.supctl.specs.Headline.{SameAgree, AddsStay}
 
 pub same_agree : SameAgree
@@ -22,6 +23,7 @@ same_agree a b same =
       dots = known_same a.operations b.operations same;
       entries = λ table key. ap (λ r. entries r table key) rows;
       winners = λ table. ap (λ r. winners r table) rows;
+      places = λ weight id. ap (λ r. child_place weight r id) rows;
     }
 
 contains-among : (rows : List Row) (r : Row) → among row_cmp rows r ≡ true → Contains rows r

@@ -5,11 +5,13 @@ use Rattle.sup_specs.specs.declared.child.ChildSpec.{ChildSpec}
 use Rattle.sup_specs.specs.declared.child.Restart.TheVariants.{Permanent}
 use Rattle.sup_specs.specs.declared.child.Shutdown.TheVariants.{Millis}
 use Rattle.sup_causal.specs.declared.dot.Dot.{Dot}
-use Rattle.sup_tables.specs.declared.row.Row.{Row}
-use Rattle.sup_tables.specs.declared.row.Entry.TheVariants.{Child}
+use Rattle.sup_tables.specs.declared.row.Entry.TheVariants as entry
+use Rattle.sup_placement.specs.Place.{Weigher}
 use Rattle.supctl.specs.declared.world.answer.Answer.{Answer}
 use Rattle.supctl.specs.declared.world.answer.Answer.TheVariants.{Sent, Shown}
 use Rattle.supctl.specs.declared.world.answer.LetterKind.TheVariants.{Whole}
+use Rattle.supctl.specs.declared.world.line.Line.{Line}
+use Rattle.supctl.specs.declared.world.line.Line.TheVariants.{Loser}
 use Rattle.supctl.specs.declared.world.step.Step.{Step}
 use Rattle.supctl.specs.Steps.{step}
 use Rattle.supctl.specs.Worlds.{World, new_world}
@@ -21,30 +23,45 @@ a = codes "a"
 abbrev pub b : Bytes
 b = codes "b"
 
+-- a child, and a name that stands for it
 abbrev pub x : Bytes
 x = codes "x"
 
--- what a start without options starts
+abbrev pub n : Bytes
+n = codes "n"
+
+abbrev pub web : Bytes
+web = codes "web"
+
+abbrev pub www : Bytes
+www = codes "www"
+
+-- what a start with no option but a kind starts
+abbrev pub of_kind : Bytes → ChildSpec
+of_kind kind = record { kind = kind; arg = []; restart = Permanent; shutdown = Millis 5000 }
+
+-- and with none
 abbrev pub sp : ChildSpec
-sp = record { kind = codes "worker"; arg = []; restart = Permanent; shutdown = Millis 5000 }
+sp = of_kind (codes "worker")
 
 abbrev pub dot : Bytes → ℕ → Dot
 dot node n = record { counter = n; node = node }
 
-abbrev pub child : Bytes → Dot → Row
-child id dot = record { dot = dot; entry = Child id sp }
+-- an entry of a name that didn't win
+abbrev pub lost_name : Bytes → Dot → Bytes → Line
+lost_name name dot id = Loser (record { dot = dot; entry = entry.Name name id })
 
 -- the k-th message of a node, with all that it knew at count n
 abbrev pub sent : Bytes → ℕ → Bytes → ℕ → Answer
 sent from k to n = Sent (record { from = from; k = k; to = to; kind = Whole n })
 
-abbrev pub shown : Bytes → List Row → Answer
-shown node children = Shown node 1 children
+abbrev pub shown : Bytes → List Line → Answer
+shown node lines = Shown node 1 lines
 
 -- what the model answers to steps, one after another
-abbrev pub answers : World → List Step → List Answer
-answers w [] = []
-answers w (s ∷ steps) = answer_of (step w s) ∷ answers (world_after w (step w s)) steps
+abbrev pub answers : Weigher → World → List Step → List Answer
+answers weight w [] = []
+answers weight w (s ∷ steps) = answer_of (step weight w s) ∷ answers weight (world_after w (step weight w s)) steps
 
-abbrev pub answers_among : List Bytes → List Step → List Answer
-answers_among names steps = answers (new_world names) steps
+abbrev pub answers_among : Weigher → List Bytes → List Step → List Answer
+answers_among weight names steps = answers weight (new_world names) steps

@@ -7,12 +7,13 @@ use Rattle.std.proofs.lemmas.List.Elements.{All-cons, All-nil}
 use Rattle.sup_specs.specs.Values.{Bytes}
 use Rattle.sup_causal.specs.declared.dot.Dot.{Dot}
 use Rattle.sup_tables.specs.declared.row.Row.{Row}
+use Rattle.sup_placement.specs.Place.{Weigher}
 use Rattle.supctl.specs.declared.world.answer.Answer.{Answer}
 use Rattle.supctl.specs.declared.world.answer.Answer.TheVariants.{Refused}
 use Rattle.supctl.specs.declared.world.refusal.Refusal.{Refusal}
 use Rattle.supctl.specs.declared.world.refusal.Refusal.TheVariants.{OutOfMemory}
 use Rattle.supctl.specs.declared.world.step.Step.{Step}
-use Rattle.supctl.specs.Worlds.{Site, World, new_world, new_site, with_site}
+use Rattle.supctl.specs.Worlds.{Site, World, new_world, new_site, site_of, with_site}
 use Rattle.supctl.specs.Steps.{Stepped, step}
 use Rattle.supctl.specs.Runs.{answer_of, world_after, Allows, Run, dots_of, new_dots}
 use Rattle.supctl.specs.Sound.{own, everything, HasRow, Sound}
@@ -20,19 +21,20 @@ use Rattle.supctl.specs.Headline.{NoDotTwice}
 use Rattle.supctl.proofs.Afters.{After}
 use Rattle.supctl.proofs.RowSets.{no-row, some_same, none_some}
 use Rattle.supctl.proofs.Growth.{Grows, stays, new_there, new_is_new, sound_after}
-use Rattle.supctl.proofs.StepGrowth.{dots_in, ActsAt, StepAt, step_acts}
+use Rattle.supctl.proofs.ActGrowth.{dots_in}
+use Rattle.supctl.proofs.StepGrowth.{StepAt, step_acts}
 
 -- a step keeps the world sound
 stepped_sound : (w : World) → Sound w → (r : Result Stepped Refusal) → After (StepAt w) r → Sound (world_after w r)
 stepped_sound w sound (Ok x) a = subst Sound (sym a.world) (sound_after w a.site a.outcome.site a.acts.new a.found a.acts.grows sound)
 stepped_sound w sound (Err r) a = sound
 
-pub step_sound : (w : World) (s : Step) → Sound w → Sound (world_after w (step w s))
-step_sound w s sound = stepped_sound w sound (step w s) (step_acts w s)
+pub step_sound : (weight : Weigher) (w : World) (s : Step) → Sound w → Sound (world_after w (step weight w s))
+step_sound weight w s sound = stepped_sound w sound (step weight w s) (step_acts weight w s)
 
-pub allowed_sound : (w : World) (s : Step) (answer : Answer) (w' : World) → Allows w s answer w' → Sound w → Sound w'
-allowed_sound w s answer w' (inl h) sound = subst Sound (sym h.1) (step_sound w s sound)
-allowed_sound w s answer w' (inr h) sound = subst Sound (sym h.2) sound
+pub allowed_sound : (weight : Weigher) (w : World) (s : Step) (answer : Answer) (w' : World) → Allows weight w s answer w' → Sound w → Sound w'
+allowed_sound weight w s answer w' (inl h) sound = subst Sound (sym h.1) (step_sound weight w s sound)
+allowed_sound weight w s answer w' (inr h) sound = subst Sound (sym h.2) sound
 
 no_rows : (names : List Bytes) (r : Row) → HasRow (everything (map new_site names)) r → ⊥
 no_rows [] r h = no-row r h
@@ -51,7 +53,7 @@ no_pairs i j d h g = absurd (none j g) where
   none : (j : ℕ) → j < 0 → ⊥
   none j g = omega (arith, g)
 
-acted_apart : (w : World) → Sound w → (s t : Site) (new : Option Row) → Rattle.supctl.specs.Worlds.site_of w s.name ≡ Some s → Grows w s t new → (rest : List Dot) → Apart (with_site w t) rest → Apart w (dots_in new ++ rest)
+acted_apart : (w : World) → Sound w → (s t : Site) (new : Option Row) → site_of w s.name ≡ Some s → Grows w s t new → (rest : List Dot) → Apart (with_site w t) rest → Apart w (dots_in new ++ rest)
 acted_apart w sound s t None found g rest a = record { later = λ r h. a.later r (stays w s t None found g r h); pairs = a.pairs }
 acted_apart w sound s t (Some x) found g rest a = record {
   later = λ r h. All-cons (λ d. r.dot ≢ d) x.dot rest (λ e. new_is_new w s t (Some x) found g sound x r refl h e) (a.later r (stays w s t (Some x) found g r h));
@@ -65,18 +67,18 @@ stepped_apart w sound (Ok x) a rest apart =
     let is : dots_of x.answer ≡ dots_in a.acts.new = ap dots_of a.answer ∙ a.acts.dots in
     subst (λ dots. Apart w (dots ++ rest)) (sym is) acted
 
-allowed_apart : (w : World) → Sound w → (s : Step) (answer : Answer) (w' : World) → Allows w s answer w' → (rest : List Dot) → Apart w' rest → Apart w (dots_of answer ++ rest)
-allowed_apart w sound s answer w' (inl h) rest apart =
-    subst (λ x. Apart w (dots_of x ++ rest)) (sym h.0) (stepped_apart w sound (step w s) (step_acts w s) rest (subst (λ v. Apart v rest) h.1 apart))
-allowed_apart w sound s answer w' (inr h) rest apart =
+allowed_apart : (weight : Weigher) (w : World) → Sound w → (s : Step) (answer : Answer) (w' : World) → Allows weight w s answer w' → (rest : List Dot) → Apart w' rest → Apart w (dots_of answer ++ rest)
+allowed_apart weight w sound s answer w' (inl h) rest apart =
+    subst (λ x. Apart w (dots_of x ++ rest)) (sym h.0) (stepped_apart w sound (step weight w s) (step_acts weight w s) rest (subst (λ v. Apart v rest) h.1 apart))
+allowed_apart weight w sound s answer w' (inr h) rest apart =
     subst (λ x. Apart w (dots_of x ++ rest)) (sym h.1) (subst (λ v. Apart v rest) h.2 apart)
 
-run_apart : (w : World) (steps : List Step) (answers : List Answer) (w' : World) → Sound w → Run w steps answers w' → Apart w (new_dots answers)
-run_apart w [] [] w' sound run = record { later = λ r h. All-nil (λ d. r.dot ≢ d); pairs = no_pairs }
-run_apart w (s ∷ steps) (answer ∷ rest) w' sound run =
-    allowed_apart w sound s answer run.0 run.1 (new_dots rest) (run_apart run.0 steps rest w' (allowed_sound w s answer run.0 run.1 sound) run.2)
-run_apart w [] (answer ∷ rest) w' sound run = absurd run
-run_apart w (s ∷ steps) [] w' sound run = absurd run
+run_apart : (weight : Weigher) (w : World) (steps : List Step) (answers : List Answer) (w' : World) → Sound w → Run weight w steps answers w' → Apart w (new_dots answers)
+run_apart weight w [] [] w' sound run = record { later = λ r h. All-nil (λ d. r.dot ≢ d); pairs = no_pairs }
+run_apart weight w (s ∷ steps) (answer ∷ rest) w' sound run =
+    allowed_apart weight w sound s answer run.0 run.1 (new_dots rest) (run_apart weight run.0 steps rest w' (allowed_sound weight w s answer run.0 run.1 sound) run.2)
+run_apart weight w [] (answer ∷ rest) w' sound run = absurd run
+run_apart weight w (s ∷ steps) [] w' sound run = absurd run
 
 pub no_dot_twice : NoDotTwice
-no_dot_twice names steps answers w run = (run_apart (new_world names) steps answers w (new_sound names) run).pairs
+no_dot_twice weight names steps answers w run = (run_apart weight (new_world names) steps answers w (new_sound names) run).pairs

@@ -1,16 +1,16 @@
 -- What an act leaves as it was: the messages that the node sent, or, at a ship, all else.
 use Rattle.std.specs.Prelude.{◌≡◌, ℕ, Bool, true, false, not, List, [], ◌∷◌, is_some, Result, Ok, Err, refl}
 use Rattle.sup_specs.specs.Values.{Bytes}
-use Rattle.sup_specs.specs.declared.child.ChildSpec.{ChildSpec}
 use Rattle.sup_tables.specs.Operations.{Operation, covers}
 use Rattle.supctl.specs.declared.world.answer.Answer.{Answer}
-use Rattle.supctl.specs.declared.world.answer.Answer.TheVariants.{Added, Removed, Absorbed}
+use Rattle.supctl.specs.declared.world.answer.Answer.TheVariants.{Absorbed}
+use Rattle.supctl.specs.declared.world.command.Command.{Command}
 use Rattle.supctl.specs.declared.world.refusal.Refusal.{Refusal}
 use Rattle.supctl.specs.declared.world.refusal.Refusal.TheVariants.{UnknownNode}
 use Rattle.supctl.specs.Checks.{refused_if, then_do}
 use Rattle.supctl.specs.Worlds.{Message, Site, World, site_of}
-use Rattle.supctl.specs.Commands.{reading, next, start, delete}
-use Rattle.supctl.specs.Steps.{Outcome, may_change, changed, changes, start_at, delete_at, posts, shipment, ship_at, ship_in, takes_in, deliver_at, show_at}
+use Rattle.supctl.specs.Commands.{reading, next, may, operation, reply}
+use Rattle.supctl.specs.Steps.{Outcome, may_change, changed, changes, command_at, posts, shipment, ship_at, ship_in, takes_in, deliver_at}
 use Rattle.supctl.proofs.Afters.{After, after-refused_if, after-then_do, after-checked, after-any}
 
 abbrev pub IsSilent : Site → Outcome → Type 0
@@ -21,13 +21,12 @@ changes_silent s more answer =
     let ok : Result Outcome Refusal = Ok (record { answer = answer; site = changed s more }) in
     after-checked (IsSilent s) (may_change s.count) ok refl
 
-pub start_silent : (id : Bytes) (spec : ChildSpec) (s : Site) → After (IsSilent s) (start_at s id spec)
-start_silent id spec s =
-    after-then_do (λ _. Unit {0}) (IsSilent s) (start (reading s) id spec) (λ op. changes s (op ∷ []) (Added (next (reading s)))) (after-any (start (reading s) id spec)) (λ op _. changes_silent s (op ∷ []) (Added (next (reading s))))
-
-pub delete_silent : (id : Bytes) (s : Site) → After (IsSilent s) (delete_at s id)
-delete_silent id s =
-    after-then_do (λ _. Unit {0}) (IsSilent s) (delete (reading s) id) (λ op. changes s (op ∷ []) (Removed op.removes)) (after-any (delete (reading s) id)) (λ op _. changes_silent s (op ∷ []) (Removed op.removes))
+pub command_silent : (c : Command) (s : Site) → After (IsSilent s) (command_at s c)
+command_silent c s =
+    let r = reading s in
+    let more = operation r c ∷ [] in
+    let answer = reply c (next r) (operation r c).removes in
+    after-checked (IsSilent s) (may r c) (changes s more answer) (changes_silent s more answer)
 
 takes_in_silent : (s : Site) (more : List Operation) (b : Bool) → After (IsSilent s) (takes_in s more b)
 takes_in_silent s more true = refl
@@ -35,9 +34,6 @@ takes_in_silent s more false = changes_silent s more Absorbed
 
 pub deliver_silent : (m : Message) (s : Site) → After (IsSilent s) (deliver_at s m)
 deliver_silent m s = takes_in_silent s m.operations (covers s.operations m.operations)
-
-pub show_silent : (s : Site) → After (IsSilent s) (show_at s)
-show_silent s = refl
 
 pub record IsStill (s : Site) (o : Outcome) : Type 0 where
   pub operations : o.site.operations ≡ s.operations

@@ -5,6 +5,7 @@ use Rattle.std.proofs.Common.{sym, ap, ◌∙◌, subst, arith}
 use mathlib.Core.Logic.{inl, inr}
 use Rattle.std.proofs.lemmas.List.{take_more, take_all, take-append-le}
 use Rattle.sup_specs.specs.Values.{Bytes}
+use Rattle.sup_placement.specs.Place.{Weigher}
 use Rattle.supctl.specs.declared.world.answer.Answer.{Answer}
 use Rattle.supctl.specs.declared.world.answer.Answer.TheVariants.{Refused}
 use Rattle.supctl.specs.declared.world.node.Node.{Node}
@@ -16,6 +17,9 @@ use Rattle.supctl.specs.Worlds.{Site, World, new_site, new_world}
 use Rattle.supctl.specs.Steps.{Stepped, step}
 use Rattle.supctl.specs.Runs.{Allows, answer_of, world_after}
 use Rattle.supctl.specs.Stands.{AllStand, WorldBecomes, Gives}
+use Rattle.supctl.proofs.Afters.{After}
+use Rattle.supctl.proofs.ActGrowth.{IsNoRefusal}
+use Rattle.supctl.proofs.StepGrowth.{StepAt, step_acts}
 use Rattle.supctl.proofs.PostLaws.{zip_push}
 
 map_more : {A B : Type 0} (f : A → B) (xs : List A) (x : A) → map f (xs ++ x ∷ []) ≡ map f xs ++ f x ∷ []
@@ -34,18 +38,28 @@ pub all_sites : {X : Type 0} (R : X → Site → Type 0) (names : List Bytes) (i
 all_sites R names i xs le h = subst (λ (ns : List Bytes). AllZip R xs (map new_site ns)) (take_all i names le) h
 
 -- an answer is what the model allows
-pub ok_allows : (model : World) (s : Step) (nodes : List Node) (outboxes : List Outbox) (answer : Answer) (expected : Result Stepped Refusal) → expected ≡ step model s → Gives (WorldBecomes nodes outboxes) expected (Ok answer)
-    → (after : World) × Allows model s answer after × AllStand nodes outboxes after
-ok_allows model s nodes outboxes answer (Ok x) is b = (x.world, inl (b.answers ∙ ap answer_of is, ap (world_after model) is), b.stand)
-ok_allows model s nodes outboxes answer (Err r) is g = absurd g
+pub ok_allows : (weight : Weigher) (model : World) (s : Step) (nodes : List Node) (outboxes : List Outbox) (answer : Answer) (expected : Result Stepped Refusal) → expected ≡ step weight model s → Gives (WorldBecomes nodes outboxes) expected (Ok answer)
+    → (after : World) × Allows weight model s answer after × AllStand nodes outboxes after
+ok_allows weight model s nodes outboxes answer (Ok x) is b = (x.world, inl (b.answers ∙ ap answer_of is, ap (world_after model) is), b.stand)
+ok_allows weight model s nodes outboxes answer (Err r) is g = absurd g
+
+-- it is none of a refused step
+pub made_answer : (weight : Weigher) (model : World) (s : Step) (nodes : List Node) (outboxes : List Outbox) (answer : Answer) → Gives (WorldBecomes nodes outboxes) (step weight model s) (Ok answer) → IsNoRefusal answer
+made_answer weight model s nodes outboxes answer g = made_by (step weight model s) (step_acts weight model s) g where
+  made_by : (expected : Result Stepped Refusal) → After (StepAt model) expected → Gives (WorldBecomes nodes outboxes) expected (Ok answer) → IsNoRefusal answer
+  made_by (Ok x) a b = subst IsNoRefusal (sym (b.answers ∙ a.answer)) a.acts.made
+  made_by (Err r) a g = absurd g
+
+pub no_refusal : (answer : Answer) (refusal : Refusal) → IsNoRefusal answer → answer ≡ Refused refusal → ⊥
+no_refusal answer refusal made is = subst IsNoRefusal is made
 
 -- and so is a refusal that changes nothing
-pub err_allows : (model : World) (s : Step) (nodes old_nodes : List Node) (outboxes old_outboxes : List Outbox) (refusal : Refusal) (expected : Result Stepped Refusal) → expected ≡ step model s → Gives (WorldBecomes nodes outboxes) expected (Err refusal)
-    → nodes ≡ old_nodes → outboxes ≡ old_outboxes → AllStand old_nodes old_outboxes model → (after : World) × Allows model s (Refused refusal) after × AllStand nodes outboxes after
-err_allows model s nodes old_nodes outboxes old_outboxes refusal (Ok x) is g same kept stand =
-    let ok : IsOk (step model s) = subst IsOk is refl in
+pub err_allows : (weight : Weigher) (model : World) (s : Step) (nodes old_nodes : List Node) (outboxes old_outboxes : List Outbox) (refusal : Refusal) (expected : Result Stepped Refusal) → expected ≡ step weight model s → Gives (WorldBecomes nodes outboxes) expected (Err refusal)
+    → nodes ≡ old_nodes → outboxes ≡ old_outboxes → AllStand old_nodes old_outboxes model → (after : World) × Allows weight model s (Refused refusal) after × AllStand nodes outboxes after
+err_allows weight model s nodes old_nodes outboxes old_outboxes refusal (Ok x) is g same kept stand =
+    let ok : IsOk (step weight model s) = subst IsOk is refl in
     (model, inr (ok, ap Refused g, refl), subst (λ (n : List Node). AllStand n outboxes model) (sym same) (subst (λ (o : List Outbox). AllStand old_nodes o model) (sym kept) stand))
-err_allows model s nodes old_nodes outboxes old_outboxes refusal (Err r) is g same kept stand =
+err_allows weight model s nodes old_nodes outboxes old_outboxes refusal (Err r) is g same kept stand =
     (model, inl (ap Refused g ∙ ap answer_of is, ap (world_after model) is), subst (λ (n : List Node). AllStand n outboxes model) (sym same) (subst (λ (o : List Outbox). AllStand old_nodes o model) (sym kept) stand))
 
 -- what was lent comes back whole
@@ -55,7 +69,7 @@ lent_back len new old e f =
     let all : length new ≤ len = omega (arith, e, f) in
     take-append-le len new (drop (length new) old) le ∙ take_all len new all
 
-pub came_back : (model : World) (s : Step) (answer : Answer) (nodes real_nodes : List Node) (outboxes real_outboxes : List Outbox) → nodes ≡ real_nodes → outboxes ≡ real_outboxes
-    → (after : World) × Allows model s answer after × AllStand nodes outboxes after → (after : World) × Allows model s answer after × AllStand real_nodes real_outboxes after
-came_back model s answer nodes real_nodes outboxes real_outboxes e f h =
+pub came_back : (weight : Weigher) (model : World) (s : Step) (answer : Answer) (nodes real_nodes : List Node) (outboxes real_outboxes : List Outbox) → nodes ≡ real_nodes → outboxes ≡ real_outboxes
+    → (after : World) × Allows weight model s answer after × AllStand nodes outboxes after → (after : World) × Allows weight model s answer after × AllStand real_nodes real_outboxes after
+came_back weight model s answer nodes real_nodes outboxes real_outboxes e f h =
     (h.0, h.1, subst (λ (n : List Node). AllStand n real_outboxes h.0) e (subst (λ (o : List Outbox). AllStand nodes o h.0) f h.2))

@@ -47,6 +47,11 @@ WorldStandsFor real model = AllStand real.nodes.items real.outboxes.items model
 abbrev pub Follows : Weigher → World → Step → Answer → Real → Type 0
 Follows weight model step answer real = (after : World) × Allows weight model step answer after × WorldStandsFor real after
 
+-- the nodes and what they sent are as they were
+pub record IsAsBefore (old new : Real) : Type 0 where
+  pub nodes : new.nodes.items ≡ old.nodes.items
+  pub outboxes : new.outboxes.items ≡ old.outboxes.items
+
 -- The result is what is expected: the same refusal; else what R says, or out of memory in its place.
 abbrev pub Gives : {A B : Type 0} → (A → B → Type 0) → Result B Refusal → Result A Refusal → Type 0
 Gives R (Ok b) (Ok a) = R a b

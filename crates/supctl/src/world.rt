@@ -3,7 +3,7 @@ ghost use Rattle.std.specs.Prelude.{◌≡◌, length, map, IfOk, OnErr};
 ghost use Rattle.std.specs.List.{AllZip};
 ghost use Rattle.supctl.specs.Worlds.{World as Model, new_site, new_world};
 ghost use Rattle.supctl.specs.Steps.{step as model_step};
-ghost use Rattle.supctl.specs.Stands.{NodeStandsFor, OutboxStandsFor, AllStand, WorldStandsFor, WorldBecomes, Gives, Follows};
+ghost use Rattle.supctl.specs.Stands.{NodeStandsFor, OutboxStandsFor, AllStand, WorldStandsFor, WorldBecomes, Gives, Follows, IsAsBefore};
 
 mod acts;
 pub mod answer;
@@ -43,7 +43,8 @@ impl World {
     /// the answer, and this world then stands for a world that the model allows after it. A refused step changes nothing;
     /// `OutOfMemory` comes only where a growth was refused, in place of an answer that is no refusal.
     pub fn step<W: Weigh>(&mut self, alloc: Global, step: &Step, weigher: &W) -> Answer
-        ensures { (model : Model) → WorldStandsFor self.old model → Follows W.weight_of model step.now result self.new }
+        ensures follows { (model : Model) → WorldStandsFor self.old model → Follows W.weight_of model step.now result self.new }
+        ensures refused { (model : Model) (refusal : Refusal) → WorldStandsFor self.old model → result ≡ Answer.Refused refusal → IsAsBefore self.old self.new }
     {
         match act(alloc, &mut self.nodes, &mut self.outboxes, step, weigher) {
             Ok(answer) => answer,

@@ -6,4 +6,4 @@ use Rattle.supctl.proofs.run.play.Given as goal
 
 abbrev pub invariant-loop-step : goal.invariant-loop-step
 invariant-loop-step g l =
-    (model : World) → WorldStandsFor l.fn.world model → PlaysTo model (take l.step-index l.steps) l.world (g.W.Write.contents l.fn.writer) (g.W.Write.contents l.writer)
+    (model : World) → WorldStandsFor l.fn.world model → PlaysTo g.G.Weigh.weight_of model (take l.step-index l.steps) l.world (g.W.Write.contents l.fn.writer) (g.W.Write.contents l.writer)

@@ -3,8 +3,10 @@ use Rattle.supctl.specs.Steps.{deliver_at, at_node}
 use Rattle.supctl.specs.Stands.{WorldBecomes}
 use Rattle.supctl.specs.Worlds.{Site}
 use Rattle.supctl.specs.declared.world.refusal.Refusal.TheVariants.{UnknownNode}
-use Rattle.supctl.proofs.ActLaws.{place_in, unknown_node, acts, clear_with, refused_gives}
-use Rattle.supctl.proofs.StepGrowth.{deliver_acts}
+use Rattle.supctl.proofs.ActLaws.{unknown_node, acts}
+use Rattle.supctl.proofs.Here.{place_in, here, clear_with}
+use Rattle.supctl.proofs.NodeActs.{deliver_acts}
+use Rattle.supctl.proofs.Refusals.{refused_gives}
 use Rattle.supctl.proofs.Silence.{deliver_silent}
 use Rattle.supctl.proofs.world.acts.arrive.Goals as goal
 
@@ -19,7 +21,8 @@ returns-in_err-place-clause-gives c model outboxes m stand stands known =
 pub returns-clause-gives : goal.returns-clause-gives
 returns-clause-gives c model outboxes m stand stands known =
     let nodes = c.args.nodes.now in
-    let is : c.in_ok-place.place ≡ place_in nodes m.to = subst (λ to. c.in_ok-place.place ≡ place_in nodes to) stands.to c.in_ok-place.ensures.place in
-    acts model nodes outboxes stand m.to c.in_ok-place.place is c.in_ok-place.ensures.within (λ site. deliver_at site m)
-    (λ s found. deliver_acts model s found m known) (deliver_silent m) c.deliver.new.self c.deliver.result c.index-nodes-place.result
+    let i = c.in_ok-place.place in
+    let is : i ≡ place_in nodes m.to = subst (λ to. i ≡ place_in nodes to) stands.to c.in_ok-place.ensures.place in
+    acts model nodes outboxes stand m.to i (here model nodes outboxes stand m.to i is c.in_ok-place.ensures.within)
+    (λ site. deliver_at site m) (λ s found. deliver_acts model s found m known) (deliver_silent m) c.deliver.new.self c.deliver.result c.index-nodes-place.result
     (λ s found h. c.deliver.ensures.gives s m h stands.tables (clear_with model stand.sound s found m known))

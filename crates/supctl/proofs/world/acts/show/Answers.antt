@@ -1,18 +1,25 @@
-use Rattle.std.proofs.Common.{◌∙◌, sym, subst, ap}
+use Rattle.std.proofs.Common.{◌∙◌, sym, subst}
 use Rattle.supctl.specs.declared.world.node.Node.{Node}
 use Rattle.supctl.specs.Steps.{show_at, at_node}
 use Rattle.supctl.specs.Stands.{WorldBecomes, NodeStandsFor}
 use Rattle.supctl.specs.declared.world.refusal.Refusal.TheVariants.{UnknownNode}
-use Rattle.supctl.proofs.ActLaws.{unknown_node, looks, refused_gives}
+use Rattle.supctl.proofs.ActLaws.{unknown_node, looks}
+use Rattle.supctl.proofs.Here.{here}
+use Rattle.supctl.proofs.Refusals.{refused_gives}
 use Rattle.supctl.proofs.world.acts.show.Goals as goal
 
 pub returns-in_err-place : goal.returns-in_err-place
-returns-in_err-place c model outboxes stand =
+returns-in_err-place g c model outboxes stand =
     let nodes = c.args.nodes.now in
-    refused_gives (WorldBecomes nodes outboxes) (at_node model c.args.name.now show_at) c.from_residual.result UnknownNode _ c.from_residual.ensures.1 (λ r e. e ∙ c.in_err-place.ensures.refusal)
-    (unknown_node model nodes outboxes stand c.args.name.now show_at nodes outboxes c.in_err-place.ensures.absent)
+    let act = show_at g.W.Weigh.weight_of in
+    refused_gives (WorldBecomes nodes outboxes) (at_node model c.args.name.now act) c.from_residual.result UnknownNode _ c.from_residual.ensures.1 (λ r e. e ∙ c.in_err-place.ensures.refusal)
+    (unknown_node model nodes outboxes stand c.args.name.now act nodes outboxes c.in_err-place.ensures.absent)
 
 pub returns : goal.returns
-returns c model outboxes stand =
-    looks model c.args.nodes.now outboxes stand c.args.name.now c.in_ok-place.place c.in_ok-place.ensures.place c.in_ok-place.ensures.within c.index-nodes-place.result c.show.result c.index-nodes-place.result
+returns g c model outboxes stand =
+    let nodes = c.args.nodes.now in
+    let name = c.args.name.now in
+    let i = c.in_ok-place.place in
+    looks model nodes outboxes stand name i (here model nodes outboxes stand name i c.in_ok-place.ensures.place c.in_ok-place.ensures.within)
+    g.W.Weigh.weight_of c.index-nodes-place.result c.show.result c.index-nodes-place.result
     (λ s h. c.show.ensures s (subst (λ (n : Node). NodeStandsFor n s) (sym c.index-nodes-place.is) h))
