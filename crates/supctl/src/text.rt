@@ -13,7 +13,7 @@ use crate::world::Answer;
 use child::rows_text;
 use dot::{DotText, spaced_dots};
 use letter::LetterText;
-use node_name::node_name_text;
+pub use node_name::node_name_text;
 use refusal::RefusalText;
 use std::alloc::{AllocError, Global};
 
