@@ -4,9 +4,9 @@ use Rattle.std.specs.Str.{bytes_eq}
 use Rattle.std.specs.List.{flat_map}
 use Rattle.std.specs.Io.KnownBytes.{Appends}
 use Rattle.sup_placement.specs.Place.{Weigher, place}
-use Rattle.supctl.specs.Words.{Word, Name, ◌>>=◌}
+use Rattle.supctl.specs.Words.{Word, Name}
 use Rattle.supctl.specs.Values.{child_id_of}
-use Rattle.supctl.specs.Forms.{names_of, if_distinct}
+use Rattle.supctl.specs.Forms.{distinct_names_of}
 use Rattle.supctl.specs.Script.{is_plain, words_of, numbered_lines, opened}
 use Rattle.supctl.specs.Text.{text}
 use Rattle.supctl.specs.Ends.{Bytes, Job, Does}
@@ -15,7 +15,7 @@ use Rattle.supctl.specs.Ends.{Bytes, Job, Does}
 unfoldable pub members_of : List Word → Option (List Name)
 members_of [] = None
 members_of (verb ∷ words) =
-    if bytes_eq verb (codes "members") && nat_le (length words) 16 then names_of words >>= if_distinct else None
+    if bytes_eq verb (codes "members") && nat_le (length words) 16 then distinct_names_of words else None
 
 -- the members that the bytes of the first line say
 unfoldable pub members_in : List ℕ → Option (List Name)

@@ -43,8 +43,8 @@ in_front number (Some said) (Err later) = Err later
 
 -- what each of these lines says, or the number of the first bad one
 abbrev pub each_of : {A : Type 0} → (List ℕ → Option A) → List (ℕ × List ℕ) → Result (List A) ℕ
-each_of say [] = Ok []
-each_of say (line ∷ lines) = in_front line.0 (say line.1) (each_of say lines)
+each_of read [] = Ok []
+each_of read (line ∷ lines) = in_front line.0 (read line.1) (each_of read lines)
 
 abbrev pub behind : {A B : Type 0} → ℕ → Option A → Result (List B) ℕ → Result (A × List B) ℕ
 behind number None others = Err number
@@ -53,8 +53,8 @@ behind number (Some first) (Err later) = Err later
 
 -- what the first of these lines says, and each line after it; 0 where there is none
 abbrev pub opened : {A B : Type 0} → (List ℕ → Option A) → (List ℕ → Option B) → List (ℕ × List ℕ) → Result (A × List B) ℕ
-opened open say [] = Err 0
-opened open say (line ∷ lines) = behind line.0 (open line.1) (each_of say lines)
+opened read_first read [] = Err 0
+opened read_first read (line ∷ lines) = behind line.0 (read_first line.1) (each_of read lines)
 
 -- the nodes of a script, and its steps
 abbrev pub ScriptText : Type 0

@@ -47,7 +47,7 @@ pub fn read_script(alloc: Global, bytes: &[u8]) -> Result<Script, ScriptFault>
 }
 
 fn read_steps(alloc: Global, lines: &[NumberedLine]) -> Result<Vec<Step>, ScriptFault>
-    ensures { ReadsAll (λ v. v.items) result 
+    ensures { ReadsAll (λ v. v.items) result
         (each_of step_of (map (λ l. (l.number, l.bytes.now)) lines.now)) }
 {
     let mut steps = Vec::new(alloc);

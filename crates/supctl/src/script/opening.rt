@@ -1,8 +1,8 @@
 //! The first line of a script: its nodes.
 
 ghost use Rattle.std.specs.Prelude.{◌≡◌, ◌<◌, ◌≤◌};
-ghost use Rattle.supctl.specs.Words.{◌>>=◌, Reads, texts};
-ghost use Rattle.supctl.specs.Forms.{are_distinct, if_distinct, names_of, nodes_of};
+ghost use Rattle.supctl.specs.Words.{Reads, texts};
+ghost use Rattle.supctl.specs.Forms.{are_distinct, distinct_names_of, names_of, nodes_of};
 ghost use Rattle.supctl.specs.Script.{opening_of};
 
 use crate::script::LineFault;
@@ -43,7 +43,7 @@ fn read_nodes(alloc: Global, words: &[&str]) -> Result<Vec<NodeName>, LineFault>
 
 /// The names that the words are, no two of them equal.
 pub fn read_distinct(alloc: Global, words: &[&str]) -> Result<Vec<NodeName>, LineFault>
-    ensures { Reads (λ v. v.items) result (names_of (texts words.now) >>= if_distinct) }
+    ensures { Reads (λ v. v.items) result (distinct_names_of (texts words.now)) }
 {
     let names = read_names(alloc, words)?;
     if !are_distinct(names.as_slice()) {
