@@ -5,6 +5,7 @@ pub mod Fronts
 pub mod Endings
 pub mod WordValues
 pub mod LineLaws
+pub mod Requests
 pub mod Afters
 pub mod Tops
 pub mod RowSets
