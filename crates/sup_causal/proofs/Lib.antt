@@ -1,6 +1,7 @@
 pub mod Rising
 pub mod DotLemmas
 pub mod Merges
+pub mod Walk
 pub mod Union
 pub mod Inclusion
 pub mod Sorted

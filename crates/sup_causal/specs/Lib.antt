@@ -1,5 +1,6 @@
 pub mod Join
 pub mod Merge
+pub mod Walk
 pub mod Dots
 pub mod DotLaws
 pub mod Cut

@@ -1,10 +1,11 @@
 //! Two maps compared key by key.
 
-ghost use Rattle.std.specs.Prelude.{◌≡◌, ◌↔◌, Option, Some, None, IsTrue, IsSome};
+ghost use Rattle.std.specs.Prelude.{◌≡◌, ◌↔◌, Option, IsTrue};
 ghost use Rattle.std.specs.Option.{option_copied};
 ghost use Rattle.std.specs.BTreeMap.{get};
 ghost use Rattle.sup_causal.specs.Merge.{IsBelowAt};
 
+use crate::merge::walk::KeyByKey;
 use std::collections::BTreeMap;
 use sup_specs::Plain;
 
@@ -31,35 +32,8 @@ pub fn all_below<K: Plain, V, M: Below<K, V>>(
     requires { (q : K) → M.can_compare by.now q (get K.cmp left.now q) (get K.cmp right.now q) }
     ensures { IsTrue result ↔ ((q : K) → IsBelowAt (M.is_below by.now q) (get K.cmp left.now q) (get K.cmp right.now q)) }
 {
-    below_left(left, right, by) && below_right(left, right, by)
-}
-
-fn below_left<K: Plain, V, M: Below<K, V>>(
-    left: &BTreeMap<K, V>,
-    right: &BTreeMap<K, V>,
-    by: &M,
-) -> bool
-    requires { (q : K) → M.can_compare by.now q (get K.cmp left.now q) (get K.cmp right.now q) }
-    ensures { IsTrue result ↔ ((q : K) (x : V) → get K.cmp left.now q ≡ Some x → M.is_below by.now q (Some x) (get K.cmp right.now q)) }
-{
-    for (key, value) in left {
-        if !by.below(key, Some(value), right.get(key)) {
-            return false;
-        }
-    }
-    true
-}
-
-fn below_right<K: Plain, V, M: Below<K, V>>(
-    left: &BTreeMap<K, V>,
-    right: &BTreeMap<K, V>,
-    by: &M,
-) -> bool
-    requires { (q : K) → M.can_compare by.now q (get K.cmp left.now q) (get K.cmp right.now q) }
-    ensures { IsTrue result ↔ ((q : K) (y : V) → get K.cmp left.now q ≡ None → get K.cmp right.now q ≡ Some y → M.is_below by.now q None (Some y)) }
-{
-    for (key, value) in right {
-        if !left.contains_key(key) && !by.below(key, None, Some(value)) {
+    for (key, left_value, right_value) in KeyByKey::new(left, right) {
+        if !by.below(key, left_value, right_value) {
             return false;
         }
     }

@@ -3,7 +3,8 @@
 use std::alloc::{AllocError, Global};
 use sup_specs::{NodeName, Plain};
 
-/// The greatest counter: the greatest number below which each is exact in JSON's usual readers.
+/// The greatest counter, 2^53 - 1. Every whole number up to it is exact in a 64-bit float, as JSON's usual readers keep
+/// numbers, and no greater one is rounded to it. It is the greatest such number: 2^53 + 1 is rounded to 2^53.
 pub const MAX: u64 = 9_007_199_254_740_991;
 
 /// One event of a node (Almeida, Shoker and Baquero 2018): the node, and which of its events, from 1 to [`MAX`].

@@ -1,10 +1,14 @@
 //! Two maps merged key by key.
 
-ghost use Rattle.std.specs.Prelude.{◌≡◌, Option, IfOk, OnOk};
-ghost use Rattle.std.specs.Option.{option_copied, is_some};
+ghost use Rattle.std.specs.Prelude.{◌≡◌, Option, None, IfOk, OnOk};
+ghost use Rattle.std.specs.Option.{option_copied};
 ghost use Rattle.std.specs.BTreeMap.{get, IsOrdered};
-ghost use Rattle.sup_causal.specs.Merge.{IsMergeAt, Merges, PutsMerge};
+ghost use Rattle.sup_causal.specs.Merge.{IsMergeAt, PutsMerge};
 
+mod peeked;
+pub(crate) mod walk;
+
+use crate::merge::walk::KeyByKey;
 use std::alloc::{AllocError, Global};
 use std::collections::BTreeMap;
 use sup_specs::Plain;
@@ -40,8 +44,11 @@ pub fn merge_maps<K: Plain, V: Drop, M: Merge<K, V>>(
     ensures merged { IfOk result (λ out. (q : K) → IsMergeAt (M.gives by.now q) (get K.cmp left.now q) (get K.cmp right.now q) (get K.cmp out q)) }
     ensures ordered { IfOk result (IsOrdered K.cmp) }
 {
-    let out = merge_left(alloc, left, right, by)?;
-    let out = merge_right(alloc, left, right, by, out)?;
+    let mut out = BTreeMap::new(alloc);
+    for (key, left_value, right_value) in KeyByKey::new(left, right) {
+        let merged = by.merge(alloc, key, left_value, right_value)?;
+        put_merge(alloc, &mut out, key, merged)?;
+    }
     keys_rise(&out);
     Ok(out)
 }
@@ -53,52 +60,14 @@ pub fn keys_rise<K: Ord, V>(map: &BTreeMap<K, V>)
     let _count = map.len();
 }
 
-// The merge at the keys of the first map.
-fn merge_left<K: Plain, V: Drop, M: Merge<K, V>>(
-    alloc: Global,
-    left: &BTreeMap<K, V>,
-    right: &BTreeMap<K, V>,
-    by: &M,
-) -> Result<BTreeMap<K, V>, AllocError>
-    requires { (q : K) → M.can_merge by.now q (get K.cmp left.now q) (get K.cmp right.now q) }
-    ensures { IfOk result (λ out. Merges (M.gives by.now) (get K.cmp left.now) (get K.cmp right.now) (get K.cmp out) (λ q. is_some (get K.cmp left.now q))) }
-{
-    let mut out = BTreeMap::new(alloc);
-    for (key, value) in left {
-        let merged = by.merge(alloc, key, Some(value), right.get(key))?;
-        put_merge(alloc, &mut out, key, merged)?;
-    }
-    Ok(out)
-}
-
-// The merge at the keys of the second map too.
-fn merge_right<K: Plain, V: Drop, M: Merge<K, V>>(
-    alloc: Global,
-    left: &BTreeMap<K, V>,
-    right: &BTreeMap<K, V>,
-    by: &M,
-    mut out: BTreeMap<K, V>,
-) -> Result<BTreeMap<K, V>, AllocError>
-    requires allowed { (q : K) → M.can_merge by.now q (get K.cmp left.now q) (get K.cmp right.now q) }
-    requires so_far { Merges (M.gives by.now) (get K.cmp left.now) (get K.cmp right.now) (get K.cmp out) (λ q. is_some (get K.cmp left.now q)) }
-    ensures { IfOk result (λ all. (q : K) → IsMergeAt (M.gives by.now q) (get K.cmp left.now q) (get K.cmp right.now q) (get K.cmp all q)) }
-{
-    for (key, value) in right {
-        if !left.contains_key(key) {
-            let merged = by.merge(alloc, key, None, Some(value))?;
-            put_merge(alloc, &mut out, key, merged)?;
-        }
-    }
-    Ok(out)
-}
-
-// Puts what the merge has at one key.
+// Puts what the merge has at a key that is not there yet.
 fn put_merge<K: Plain, V: Drop>(
     alloc: Global,
     out: &mut BTreeMap<K, V>,
     key: &K,
     merged: Option<V>,
 ) -> Result<(), AllocError>
+    requires { get K.cmp out.old key.now ≡ None }
     ensures { OnOk result (PutsMerge K.cmp key.now merged out.old out.new) }
 {
     if let Some(value) = merged {

@@ -1,0 +1,29 @@
+-- A walk over two maps: their entries in rising order of the keys, each key of either once (this project).
+use Rattle.std.specs.Prelude.{◌≡◌, ◌||◌, true, List, [], ◌∷◌, Option, Some, None, ⊤}
+use Rattle.std.specs.declared.cmp.Ordering.{Ordering}
+use Rattle.std.specs.declared.cmp.Ordering.TheVariants.{Less}
+use Rattle.std.specs.List.{AllByRecursion}
+use Rattle.std.specs.List.Sorted.{IsStrictlySortedBy}
+use Rattle.std.specs.Map.{keys_of}
+use Rattle.std.specs.Option.{is_some}
+
+-- the entries after what is at the key k, if something is
+abbrev pub at_first : {K V : Type 0} → K → Option V → List (K × V) → List (K × V)
+at_first k None es = es
+at_first k (Some v) es = (k, v) ∷ es
+
+-- the keys of the entries rise
+abbrev pub KeysRise : {K V : Type 0} → (K → K → Ordering) → List (K × V) → Type 0
+KeysRise cmp es = IsStrictlySortedBy cmp (keys_of es)
+
+-- k is below each key of the entries
+abbrev pub IsBelowKeys : {K V : Type 0} → (K → K → Ordering) → K → List (K × V) → Type 0
+IsBelowKeys cmp k es = AllByRecursion (λ q. cmp k q ≡ Less) (keys_of es)
+
+-- k is the least key of two lists of entries, which have left and right there, and go on with lefts and rights
+pub record IsLeastKey {K V : Type 0} (cmp : K → K → Ordering) (k : K) (left right : Option V) (all_left all_right lefts rights : List (K × V)) : Type 0 where
+  pub left_first : all_left ≡ at_first k left lefts
+  pub right_first : all_right ≡ at_first k right rights
+  pub below_left : IsBelowKeys cmp k lefts
+  pub below_right : IsBelowKeys cmp k rights
+  pub held : (is_some left || is_some right) ≡ true

@@ -1,0 +1,68 @@
+//! A walk over the keys of two maps.
+
+ghost use Rattle.std.proofs.Props.{props};
+ghost use Rattle.std.specs.Prelude.{◌≡◌, ◌+◌, length, [], MatchOption};
+ghost use Rattle.std.specs.Iterator.{at_most};
+ghost use Rattle.std.specs.Option.{option_copied};
+ghost use Rattle.sup_causal.specs.Walk.{KeysRise, IsLeastKey};
+
+use super::peeked::Peeked;
+use std::cmp::Ordering;
+use std::collections::BTreeMap;
+use sup_specs::Plain;
+
+// The keys of two maps in rising order, each once, with what the maps have there. One pass over both.
+#[derive(Drop)]
+pub(crate) struct KeyByKey<'a, K: Plain, V> {
+    left: Peeked<'a, K, V>,
+    right: Peeked<'a, K, V>,
+    pub ghost left_rises: { KeysRise K.cmp left } by { Prim.hlevel props },
+    pub ghost right_rises: { KeysRise K.cmp right } by { Prim.hlevel props },
+}
+
+impl<'a, K: Plain, V> KeyByKey<'a, K, V> {
+    pub(crate) fn new(left: &'a BTreeMap<K, V>, right: &'a BTreeMap<K, V>) -> Self
+        ensures left { result.left ≡ left.now.entries }
+        ensures right { result.right ≡ right.now.entries }
+    {
+        KeyByKey {
+            left: Peeked::new(left.iter()),
+            right: Peeked::new(right.iter()),
+        }
+    }
+}
+
+impl<'a, K: Plain, V> Iterator for KeyByKey<'a, K, V> {
+    type Item = (&'a K, Option<&'a V>, Option<&'a V>);
+
+    ghost next_gives = { λ s r t. MatchOption r ((s.left ≡ []) × (s.right ≡ [])) (λ x. IsLeastKey K.cmp x.0.now (option_copied x.1) (option_copied x.2) s.left s.right t.left t.right) };
+
+    ghost remaining = { λ s. at_most (length s.left + length s.right) };
+
+    fn next(&mut self) -> Option<(&'a K, Option<&'a V>, Option<&'a V>)> {
+        let Some((left_key, left)) = self.left.peek() else {
+            let (key, right) = self.right.peek()?;
+            self.right.advance();
+            return Some((key, None, Some(right)));
+        };
+        let Some((right_key, right)) = self.right.peek() else {
+            self.left.advance();
+            return Some((left_key, Some(left), None));
+        };
+        match left_key.cmp(right_key) {
+            Ordering::Less => {
+                self.left.advance();
+                Some((left_key, Some(left), None))
+            }
+            Ordering::Equal => {
+                self.left.advance();
+                self.right.advance();
+                Some((left_key, Some(left), Some(right)))
+            }
+            Ordering::Greater => {
+                self.right.advance();
+                Some((right_key, None, Some(right)))
+            }
+        }
+    }
+}

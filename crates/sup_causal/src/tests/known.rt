@@ -1,0 +1,104 @@
+//! A context of the tests. Its calls promise nothing, and end the test where one of the context's fails.
+use crate::{CausalContext, Dot, Lattice, MAX, PartsFault};
+use std::process::Abort;
+use sup_specs::NodeName;
+
+pub(crate) fn node(rt: &(impl Abort + AllocGlobal), name: &str) -> NodeName {
+    NodeName::parse(name).expect(rt, "a node's name")
+}
+
+pub(crate) fn dot(node: NodeName, counter: u64) -> Dot {
+    Dot { counter, node }
+}
+
+// Whether the vector and the cloud are refused as no context's.
+pub(crate) fn is_no_cut(
+    rt: &(impl Abort + AllocGlobal),
+    vector: &[(NodeName, u64)],
+    cloud: &[Dot],
+) -> bool {
+    matches!(
+        CausalContext::from_parts(rt.alloc(), vector, cloud),
+        Err(PartsFault::NotCanonical)
+    )
+}
+
+#[derive(Drop)]
+pub(crate) struct Known {
+    context: CausalContext,
+}
+
+impl Known {
+    pub(crate) fn nothing(rt: &(impl Abort + AllocGlobal)) -> Known {
+        Known {
+            context: CausalContext::empty(rt.alloc()),
+        }
+    }
+
+    pub(crate) fn of_parts(
+        rt: &(impl Abort + AllocGlobal),
+        vector: &[(NodeName, u64)],
+        cloud: &[Dot],
+    ) -> Known {
+        Known {
+            context: CausalContext::from_parts(rt.alloc(), vector, cloud).expect(rt, "a cut"),
+        }
+    }
+
+    pub(crate) fn of_dots(rt: &(impl Abort + AllocGlobal), dots: &[Dot]) -> Known {
+        assert!(rt;
+            dots.iter()
+                .all(|dot| 1 <= dot.counter && dot.counter <= MAX)
+        );
+        Known {
+            context: CausalContext::of_dots(rt.alloc(), dots).expect(rt, "room"),
+        }
+    }
+
+    pub(crate) fn add(&mut self, rt: &(impl Abort + AllocGlobal), dot: Dot) {
+        assert!(rt; 1 <= dot.counter && dot.counter <= MAX);
+        self.context.insert(dot).expect(rt, "room")
+    }
+
+    pub(crate) fn has(&self, dot: Dot) -> bool {
+        self.context.contains(&dot)
+    }
+
+    pub(crate) fn greatest(&self, node: NodeName) -> u64 {
+        self.context.greatest(&node)
+    }
+
+    pub(crate) fn next(&self, node: NodeName) -> Option<Dot> {
+        self.context.next(node)
+    }
+
+    // Whether it is cut into these parts.
+    pub(crate) fn is_cut(
+        &self,
+        rt: &(impl Abort + AllocGlobal),
+        vector: &[(NodeName, u64)],
+        cloud: &[Dot],
+    ) -> bool {
+        self.context.vector().expect(rt, "room").as_slice() == vector
+            && self.context.cloud().expect(rt, "room").as_slice() == cloud
+    }
+
+    pub(crate) fn joined(&self, rt: &(impl Abort + AllocGlobal), other: &Known) -> Known {
+        Known {
+            context: self
+                .context
+                .joined(rt.alloc(), &other.context)
+                .expect(rt, "a join"),
+        }
+    }
+
+    pub(crate) fn absorb(&mut self, rt: &(impl Abort + AllocGlobal), other: &Known) {
+        self.context
+            .join_from(rt.alloc(), &other.context)
+            .expect(rt, "a join")
+    }
+
+    pub(crate) fn is_within(&self, other: &Known) -> bool {
+        self.context.leq(&other.context)
+    }
+}
