@@ -1,4 +1,4 @@
-use Rattle.std.proofs.Common.{rules, ◌≡◌, ◌++◌, ap, ◌∙◌}
+use Rattle.std.proofs.Common.{◌++◌, ap, ◌∙◌}
 use Rattle.sup_dot_store.specs.RowLists.{rows_under}
 use Rattle.sup_dot_store.proofs.RowRuns.{row_more, run_is}
 use Rattle.sup_dot_store.proofs.row_runs.last_run.Goals as goal
