@@ -7,7 +7,8 @@ use Rattle.std.specs.declared.cmp.Ordering.TheVariants.{Less, Equal, Greater}
 use Rattle.std.specs.Ordering.{ordering_then, eq_by_cmp}
 use Rattle.std.specs.Cmp.{IsTotalOrder, nat_cmp_total, on_total, then_total}
 use Rattle.std.proofs.Common.{sym, ap, ◌∙◌, subst}
-use Rattle.std.proofs.lemmas.List.Elements.{recursion_from_All}
+use Rattle.std.proofs.lemmas.List.{append-nil}
+use Rattle.std.proofs.lemmas.List.Elements.{filter_map-append}
 use mathlib.Core.Bool.{true≢false}
 use Rattle.sup_specs.specs.Values.{Bytes, text_cmp}
 use Rattle.sup_specs.specs.OrderLaws.{text_total}
@@ -167,3 +168,14 @@ module _ (context : Context) (s : Stored) (ordered : IsOrderedStored s) (rows : 
     at_children = λ d k. has_held (child_row k d) d (λ v. refl) (value_in s.child_values d k) (λ v. among-stored s ordered (child_row k d v));
     at_names = λ d k. has_held (name_row k d) d (λ v. refl) (value_in s.name_values d k) (λ v. among-stored s ordered (name_row k d v));
   }
+
+-- what is picked of one row more
+module _ {A : Type 0} (pick : Dot → Entry → Option A) (rows : List Row) (row : Row) (dot : Dot) (entry : Entry) (at : row.dot ≡ dot) (says : row.entry ≡ entry) where
+  picked_last : filter_map (λ r. pick r.dot r.entry) (rows ++ row ∷ []) ≡ filter_map (λ r. pick r.dot r.entry) rows ++ cons_option (pick dot entry) []
+  picked_last = filter_map-append (λ r. pick r.dot r.entry) rows (row ∷ []) ∙ (λ i. filter_map (λ r. pick r.dot r.entry) rows ++ cons_option (pick (at i) (says i)) [])
+
+  pub none_picked : (old : List A) → pick dot entry ≡ None → old ≡ filter_map (λ r. pick r.dot r.entry) rows → old ≡ filter_map (λ r. pick r.dot r.entry) (rows ++ row ∷ [])
+  none_picked old none so_far = so_far ∙ sym (append-nil (filter_map (λ r. pick r.dot r.entry) rows)) ∙ ap (λ o. filter_map (λ r. pick r.dot r.entry) rows ++ cons_option o []) (sym none) ∙ sym picked_last
+
+  pub one_picked : (old new : List A) (x : A) → pick dot entry ≡ Some x → old ≡ filter_map (λ r. pick r.dot r.entry) rows → new ≡ old ++ x ∷ [] → new ≡ filter_map (λ r. pick r.dot r.entry) (rows ++ row ∷ [])
+  one_picked old new x some so_far pushed = pushed ∙ ap (λ xs. xs ++ x ∷ []) so_far ∙ ap (λ o. filter_map (λ r. pick r.dot r.entry) rows ++ cons_option o []) (sym some) ∙ sym picked_last
