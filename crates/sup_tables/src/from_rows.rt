@@ -47,11 +47,7 @@ fn has_dots_of(context: &CausalContext, rows: &[Row]) -> bool
 }
 
 // The tables with these rows under the context.
-fn tables_with(
-    alloc: Global,
-    context: CausalContext,
-    rows: Vec<Row>,
-) -> Result<Tables, AllocError>
+fn tables_with(alloc: Global, context: CausalContext, rows: Vec<Row>) -> Result<Tables, AllocError>
     requires in_order { AreInOrder rows.items }
     requires covered { HasDotsOf context rows.items }
     ensures rows { IfOk result (λ t. t.rows ≡ rows.items) }

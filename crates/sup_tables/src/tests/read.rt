@@ -58,7 +58,10 @@ fn read(
 pub(crate) fn node_with(rt: &(impl Abort + AllocGlobal), dots: &[Dot], rows: Vec<Row>) -> Node {
     Node {
         name: node_name(rt, "a"),
-        tables: read(rt, dots, rows).expect(rt, "rows in order under a context that has their dots"),
+        tables: read(rt, dots, rows).expect(
+            rt,
+            "rows in order under a context that has their dots",
+        ),
     }
 }
 
