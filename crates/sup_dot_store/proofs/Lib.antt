@@ -4,3 +4,4 @@ pub mod Eithers
 pub mod Keys
 pub mod Retains
 pub mod RowListLaws
+pub mod RowRuns

@@ -1,7 +1,9 @@
 -- The rows of functions under keys as a list: by key, and under one key by dot.
-use Rattle.std.specs.Prelude.{List, [], ◌∷◌, ◌++◌, map}
+use Rattle.std.specs.Prelude.{◌≡◌, false, List, [], ◌∷◌, ◌++◌, map}
 use Rattle.std.specs.declared.cmp.Ordering.{Ordering}
-use Rattle.std.specs.Ordering.{then_cmp, on}
+use Rattle.std.specs.declared.cmp.Ordering.TheVariants.{Less}
+use Rattle.std.specs.List.{AllByRecursion}
+use Rattle.std.specs.Ordering.{then_cmp, on, eq_by_cmp}
 use Rattle.sup_causal.specs.declared.dot.Dot.{Dot}
 use Rattle.sup_causal.specs.Dots.{dot_cmp}
 use Rattle.sup_dot_store.specs.declared.dot_fun.DotFun.{DotFun}
@@ -19,3 +21,17 @@ rows_of (e ∷ es) = rows_under e.0 (values_of e.1).entries ++ rows_of es
 -- rows by key, then by dot
 abbrev pub row_cmp : {K V : Type 0} → (K → K → Ordering) → K × Dot × V → K × Dot × V → Ordering
 row_cmp cmp = then_cmp (on (λ r. r.0) cmp) (on (λ r. r.1) dot_cmp)
+
+-- the key has a value under a dot
+abbrev pub HasValue : {K V : Type 0} → K × DotFun V → Type 0
+HasValue e = (values_of e.1).entries ≡ [] → ⊥
+
+-- the last of the rows, if any, is not the key's
+abbrev pub EndsOff : {K V : Type 0} → (K → K → Ordering) → K → List (K × Dot × V) → Type 0
+EndsOff {K} {V} cmp key rows = (front : List (K × Dot × V)) (row : K × Dot × V) → rows ≡ front ++ row ∷ [] → eq_by_cmp cmp row.0 key ≡ false
+
+-- the rows are the rest and the function's, whose key is above the keys of the rest
+pub record IsLastRun {K V : Type 0} (cmp : K → K → Ordering) (rows rest : List (K × Dot × V)) (key : K) (function : DotFun V) : Type 0 where
+  pub cut : rest ++ rows_under key (values_of function).entries ≡ rows
+  pub above : AllByRecursion (λ r. cmp r.0 key ≡ Less) rest
+  pub some : HasValue (key, function)

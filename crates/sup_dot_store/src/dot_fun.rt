@@ -43,6 +43,14 @@ impl<V: Plain> DotFun<V> {
         Ok(DotFun { values })
     }
 
+    // The function with these values.
+    pub(crate) fn of(values: BTreeMap<Dot, V>) -> Self
+        ensures { values_of result ≡ values }
+    {
+        keys_rise(&values);
+        DotFun { values }
+    }
+
     /// The least dot and its value.
     pub fn first(&self) -> Option<(&Dot, &V)>
         ensures some { IfSome result (λ e. slice_get (values_of self.now).entries 0 ≡ Some (e.0.now, e.1.now)) }

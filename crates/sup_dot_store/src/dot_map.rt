@@ -12,10 +12,11 @@ ghost use Rattle.sup_dot_store.specs.Places.{optional_held, HasRow};
 use crate::dot_fun::DotFun;
 use crate::dot_store::DotStore;
 use crate::row_lists::{copied_rows, count_rows};
+use crate::row_runs::functions_of;
 use crate::stores_under::{StoresIn, StoresUnder};
 use std::alloc::{AllocError, Global};
 use std::collections::BTreeMap;
-use sup_causal::{CausalContext, Dot, all_below, merge_maps};
+use sup_causal::{CausalContext, Dot, all_below, keys_rise, merge_maps};
 use sup_specs::Plain;
 
 /// Stores under keys, each with a row: a store that loses its last row goes with its key.
@@ -70,6 +71,17 @@ impl<K: Plain, V: Plain> DotMap<K, DotFun<V>> {
     ghost use Rattle.sup_specs.specs.Rising.{IsRising};
     ghost use Rattle.sup_dot_store.specs.Contents.{stores_of};
     ghost use Rattle.sup_dot_store.specs.RowLists.{rows_of, row_cmp};
+
+    /// The map with these rows, each a key, a dot and a value, which rise by key and under one key by dot.
+    /// An `Err` is want of memory.
+    pub fn of_rows(alloc: Global, rows: Vec<(K, Dot, V)>) -> Result<Self, AllocError>
+        requires { IsRising (row_cmp K.cmp) rows.items }
+        ensures { IfOk result (λ m. rows_of (stores_of m).entries ≡ rows.items) }
+    {
+        let stores = functions_of(alloc, rows)?;
+        keys_rise(&stores);
+        Ok(DotMap { alloc, stores })
+    }
 
     /// Copies of the rows, each a key, a dot and a value: by key, and under one key by dot.
     /// An `Err` is want of memory.

@@ -7,6 +7,7 @@ pub mod dot_fun;
 pub mod dot_map;
 pub mod dot_store;
 mod row_lists;
+mod row_runs;
 mod stores_under;
 mod values_under;
 

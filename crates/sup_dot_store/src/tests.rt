@@ -273,6 +273,23 @@ fn rows_stand_by_key_and_then_by_dot(rt: HostRuntime) -> Result<(), Fail> {
 }
 
 #[test]
+fn rows_in_order_make_a_map(rt: HostRuntime) -> Result<(), Fail> {
+    let alloc = rt.alloc();
+    let node = NodeName::parse("a")?;
+    let one = Dot { counter: 1, node };
+    let two = Dot { counter: 2, node };
+    let rows = vec![in alloc; (1, one, 7), (1, two, 8), (2, one, 9)]?;
+    let table: Table = DotMap::of_rows(alloc, rows)?;
+    assert_eq!(rt; table.stores().len(), 2);
+    assert_eq!(rt; value_under(&table, 1, &one), Some(7));
+    assert_eq!(rt; value_under(&table, 1, &two), Some(8));
+    assert_eq!(rt; value_under(&table, 2, &one), Some(9));
+    let none: Table = DotMap::of_rows(alloc, Vec::new(alloc))?;
+    assert_eq!(rt; none.stores().len(), 0);
+    Ok(())
+}
+
+#[test]
 fn functions_join_in_any_order_and_number(rt: HostRuntime) -> Result<(), Fail> {
     let alloc = rt.alloc();
     let a = dot("a")?;

@@ -14,3 +14,4 @@ pub mod RemovalLaws
 pub mod WinnerLaws
 pub mod GreatestLaws
 pub mod WorkedRows
+pub mod PlacedRows

@@ -7,6 +7,7 @@ use Rattle.sup_specs.specs.declared.child.Restart.TheVariants.{Permanent}
 use Rattle.sup_specs.specs.declared.child.Shutdown.TheVariants.{Brutal}
 use Rattle.sup_specs.specs.declared.child.MemberInfo.{MemberInfo}
 use Rattle.sup_specs.specs.Values.{Bytes, text_cmp, spec_cmp, info_cmp}
+use Rattle.sup_specs.specs.Rising.{IsRising}
 use Rattle.sup_causal.specs.declared.dot.Dot.{Dot}
 use Rattle.sup_causal.specs.Dots.{dot_cmp}
 use Rattle.sup_tables.specs.declared.row.Entry.{Entry}
@@ -59,6 +60,14 @@ is_in table r = table_place (table_of r.entry) == table_place table
 
 abbrev pub is_at : Table → Bytes → Row → Bool
 is_at table key r = is_in table r && eq_by_cmp text_cmp key (key_of r.entry)
+
+-- by table, key and dot
+abbrev pub place_cmp : Row → Row → Ordering
+place_cmp = then_cmp (then_cmp (on (λ r. table_place (table_of r.entry)) nat_cmp) (on (λ r. key_of r.entry) text_cmp)) (on (λ r. r.dot) dot_cmp)
+
+-- rows in strictly rising order: table, key, dot
+abbrev pub AreInOrder : List Row → Type 0
+AreInOrder rows = IsRising place_cmp rows
 
 -- by value
 abbrev pub value_cmp : Entry → Entry → Ordering

@@ -31,6 +31,31 @@ child_row id dot spec = record { dot = dot; entry = Child id spec }
 abbrev pub name_row : Bytes → Dot → Bytes → Row
 name_row name dot id = record { dot = dot; entry = Name name id }
 
+abbrev pub member_of : Dot → Entry → Option (Bytes × Dot × MemberInfo)
+member_of dot (Member m info) = Some (m, dot, info)
+member_of dot (Child id spec) = None
+member_of dot (Name name id) = None
+
+abbrev pub child_of : Dot → Entry → Option (Bytes × Dot × ChildSpec)
+child_of dot (Member m info) = None
+child_of dot (Child id spec) = Some (id, dot, spec)
+child_of dot (Name name id) = None
+
+abbrev pub name_of : Dot → Entry → Option (Bytes × Dot × Bytes)
+name_of dot (Member m info) = None
+name_of dot (Child id spec) = None
+name_of dot (Name name id) = Some (name, dot, id)
+
+-- what a row says in one table, and nothing where it is of another for a row of another
+abbrev pub as_member : Row → Option (Bytes × Dot × MemberInfo)
+as_member r = member_of r.dot r.entry
+
+abbrev pub as_child : Row → Option (Bytes × Dot × ChildSpec)
+as_child r = child_of r.dot r.entry
+
+abbrev pub as_name : Row → Option (Bytes × Dot × Bytes)
+as_name r = name_of r.dot r.entry
+
 -- the rows of a table, in the order of its maps
 abbrev pub rows_in : {K V : Type 0} → (K → Dot → V → Row) → List (K × DotFun V) → List Row
 rows_in make [] = []

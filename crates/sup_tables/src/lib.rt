@@ -4,15 +4,18 @@
 mod adding;
 mod delta;
 pub mod fault;
+mod from_rows;
 mod joining;
 pub mod laws;
 mod readers;
 mod removing;
 pub mod row;
+mod row_order;
+mod row_parts;
 mod table;
 pub mod tables;
 
-pub use fault::PutFault;
+pub use fault::{PutFault, RowsFault};
 pub use row::{Entry, Row};
 pub use table::{Loser, Winner};
 pub use tables::Tables;

@@ -1,9 +1,11 @@
 //! Stories of nodes that join, start, register and remove, at values that were worked out by hand.
 mod node;
+mod read;
 mod seen;
 
 use crate::laws;
 use node::Node;
+use read::{child, dot, is_not_covered, is_out_of_order, member, name, node_with};
 use std::process::Abort;
 use sup_causal::{Dot, MAX};
 
@@ -148,6 +150,58 @@ fn rows_go_by_table_and_then_by_key(rt: HostRuntime) {
     assert!(rt; b.row_is(&rt, 1, dots[1], "children", "cache"));
     assert!(rt; b.row_is(&rt, 2, dots[2], "children", "db"));
     assert!(rt; b.row_is(&rt, 3, dots[3], "names", "www"));
+}
+
+#[test]
+fn rows_in_order_are_read_and_come_back(rt: HostRuntime) {
+    let one = dot(&rt, 1, "a");
+    let other = dot(&rt, 1, "b");
+    let late = dot(&rt, 2, "a");
+    let a = member(&rt, one, "a");
+    let cache = child(&rt, one, "cache");
+    let db = child(&rt, one, "db");
+    let loser = child(&rt, other, "db");
+    let www = name(&rt, late, "www", "db");
+    let rows = vec![in rt.alloc(); a, cache, db, loser, www].expect(&rt, "rows");
+    let read = node_with(&rt, &[one, other, late], rows);
+    assert!(rt; read.count() == 5);
+    assert!(rt; read.row_is(&rt, 0, one, "members", "a"));
+    assert!(rt; read.row_is(&rt, 1, one, "children", "cache"));
+    assert!(rt; read.row_is(&rt, 2, one, "children", "db"));
+    assert!(rt; read.row_is(&rt, 3, other, "children", "db"));
+    assert!(rt; read.row_is(&rt, 4, late, "names", "www"));
+    assert!(rt; read.knows(&late) && !read.knows(&dot(&rt, 2, "b")));
+}
+
+#[test]
+fn no_rows_are_read_under_any_dots(rt: HostRuntime) {
+    let one = dot(&rt, 1, "a");
+    let read = node_with(&rt, &[one], Vec::new(rt.alloc()));
+    assert!(rt; read.count() == 0 && read.knows(&one));
+}
+
+#[test]
+fn rows_out_of_order_are_refused(rt: HostRuntime) {
+    let one = dot(&rt, 1, "a");
+    let late = dot(&rt, 2, "a");
+    let keys = vec![in rt.alloc(); child(&rt, one, "db"), child(&rt, one, "cache")];
+    assert!(rt; is_out_of_order(&rt, &[one], keys.expect(&rt, "rows")));
+    let dots = vec![in rt.alloc(); child(&rt, late, "db"), child(&rt, one, "db")];
+    assert!(rt; is_out_of_order(&rt, &[one, late], dots.expect(&rt, "rows")));
+    let tables = vec![in rt.alloc(); child(&rt, one, "db"), member(&rt, one, "z")];
+    assert!(rt; is_out_of_order(&rt, &[one], tables.expect(&rt, "rows")));
+    let twice = vec![in rt.alloc(); child(&rt, one, "db"), child(&rt, one, "db")];
+    assert!(rt; is_out_of_order(&rt, &[one], twice.expect(&rt, "rows")));
+}
+
+#[test]
+fn a_row_beyond_the_context_is_refused_after_the_order(rt: HostRuntime) {
+    let one = dot(&rt, 1, "a");
+    let late = dot(&rt, 2, "a");
+    let beyond = vec![in rt.alloc(); child(&rt, one, "cache"), child(&rt, late, "db")];
+    assert!(rt; is_not_covered(&rt, &[one], beyond.expect(&rt, "rows")));
+    let both = vec![in rt.alloc(); child(&rt, late, "db"), child(&rt, one, "cache")];
+    assert!(rt; is_out_of_order(&rt, &[one], both.expect(&rt, "rows")));
 }
 
 #[test]

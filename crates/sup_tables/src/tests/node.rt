@@ -18,11 +18,11 @@ pub(crate) fn registered(rt: &(impl Abort + AllocGlobal), name: &str) -> Name {
     Name::parse(rt.alloc(), name).expect(rt, "a name")
 }
 
-fn text(rt: &(impl Abort + AllocGlobal), text: &str) -> Text {
+pub(crate) fn text(rt: &(impl Abort + AllocGlobal), text: &str) -> Text {
     Text::parse(rt.alloc(), text).expect(rt, "a text")
 }
 
-fn spec(rt: &(impl Abort + AllocGlobal), kind: &str) -> ChildSpec {
+pub(crate) fn spec(rt: &(impl Abort + AllocGlobal), kind: &str) -> ChildSpec {
     ChildSpec {
         kind: Kind::parse(rt.alloc(), kind).expect(rt, "a kind"),
         arg: text(rt, ""),
