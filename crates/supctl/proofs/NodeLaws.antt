@@ -124,11 +124,11 @@ clear_command site c clear r q hr hq same =
     let fresh = adds_next (reading site) c in
     row-append site.operations (op ∷ []) r (r ≡ q) hr
     (λ old. row-append site.operations (op ∷ []) q (r ≡ q) hq
-      (λ other. clear r q old other same)
-      (λ new. absurd (not_yet site r old (same ∙ fresh q (row-one op q new)))))
+    (λ other. clear r q old other same)
+    (λ new. absurd (not_yet site r old (same ∙ fresh q (row-one op q new)))))
     (λ new. row-append site.operations (op ∷ []) q (r ≡ q) hq
-      (λ other. absurd (not_yet site q other (sym same ∙ fresh r (row-one op r new))))
-      (λ also. some_same r q (sym (row-one op r new) ∙ row-one op q also)))
+    (λ other. absurd (not_yet site q other (sym same ∙ fresh r (row-one op r new))))
+    (λ also. some_same r q (sym (row-one op r new) ∙ row-one op q also)))
 
 -- a command that was carried out
 pub carried_out : (real : Node) (site : Site) (c : Command) (answer : Answer) → may (reading site) c ≡ Ok tt → may_change site.count ≡ Ok tt
