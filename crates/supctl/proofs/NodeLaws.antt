@@ -27,6 +27,7 @@ use Rattle.supctl.specs.Worlds.{Site}
 use Rattle.supctl.specs.Commands.{Reading, reading, next, is_full, is_spent, has_dot, may, operation, reply}
 use Rattle.supctl.specs.Steps.{may_change, changed, changes, command_at}
 use Rattle.supctl.specs.Stands.{NodeStandsFor, NodeBecomes, Gives, put_refusal}
+use Rattle.supctl.specs.Issuing.{LacksMemory}
 use Rattle.supctl.specs.Sound.{HasRow}
 use Rattle.supctl.proofs.Tops.{greatest_in, one_greatest, next_is, added-greatest}
 use Rattle.supctl.proofs.RowSets.{row-append, row-one, some_same, none_some}
@@ -89,11 +90,11 @@ may_dot r (Register name id) e adds = past (is_full r) TableFull _ _ (past (is_p
 may_dot r (Unregister name) e adds = absurd (true≢false (sym adds))
 
 -- so the tables refuse it for memory alone
-pub put_refused : {A B : Type 0} (real : Node) (site : Site) → NodeStandsFor real site → (c : Command) → may (reading site) c ≡ Ok tt → is_some (operation (reading site) c).add ≡ true → (fault : PutFault) → (IsErrOf {T = B} (Err fault) NoDotLeft → IsGreatest (has real.tables.context) real.name MAX)
-    → (result : Result A Refusal) → IsErrAnd result (λ r. r ≡ put_refusal fault) → IfErr result (λ r. r ≡ OutOfMemory)
-put_refused real site s c e adds fault spent (Ok a) is = tt
-put_refused real site s c e adds NoDotLeft spent (Err r) is = absurd (no_dot_left real site s (may_dot (reading site) c e adds) (spent refl))
-put_refused real site s c e adds NoMemory spent (Err r) is = is
+pub put_refused : {A B : Type 0} (real : Node) (c : Command) → ((r : Reading) → is_some (operation r c).add ≡ true) → (fault : PutFault) → (IsErrOf {T = B} (Err fault) NoDotLeft → IsGreatest (has real.tables.context) real.name MAX)
+    → (result : Result A Refusal) → IsErrAnd result (λ r. r ≡ put_refusal fault) → IfErr result (LacksMemory real c)
+put_refused real c adds fault spent (Ok a) is = tt
+put_refused real c adds NoDotLeft spent (Err r) is = λ site s e. absurd (no_dot_left real site s (may_dot (reading site) c e (adds (reading site))) (spent refl))
+put_refused real c adds NoMemory spent (Err r) is = λ site s e. is
 
 -- tables of one operation, told in the words of the model
 pub brings : (delta : State) (op told : Operation) → op ≡ told → StandsFor delta (op ∷ []) → StandsFor delta (told ∷ [])

@@ -12,6 +12,7 @@ pub mod Runs
 pub mod Sound
 pub mod Headline
 pub mod Stands
+pub mod Issuing
 pub mod Text
 pub mod Faults
 pub mod Ends

@@ -1,10 +1,7 @@
 //! The operations of commands.
-ghost use Rattle.std.specs.Prelude.{◌≡◌, ◌∷◌, [], IfOk, IfErr, Ok};
-ghost use Rattle.sup_tables.specs.States.{StandsFor};
-ghost use Rattle.supctl.specs.Worlds.{Site};
+ghost use Rattle.std.specs.Prelude.{IfOk, IfErr};
 ghost use Rattle.supctl.specs.declared.world.command.Command.TheVariants.{Join, Leave, Start, Replace, Delete, Register, Unregister};
-ghost use Rattle.supctl.specs.Commands.{reading, next, may, operation, reply};
-ghost use Rattle.supctl.specs.Stands.{NodeStandsFor};
+ghost use Rattle.supctl.specs.Issuing.{Brings, Replies, LacksMemory};
 
 use crate::world::answer::{Answer, Dots};
 use crate::world::command::Command;
@@ -21,9 +18,9 @@ impl Node {
         alloc: Global,
         command: &Command,
     ) -> Result<(Tables, Answer), Refusal>
-        ensures delta { IfOk result (λ r. (site : Site) → NodeStandsFor self.now site → StandsFor r.0 (operation (reading site) command.now ∷ [])) }
-        ensures answer { IfOk result (λ r. (site : Site) → NodeStandsFor self.now site → r.1 ≡ reply command.now (next (reading site)) (operation (reading site) command.now).removes) }
-        ensures refused { (site : Site) → NodeStandsFor self.now site → may (reading site) command.now ≡ Ok tt → IfErr result (λ refusal. refusal ≡ Refusal.OutOfMemory) }
+        ensures delta { IfOk result (λ r. Brings self.now command.now r.0) }
+        ensures answer { IfOk result (λ r. Replies self.now command.now r.1) }
+        ensures refused { IfErr result (LacksMemory self.now command.now) }
     {
         match command {
             Command::Join { info } => self.join(alloc, info),
@@ -37,9 +34,9 @@ impl Node {
     }
 
     fn join(&self, alloc: Global, info: &MemberInfo) -> Result<(Tables, Answer), Refusal>
-        ensures delta { IfOk result (λ r. (site : Site) → NodeStandsFor self.now site → StandsFor r.0 (operation (reading site) (Join info.now) ∷ [])) }
-        ensures answer { IfOk result (λ r. (site : Site) → NodeStandsFor self.now site → r.1 ≡ reply (Join info.now) (next (reading site)) (operation (reading site) (Join info.now)).removes) }
-        ensures refused { (site : Site) → NodeStandsFor self.now site → may (reading site) (Join info.now) ≡ Ok tt → IfErr result (λ refusal. refusal ≡ Refusal.OutOfMemory) }
+        ensures delta { IfOk result (λ r. Brings self.now (Join info.now) r.0) }
+        ensures answer { IfOk result (λ r. Replies self.now (Join info.now) r.1) }
+        ensures refused { IfErr result (LacksMemory self.now (Join info.now)) }
     {
         let info = info.try_clone(alloc)?;
         let (delta, dot) = self.tables.put_member(self.name, info)?;
@@ -47,9 +44,9 @@ impl Node {
     }
 
     fn leave(&self, member: &NodeName) -> Result<(Tables, Answer), Refusal>
-        ensures delta { IfOk result (λ r. (site : Site) → NodeStandsFor self.now site → StandsFor r.0 (operation (reading site) (Leave member.now) ∷ [])) }
-        ensures answer { IfOk result (λ r. (site : Site) → NodeStandsFor self.now site → r.1 ≡ reply (Leave member.now) (next (reading site)) (operation (reading site) (Leave member.now)).removes) }
-        ensures refused { (site : Site) → NodeStandsFor self.now site → may (reading site) (Leave member.now) ≡ Ok tt → IfErr result (λ refusal. refusal ≡ Refusal.OutOfMemory) }
+        ensures delta { IfOk result (λ r. Brings self.now (Leave member.now) r.0) }
+        ensures answer { IfOk result (λ r. Replies self.now (Leave member.now) r.1) }
+        ensures refused { IfErr result (LacksMemory self.now (Leave member.now)) }
     {
         let (delta, dots) = self.tables.drop_member(member)?;
         Ok((delta, Answer::Removed(Dots::new(dots))))
@@ -61,9 +58,9 @@ impl Node {
         id: &ChildId,
         spec: &ChildSpec,
     ) -> Result<(Tables, Answer), Refusal>
-        ensures delta { IfOk result (λ r. (site : Site) → NodeStandsFor self.now site → StandsFor r.0 (operation (reading site) (Start id.now spec.now) ∷ [])) }
-        ensures answer { IfOk result (λ r. (site : Site) → NodeStandsFor self.now site → r.1 ≡ reply (Start id.now spec.now) (next (reading site)) (operation (reading site) (Start id.now spec.now)).removes) }
-        ensures refused { (site : Site) → NodeStandsFor self.now site → may (reading site) (Start id.now spec.now) ≡ Ok tt → IfErr result (λ refusal. refusal ≡ Refusal.OutOfMemory) }
+        ensures delta { IfOk result (λ r. Brings self.now (Start id.now spec.now) r.0) }
+        ensures answer { IfOk result (λ r. Replies self.now (Start id.now spec.now) r.1) }
+        ensures refused { IfErr result (LacksMemory self.now (Start id.now spec.now)) }
     {
         let id = id.try_clone(alloc)?;
         let spec = spec.try_clone(alloc)?;
@@ -77,9 +74,9 @@ impl Node {
         id: &ChildId,
         spec: &ChildSpec,
     ) -> Result<(Tables, Answer), Refusal>
-        ensures delta { IfOk result (λ r. (site : Site) → NodeStandsFor self.now site → StandsFor r.0 (operation (reading site) (Replace id.now spec.now) ∷ [])) }
-        ensures answer { IfOk result (λ r. (site : Site) → NodeStandsFor self.now site → r.1 ≡ reply (Replace id.now spec.now) (next (reading site)) (operation (reading site) (Replace id.now spec.now)).removes) }
-        ensures refused { (site : Site) → NodeStandsFor self.now site → may (reading site) (Replace id.now spec.now) ≡ Ok tt → IfErr result (λ refusal. refusal ≡ Refusal.OutOfMemory) }
+        ensures delta { IfOk result (λ r. Brings self.now (Replace id.now spec.now) r.0) }
+        ensures answer { IfOk result (λ r. Replies self.now (Replace id.now spec.now) r.1) }
+        ensures refused { IfErr result (LacksMemory self.now (Replace id.now spec.now)) }
     {
         let id = id.try_clone(alloc)?;
         let spec = spec.try_clone(alloc)?;
@@ -89,9 +86,9 @@ impl Node {
     }
 
     fn delete(&self, id: &ChildId) -> Result<(Tables, Answer), Refusal>
-        ensures delta { IfOk result (λ r. (site : Site) → NodeStandsFor self.now site → StandsFor r.0 (operation (reading site) (Delete id.now) ∷ [])) }
-        ensures answer { IfOk result (λ r. (site : Site) → NodeStandsFor self.now site → r.1 ≡ reply (Delete id.now) (next (reading site)) (operation (reading site) (Delete id.now)).removes) }
-        ensures refused { (site : Site) → NodeStandsFor self.now site → may (reading site) (Delete id.now) ≡ Ok tt → IfErr result (λ refusal. refusal ≡ Refusal.OutOfMemory) }
+        ensures delta { IfOk result (λ r. Brings self.now (Delete id.now) r.0) }
+        ensures answer { IfOk result (λ r. Replies self.now (Delete id.now) r.1) }
+        ensures refused { IfErr result (LacksMemory self.now (Delete id.now)) }
     {
         let (delta, dots) = self.tables.drop_child(id)?;
         Ok((delta, Answer::Removed(Dots::new(dots))))
@@ -103,9 +100,9 @@ impl Node {
         name: &Name,
         id: &ChildId,
     ) -> Result<(Tables, Answer), Refusal>
-        ensures delta { IfOk result (λ r. (site : Site) → NodeStandsFor self.now site → StandsFor r.0 (operation (reading site) (Register name.now id.now) ∷ [])) }
-        ensures answer { IfOk result (λ r. (site : Site) → NodeStandsFor self.now site → r.1 ≡ reply (Register name.now id.now) (next (reading site)) (operation (reading site) (Register name.now id.now)).removes) }
-        ensures refused { (site : Site) → NodeStandsFor self.now site → may (reading site) (Register name.now id.now) ≡ Ok tt → IfErr result (λ refusal. refusal ≡ Refusal.OutOfMemory) }
+        ensures delta { IfOk result (λ r. Brings self.now (Register name.now id.now) r.0) }
+        ensures answer { IfOk result (λ r. Replies self.now (Register name.now id.now) r.1) }
+        ensures refused { IfErr result (LacksMemory self.now (Register name.now id.now)) }
     {
         let name = name.try_clone(alloc)?;
         let id = id.try_clone(alloc)?;
@@ -114,9 +111,9 @@ impl Node {
     }
 
     fn unregister(&self, name: &Name) -> Result<(Tables, Answer), Refusal>
-        ensures delta { IfOk result (λ r. (site : Site) → NodeStandsFor self.now site → StandsFor r.0 (operation (reading site) (Unregister name.now) ∷ [])) }
-        ensures answer { IfOk result (λ r. (site : Site) → NodeStandsFor self.now site → r.1 ≡ reply (Unregister name.now) (next (reading site)) (operation (reading site) (Unregister name.now)).removes) }
-        ensures refused { (site : Site) → NodeStandsFor self.now site → may (reading site) (Unregister name.now) ≡ Ok tt → IfErr result (λ refusal. refusal ≡ Refusal.OutOfMemory) }
+        ensures delta { IfOk result (λ r. Brings self.now (Unregister name.now) r.0) }
+        ensures answer { IfOk result (λ r. Replies self.now (Unregister name.now) r.1) }
+        ensures refused { IfErr result (LacksMemory self.now (Unregister name.now)) }
     {
         let (delta, dots) = self.tables.drop_name(name)?;
         Ok((delta, Answer::Removed(Dots::new(dots))))

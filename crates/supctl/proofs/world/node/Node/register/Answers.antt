@@ -14,5 +14,5 @@ pub returns-clause-answer : goal.returns-clause-answer
 returns-clause-answer c site s = ap Added (dot_is c.args.self.now site s c.in_ok-delta.dot c.in_ok-delta.ensures.next)
 
 pub returns-in_err-delta-clause-refused : goal.returns-in_err-delta-clause-refused
-returns-in_err-delta-clause-refused c site s may =
-    put_refused c.args.self.now site s (Register c.args.name.now c.args.id.now) may refl c.in_err-delta.field-0.0 c.in_err-delta.ensures.spent.0 c.from_residual-in_err-delta.result c.from_residual-in_err-delta.ensures.1
+returns-in_err-delta-clause-refused c =
+    put_refused c.args.self.now (Register c.args.name.now c.args.id.now) (λ r. refl) c.in_err-delta.field-0.0 c.in_err-delta.ensures.spent.0 c.from_residual-in_err-delta.result c.from_residual-in_err-delta.ensures.1

@@ -19,5 +19,5 @@ returns-clause-answer c site s =
     λ i. Replaced (dot i) (dots i)
 
 pub returns-in_err-delta-clause-refused : goal.returns-in_err-delta-clause-refused
-returns-in_err-delta-clause-refused c site s may =
-    put_refused c.args.self.now site s (Replace c.args.id.now c.args.spec.now) may refl c.in_err-delta.field-0.0 c.in_err-delta.ensures.spent.0 c.from_residual-in_err-delta.result c.from_residual-in_err-delta.ensures.1
+returns-in_err-delta-clause-refused c =
+    put_refused c.args.self.now (Replace c.args.id.now c.args.spec.now) (λ r. refl) c.in_err-delta.field-0.0 c.in_err-delta.ensures.spent.0 c.from_residual-in_err-delta.result c.from_residual-in_err-delta.ensures.1
