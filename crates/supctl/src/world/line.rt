@@ -30,7 +30,10 @@ pub enum Line {
         place: Place,
     },
     /// An entry that is live and did not win.
-    Loser { key: Key, dot: Dot },
+    Loser {
+        key: Key,
+        dot: Dot,
+    },
 }
 
 /// A key of a table.
