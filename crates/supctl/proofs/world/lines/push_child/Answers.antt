@@ -7,4 +7,4 @@ use Rattle.supctl.proofs.world.lines.push_child.Goals as goal
 
 pub returns : goal.returns
 returns c =
-    with_its_losers _ (λ l. child_row c.args.winner.now.key.now l.dot.now l.value.now) _ _ _ _ _ _ c.push_losers.result (λ l. ap (λ key. Loser (Child key) l.dot.now) c.in_ok-try_clone-3.ensures) (search rules) c.in_ok-losers.ensures c.push_losers.ensures
+    with_its_losers (λ l. Loser (Child c.in_ok-try_clone-3.field-0) l.dot.now) (λ l. child_row c.args.winner.now.key.now l.dot.now l.value.now) c.deref.result.now _ _ c.args.lines.now.items c.push.new.self.items c.push_losers.new.lines.items c.push_losers.result (λ l. ap (λ key. Loser (Child key) l.dot.now) c.in_ok-try_clone-3.ensures) (search rules) (rw c.deref.ensures.value c.in_ok-losers.ensures) c.push_losers.ensures

@@ -1,8 +1,10 @@
 use Rattle.std.proofs.Common.{rules, refl}
 use Rattle.sup_tables.specs.Stored.{member_row}
+use Rattle.supctl.specs.declared.world.line.Key.TheVariants.{Member}
+use Rattle.supctl.specs.declared.world.line.Line.TheVariants.{Loser}
 use Rattle.supctl.proofs.LineLaws.{with_its_losers}
 use Rattle.supctl.proofs.world.lines.push_member.Goals as goal
 
 pub returns : goal.returns
 returns c =
-    with_its_losers _ (λ l. member_row c.args.winner.now.key.now l.dot.now l.value.now) _ _ _ _ _ _ c.push_losers.result (λ l. refl) (search rules) c.in_ok-losers.ensures c.push_losers.ensures
+    with_its_losers (λ l. Loser (Member c.args.winner.now.key.now) l.dot.now) (λ l. member_row c.args.winner.now.key.now l.dot.now l.value.now) c.deref.result.now _ _ c.args.lines.now.items c.push.new.self.items c.push_losers.new.lines.items c.push_losers.result (λ l. refl) (search rules) (rw c.deref.ensures.value c.in_ok-losers.ensures) c.push_losers.ensures
