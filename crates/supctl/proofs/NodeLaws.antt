@@ -1,5 +1,5 @@
 -- What the checks of a node say, and what its commands make of it.
-use Rattle.std.specs.Prelude.{◌≡◌, ℕ, ◌+◌, ◌<◌, ◌≤◌, not, Bool, true, false, List, [], ◌∷◌, ◌++◌, length, nat_le, is_some, Option, Some, None, Result, Ok, Err, IfErr, refl}
+use Rattle.std.specs.Prelude.{◌≡◌, ℕ, ◌+◌, ◌≤◌, not, Bool, true, false, List, [], ◌∷◌, ◌++◌, length, nat_le, is_some, Option, Some, None, Result, Ok, Err, IfErr, refl}
 use Rattle.std.specs.Result.{IsErrAnd, IsErrOf}
 use Rattle.std.specs.Option.{option_map}
 use Rattle.std.proofs.Common.{sym, ap, ◌∙◌, subst, arith}
@@ -21,7 +21,7 @@ use Rattle.supctl.specs.declared.world.command.Command.{Command}
 use Rattle.supctl.specs.declared.world.command.Command.TheVariants.{Join, Leave, Start, Replace, Delete, Register, Unregister}
 use Rattle.supctl.specs.declared.world.node.Node.{Node}
 use Rattle.supctl.specs.declared.world.refusal.Refusal.{Refusal}
-use Rattle.supctl.specs.declared.world.refusal.Refusal.TheVariants.{AlreadyPresent, NotFound, AlreadyMember, NameTaken, NoSuchChild, DotsSpent, TableFull, OutOfMemory}
+use Rattle.supctl.specs.declared.world.refusal.Refusal.TheVariants.{AlreadyPresent, NotFound, AlreadyMember, NameTaken, NoSuchChild, DotsSpent, TableFull}
 use Rattle.supctl.specs.Checks.{row_limit, refused_if, then_do}
 use Rattle.supctl.specs.Worlds.{Site}
 use Rattle.supctl.specs.Commands.{Reading, reading, next, is_full, is_spent, has_dot, may, operation, reply}

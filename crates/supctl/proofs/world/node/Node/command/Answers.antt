@@ -1,4 +1,4 @@
-use Rattle.std.proofs.Common.{◌≡◌, [], ◌∷◌, sym, ap, ◌∙◌}
+use Rattle.std.proofs.Common.{[], ◌∷◌, sym, ap, ◌∙◌}
 use Rattle.supctl.specs.Commands.{reading, operation}
 use Rattle.supctl.specs.Steps.{may_change}
 use Rattle.supctl.proofs.NodeLaws.{carried_out, clear_command}

@@ -1,4 +1,4 @@
-use Rattle.std.proofs.Common.{◌≡◌, ◌∙◌, refl}
+use Rattle.std.proofs.Common.{◌∙◌, refl}
 use Rattle.std.proofs.lemmas.Bool.{le-leb, lt-leb}
 use Rattle.sup_causal.specs.declared.dot.TheConstants.{MAX}
 use Rattle.supctl.proofs.NodeLaws.{spent_is, refuses, passes}

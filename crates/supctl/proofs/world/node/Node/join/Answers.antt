@@ -1,4 +1,4 @@
-use Rattle.std.proofs.Common.{◌≡◌, ap, refl}
+use Rattle.std.proofs.Common.{ap, refl}
 use Rattle.sup_tables.specs.Makers.{put_member}
 use Rattle.supctl.specs.declared.world.answer.Answer.TheVariants.{Added}
 use Rattle.supctl.specs.declared.world.command.Command.TheVariants.{Join}

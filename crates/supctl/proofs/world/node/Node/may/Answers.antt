@@ -1,4 +1,4 @@
-use Rattle.std.proofs.Common.{◌≡◌, ap, sym, ◌∙◌}
+use Rattle.std.proofs.Common.{ap, sym, ◌∙◌}
 use Rattle.supctl.specs.Commands.{reading, may}
 use Rattle.supctl.proofs.world.node.Node.may.Goals as goal
 

@@ -1,4 +1,4 @@
-use Rattle.std.proofs.Common.{◌≡◌, ◌∙◌, refl}
+use Rattle.std.proofs.Common.{◌∙◌, refl}
 use Rattle.sup_tables.specs.Rows.{children}
 use Rattle.sup_tables.specs.Readers.{live_dots}
 use Rattle.sup_tables.specs.Makers.{replace_child}
