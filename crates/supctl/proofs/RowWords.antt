@@ -2,6 +2,7 @@
 use Rattle.std.specs.Prelude.{ℕ, List, [], ◌∷◌, codes}
 use Rattle.sup_specs.specs.Values.{Bytes}
 use Rattle.sup_specs.specs.declared.child.ChildSpec.{ChildSpec}
+use Rattle.sup_specs.specs.declared.child.MemberInfo.{MemberInfo}
 use Rattle.sup_specs.specs.declared.child.Restart.TheVariants.{Permanent}
 use Rattle.sup_specs.specs.declared.child.Shutdown.TheVariants.{Millis}
 use Rattle.sup_causal.specs.declared.dot.Dot.{Dot}
@@ -43,6 +44,10 @@ of_kind kind = record { kind = kind; arg = []; restart = Permanent; shutdown = M
 -- and with none
 abbrev pub sp : ChildSpec
 sp = of_kind (codes "worker")
+
+-- what a join without a label says of the member
+abbrev pub unlabelled : MemberInfo
+unlabelled = record { label = [] }
 
 abbrev pub dot : Bytes → ℕ → Dot
 dot node n = record { counter = n; node = node }
