@@ -1,4 +1,4 @@
--- Runs that end before their script does.
+-- Runs that end before their input is done.
 use Rattle.std.proofs.Common.{ℕ, List, Some, None, inl}
 use Rattle.std.specs.Prelude.{Err}
 use Rattle.std.proofs.KnownBytes.{Keeps-refl}
@@ -6,12 +6,13 @@ use Rattle.sup_placement.specs.Place.{Weigher}
 use Rattle.supctl.specs.declared.fault.Fault.{Fault}
 use Rattle.supctl.specs.declared.fault.Fault.TheVariants.{BadLine, BadInput, Device, OutOfMemory}
 use Rattle.supctl.specs.Faults.{IsOutside}
-use Rattle.supctl.specs.Run.{Bytes, Ends, Simulates, Stops, WantsMemory}
+use Rattle.supctl.specs.Ends.{Bytes, Job, Does}
+use Rattle.supctl.specs.Run.{Ends, Stops, WantsMemory}
 
 -- a run that was refused memory at once has written nothing, whatever its input is
-pub unstarted : (weight : Weigher) (input before errors_before errors_written : Bytes) (status : ℕ) → WantsMemory errors_before errors_written status → Simulates weight input before before errors_before errors_written status
-unstarted weight None before errors_before errors_written status h = (Err OutOfMemory, h.1.0, h.0, h.1.1, tt)
-unstarted weight (Some bytes) before errors_before errors_written status h = (Err OutOfMemory, h.1.0, h.0, h.1.1, inl (Keeps-refl before))
+pub unstarted : {A : Type 0} (job : Job A) (input before errors_before errors_written : Bytes) (status : ℕ) → WantsMemory errors_before errors_written status → Does job input before before errors_before errors_written status
+unstarted job None before errors_before errors_written status h = (Err OutOfMemory, h.1.0, h.0, h.1.1, tt)
+unstarted job (Some bytes) before errors_before errors_written status h = (Err OutOfMemory, h.1.0, h.0, h.1.1, inl (Keeps-refl before))
 
 -- a run that the device or memory ended
 pub stopped : (X : Type 0) (weight : Weigher) (fault : Fault) (input : List ℕ) (before written : Bytes) → IsOutside fault → Stops weight input before written → Ends {X = X} weight input before written (Err fault)

@@ -4,6 +4,8 @@ pub mod Playing
 pub mod Fronts
 pub mod Endings
 pub mod WordValues
+pub mod LineLaws
+pub mod Requests
 pub mod Afters
 pub mod Tops
 pub mod RowSets

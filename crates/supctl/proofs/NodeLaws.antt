@@ -1,125 +1,141 @@
 -- What the checks of a node say, and what its commands make of it.
-use Rattle.std.specs.Prelude.{◌≡◌, ℕ, ◌+◌, ◌<◌, ◌≤◌, Bool, true, false, not, List, [], ◌∷◌, ◌++◌, length, nat_le, is_some, Option, Some, None, Result, Ok, Err, IfErr, refl}
-use Rattle.std.specs.Result.{IsErrAnd}
+use Rattle.std.specs.Prelude.{◌≡◌, ℕ, ◌+◌, ◌<◌, ◌≤◌, not, Bool, true, false, List, [], ◌∷◌, ◌++◌, length, nat_le, is_some, Option, Some, None, Result, Ok, Err, IfErr, refl}
+use Rattle.std.specs.Result.{IsErrAnd, IsErrOf}
 use Rattle.std.specs.Option.{option_map}
 use Rattle.std.proofs.Common.{sym, ap, ◌∙◌, subst, arith}
-use Rattle.std.proofs.lemmas.Bool.{le-leb, lt-leb}
+use Rattle.std.proofs.lemmas.Bool.{le-leb}
 use mathlib.Core.Bool.{true≢false}
 use Rattle.sup_specs.specs.Values.{Bytes}
-use Rattle.sup_specs.specs.declared.child.ChildSpec.{ChildSpec}
 use Rattle.sup_causal.specs.declared.dot.Dot.{Dot}
 use Rattle.sup_causal.specs.declared.dot.TheConstants.{MAX}
-use Rattle.sup_causal.specs.Dots.{has, IsGreatest, IsNext}
+use Rattle.sup_causal.specs.Dots.{Context, has, IsGreatest, IsNext}
 use Rattle.sup_tables.specs.declared.fault.PutFault.{PutFault}
 use Rattle.sup_tables.specs.declared.fault.PutFault.TheVariants.{DotsSpent as NoDotLeft, OutOfMemory as NoMemory}
 use Rattle.sup_tables.specs.declared.row.Row.{Row}
-use Rattle.sup_tables.specs.Rows.{children}
-use Rattle.sup_tables.specs.Operations.{Operation, live, greatest, NoClash}
-use Rattle.sup_tables.specs.Makers.{put_child, drop_child}
+use Rattle.sup_tables.specs.Rows.{Table, members, children, names}
+use Rattle.sup_tables.specs.Operations.{Operation, greatest, NoClash}
 use Rattle.sup_tables.specs.Readers.{winner, is_present}
+use Rattle.sup_tables.specs.States.{State, StandsFor}
 use Rattle.supctl.specs.declared.world.answer.Answer.{Answer}
-use Rattle.supctl.specs.declared.world.answer.Answer.TheVariants.{Added, Removed}
+use Rattle.supctl.specs.declared.world.command.Command.{Command}
+use Rattle.supctl.specs.declared.world.command.Command.TheVariants.{Join, Leave, Start, Replace, Delete, Register, Unregister}
 use Rattle.supctl.specs.declared.world.node.Node.{Node}
 use Rattle.supctl.specs.declared.world.refusal.Refusal.{Refusal}
-use Rattle.supctl.specs.declared.world.refusal.Refusal.TheVariants.{AlreadyPresent, NotFound, DotsSpent, TableFull, OutOfMemory}
+use Rattle.supctl.specs.declared.world.refusal.Refusal.TheVariants.{AlreadyPresent, NotFound, AlreadyMember, NameTaken, NoSuchChild, DotsSpent, TableFull, OutOfMemory}
 use Rattle.supctl.specs.Checks.{row_limit, refused_if, then_do}
 use Rattle.supctl.specs.Worlds.{Site}
-use Rattle.supctl.specs.Commands.{Reading, reading, next, may_start, may_delete, is_full, is_spent}
-use Rattle.supctl.specs.Steps.{may_change, changed, changes, start_at, delete_at}
+use Rattle.supctl.specs.Commands.{Reading, reading, next, is_full, is_spent, has_dot, may, operation, reply}
+use Rattle.supctl.specs.Steps.{may_change, changed, changes, command_at}
 use Rattle.supctl.specs.Stands.{NodeStandsFor, NodeBecomes, Gives, put_refusal}
 use Rattle.supctl.specs.Sound.{HasRow}
 use Rattle.supctl.proofs.Tops.{greatest_in, one_greatest, next_is, added-greatest}
 use Rattle.supctl.proofs.RowSets.{row-append, row-one, some_same, none_some}
 
+-- a check that fails, and one that doesn't
+pub refuses : {A : Type 0} (b : Bool) (refusal : Refusal) (rest : Result A Refusal) → b ≡ true → Err refusal ≡ refused_if b refusal rest
+refuses true refusal rest e = refl
+refuses false refusal rest e = absurd (true≢false (sym e))
+
+pub passes : {A : Type 0} (b : Bool) (refusal : Refusal) (rest result : Result A Refusal) → b ≡ false → result ≡ rest → result ≡ refused_if b refusal rest
+passes true refusal rest result e f = absurd (true≢false e)
+passes false refusal rest result e f = f
+
+-- where all checks were passed, so were the later ones
+past : {A : Type 0} (b : Bool) (refusal : Refusal) (rest : Result A Refusal) (a : A) → refused_if b refusal rest ≡ Ok a → rest ≡ Ok a
+past true refusal rest a e = absurd cc
+past false refusal rest a e = e
+
+some_mapped : {A B : Type 0} (f : A → B) (o : Option A) (w : Option B) → option_map f o ≡ w → is_some o ≡ is_some w
+some_mapped f None w e = ap is_some e
+some_mapped f (Some x) w e = ap is_some e
+
+-- what the tables show of a key is present in the model
+pub present_is : {A : Type 0} (f : A → Row) (o : Option A) (real : Node) (site : Site) → NodeStandsFor real site → (table : Table) (key : Bytes) → option_map f o ≡ winner real.tables.rows table key
+    → is_some o ≡ is_present (reading site).rows table key
+present_is f o real site s table key e = some_mapped f o (winner real.tables.rows table key) e ∙ ap (λ rows. is_present rows table key) s.tables.rows
+
+pub full_is : (real : Node) (site : Site) → NodeStandsFor real site → is_full (reading site) ≡ nat_le row_limit (length real.tables.rows)
+full_is real site s = ap (λ (rows : List Row). nat_le row_limit (length rows)) (sym s.tables.rows)
+
 -- the greatest counter that a node's context tells is the model's
-pub counter_is : (real : Node) (site : Site) → NodeStandsFor real site → (n : ℕ) → IsGreatest (has real.tables.context) real.name n → n ≡ greatest site.operations site.name
+pub counter_is : (real : Node) (site : Site) → NodeStandsFor real site → (n : ℕ) → IsGreatest (has real.tables.context) real.name n → n ≡ (reading site).counter
 counter_is real site s n g =
     one_greatest (has real.tables.context) real.name n (greatest site.operations site.name) g
     (subst (λ name. IsGreatest (has real.tables.context) name (greatest site.operations site.name)) (sym s.name)
     (greatest_in real.tables.context site.operations s.tables.context site.name))
 
--- a child that the tables show is present in the model
-pub present_is : (real : Node) (site : Site) → NodeStandsFor real site → (id : Bytes) (b : Bool) → is_some (winner real.tables.rows children id) ≡ b → is_present (reading site).rows children id ≡ b
-present_is real site s id b e = ap (λ rows. is_some (winner rows children id)) (sym s.tables.rows) ∙ e
-
-pub full_is : (real : Node) (site : Site) → NodeStandsFor real site → (b : Bool) → nat_le row_limit (length real.tables.rows) ≡ b → is_full (reading site) ≡ b
-full_is real site s b e = ap (λ (rows : List Row). nat_le row_limit (length rows)) (sym s.tables.rows) ∙ e
-
--- the checks of a start, by their tests
-pub may_start_by : (r : Reading) (id : Bytes) (a b c : Bool) → is_present r.rows children id ≡ a → is_full r ≡ b → is_spent r ≡ c
-    → may_start r id ≡ refused_if a AlreadyPresent (refused_if b TableFull (refused_if c DotsSpent (Ok tt)))
-may_start_by r id a b c e f g = λ i. refused_if (e i) AlreadyPresent (refused_if (f i) TableFull (refused_if (g i) DotsSpent (Ok tt)))
-
-some_mapped : {A B : Type 0} (f : A → B) (o : Option A) (w : Option B) (b : Bool) → option_map f o ≡ w → is_some o ≡ b → is_some w ≡ b
-some_mapped f None w b e g = ap is_some (sym e) ∙ g
-some_mapped f (Some x) w b e g = ap is_some (sym e) ∙ g
-
--- a child that the tables show, or not
-pub shown_is : {A : Type 0} (f : A → Row) (o : Option A) (real : Node) (site : Site) → NodeStandsFor real site → (id : Bytes) (b : Bool) → option_map f o ≡ winner real.tables.rows children id → is_some o ≡ b
-    → is_present (reading site).rows children id ≡ b
-shown_is f o real site s id b e g = present_is real site s id b (some_mapped f o (winner real.tables.rows children id) b e g)
-
--- what a start's last check says
-pub spent_is : (real : Node) (site : Site) → NodeStandsFor real site → (n : ℕ) → IsGreatest (has real.tables.context) real.name n → (b : Bool) → nat_le MAX n ≡ b → is_spent (reading site) ≡ b
-spent_is real site s n g b e = ap (λ k. nat_le MAX k) (sym (counter_is real site s n g)) ∙ e
+pub spent_is : (real : Node) (site : Site) → NodeStandsFor real site → (context : Context) → context ≡ real.tables.context → (n : ℕ) → IsGreatest (has context) real.name n → is_spent (reading site) ≡ nat_le MAX n
+spent_is real site s context same n g = ap (λ k. nat_le MAX k) (sym (counter_is real site s n (subst (λ (x : Context). IsGreatest (has x) real.name n) same g)))
 
 pub dot_is : (real : Node) (site : Site) → NodeStandsFor real site → (d : Dot) → IsNext (has real.tables.context) real.name d → d ≡ next (reading site)
 dot_is real site s d is = next_is real.tables.context site.operations s.tables.context site.name d (subst (λ name. IsNext (has real.tables.context) name d) s.name is)
 
-none_spent : (a b c : Bool) → ◌≡◌ {A = Result (Unit {0}) Refusal} (refused_if a AlreadyPresent (refused_if b TableFull (refused_if c DotsSpent (Ok tt)))) (Ok tt) → c ≡ false
-none_spent true b c e = absurd cc
-none_spent false true c e = absurd cc
-none_spent false false true e = absurd cc
-none_spent false false false e = refl
-
--- a start that may be made is refused by the tables for memory alone
-pub put_refused : (real : Node) (site : Site) (id : Bytes) → NodeStandsFor real site → may_start (reading site) id ≡ Ok tt → (fault : PutFault) → (fault ≡ NoDotLeft → IsGreatest (has real.tables.context) real.name MAX)
-    → put_refusal fault ≡ OutOfMemory
-put_refused real site id s may NoDotLeft spent =
-    let is : is_spent (reading site) ≡ true = spent_is real site s MAX (spent refl) true (le-leb MAX MAX (omega arith)) in
-    absurd (true≢false (sym is ∙ none_spent (is_present (reading site).rows children id) (is_full (reading site)) (is_spent (reading site)) may))
-put_refused real site id s may NoMemory spent = refl
-
--- an own operation clashes with none
-pub clear_own : (site : Site) (op : Operation) → NoClash site.operations → ((r : Row) → op.add ≡ Some r → r.dot ≡ next (reading site)) → NoClash (site.operations ++ op ∷ [])
-clear_own site op clear fresh r q hr hq same =
-    row-append site.operations (op ∷ []) r (r ≡ q) hr
-    (λ old. row-append site.operations (op ∷ []) q (r ≡ q) hq (λ other. clear r q old other same) (λ new. absurd (past q r (row-one op q new) old same)))
-    (λ new. row-append site.operations (op ∷ []) q (r ≡ q) hq (λ other. absurd (past r q (row-one op r new) other (sym same))) (λ also. some_same r q (sym (row-one op r new) ∙ row-one op q also)))
+no_dot_left : (real : Node) (site : Site) → NodeStandsFor real site → has_dot (reading site) ≡ Ok tt → IsGreatest (has real.tables.context) real.name MAX → ⊥
+no_dot_left real site s may g =
+    let is : is_spent (reading site) ≡ true = spent_is real site s real.tables.context refl MAX g ∙ le-leb MAX MAX (omega arith) in
+    contrary (refuses (is_spent (reading site)) DotsSpent (Ok tt) is ∙ may)
   where
-    past : (x y : Row) → op.add ≡ Some x → HasRow site.operations y → y.dot ≡ x.dot → ⊥
-    past x y e h same =
-        let d : y.dot ≡ next (reading site) = same ∙ fresh x e in
-        let le : y.dot.counter ≤ greatest site.operations site.name = subst (λ n. y.dot.counter ≤ greatest site.operations n) (ap (λ (z : Dot). z.node) d) (added-greatest site.operations y h) in
-        let is : y.dot.counter ≡ greatest site.operations site.name + 1 = ap (λ (z : Dot). z.counter) d in
-        absurd (omega (arith, le, is))
+    contrary : ◌≡◌ {A = Result (Unit {0}) Refusal} (Err DotsSpent) (Ok tt) → ⊥
+    contrary e = cc
 
-pub clear_start : (site : Site) (id : Bytes) (spec : ChildSpec) → NoClash site.operations → NoClash (site.operations ++ put_child (next (reading site)) id spec ∷ [])
-clear_start site id spec clear = clear_own site (put_child (next (reading site)) id spec) clear (λ r e. ap (λ (z : Row). z.dot) (sym (some_same _ r e)))
+-- a command that may add has a dot
+may_dot : (r : Reading) (c : Command) → may r c ≡ Ok tt → is_some (operation r c).add ≡ true → has_dot r ≡ Ok tt
+may_dot r (Join info) e adds = past (is_full r) TableFull _ _ (past (is_present r.rows members r.me) AlreadyMember _ _ e)
+may_dot r (Leave member) e adds = absurd (true≢false (sym adds))
+may_dot r (Start id spec) e adds = past (is_full r) TableFull _ _ (past (is_present r.rows children id) AlreadyPresent _ _ e)
+may_dot r (Replace id spec) e adds = past (not (is_present r.rows children id)) NotFound _ _ e
+may_dot r (Delete id) e adds = absurd (true≢false (sym adds))
+may_dot r (Register name id) e adds = past (is_full r) TableFull _ _ (past (is_present r.rows names name) NameTaken _ _ (past (not (is_present r.rows children id)) NoSuchChild _ _ e))
+may_dot r (Unregister name) e adds = absurd (true≢false (sym adds))
 
-pub clear_delete : (site : Site) (rows : List Row) (id : Bytes) → NoClash site.operations → NoClash (site.operations ++ drop_child rows id ∷ [])
-clear_delete site rows id clear = clear_own site (drop_child rows id) clear (λ r e. absurd (none_some r e))
+-- so the tables refuse it for memory alone
+pub put_refused : {A B : Type 0} (real : Node) (site : Site) → NodeStandsFor real site → (c : Command) → may (reading site) c ≡ Ok tt → is_some (operation (reading site) c).add ≡ true → (fault : PutFault) → (IsErrOf {T = B} (Err fault) NoDotLeft → IsGreatest (has real.tables.context) real.name MAX)
+    → (result : Result A Refusal) → IsErrAnd result (λ r. r ≡ put_refusal fault) → IfErr result (λ r. r ≡ OutOfMemory)
+put_refused real site s c e adds fault spent (Ok a) is = tt
+put_refused real site s c e adds NoDotLeft spent (Err r) is = absurd (no_dot_left real site s (may_dot (reading site) c e adds) (spent refl))
+put_refused real site s c e adds NoMemory spent (Err r) is = is
 
--- a start that was made
-pub started : (real : Node) (site : Site) (id : Bytes) (spec : ChildSpec) (dot : Dot) → may_start (reading site) id ≡ Ok tt → may_change site.count ≡ Ok tt → dot ≡ next (reading site)
-    → NodeStandsFor real (changed site (put_child (next (reading site)) id spec ∷ [])) → Gives (NodeBecomes real) (start_at site id spec) (Ok (Added dot))
-started real site id spec dot e f d h =
-    let op = put_child (next (reading site)) id spec in
-    let result : Result Answer Refusal = Ok (Added dot) in
-    let becomes : NodeBecomes real (Added dot) (record { answer = Added (next (reading site)); site = changed site (op ∷ []) }) = record { answers = ap Added d; stands = h } in
-    subst (λ (checks : Result (Unit {0}) Refusal). Gives (NodeBecomes real) (then_do (then_do checks (λ _. Ok op)) (λ x. changes site (x ∷ []) (Added (next (reading site))))) result) (sym e)
-    (subst (λ (checks : Result (Unit {0}) Refusal). Gives (NodeBecomes real) (then_do checks (λ _. Ok (record { answer = Added (next (reading site)); site = changed site (op ∷ []) }))) result) (sym f) becomes)
+-- tables of one operation, told in the words of the model
+pub brings : (delta : State) (op told : Operation) → op ≡ told → StandsFor delta (op ∷ []) → StandsFor delta (told ∷ [])
+brings delta op told e h = subst (λ x. StandsFor delta (x ∷ [])) e h
 
-pub deleted : (real : Node) (site : Site) (id : Bytes) (dots : List Dot) → may_delete (reading site) id ≡ Ok tt → may_change site.count ≡ Ok tt → dots ≡ (drop_child (live site.operations) id).removes
-    → NodeStandsFor real (changed site (drop_child (live site.operations) id ∷ [])) → Gives (NodeBecomes real) (delete_at site id) (Ok (Removed dots))
-deleted real site id dots e f d h =
-    let op = drop_child (live site.operations) id in
-    let result : Result Answer Refusal = Ok (Removed dots) in
-    let becomes : NodeBecomes real (Removed dots) (record { answer = Removed op.removes; site = changed site (op ∷ []) }) = record { answers = ap Removed d; stands = h } in
-    subst (λ (checks : Result (Unit {0}) Refusal). Gives (NodeBecomes real) (then_do (then_do checks (λ _. Ok op)) (λ x. changes site (x ∷ []) (Removed x.removes))) result) (sym e)
-    (subst (λ (checks : Result (Unit {0}) Refusal). Gives (NodeBecomes real) (then_do checks (λ _. Ok (record { answer = Removed op.removes; site = changed site (op ∷ []) }))) result) (sym f) becomes)
+-- what a command adds has the next dot
+pub adds_next : (r : Reading) (c : Command) (row : Row) → (operation r c).add ≡ Some row → row.dot ≡ next r
+adds_next r (Join info) row e = ap (λ (z : Row). z.dot) (sym (some_same _ row e))
+adds_next r (Leave member) row e = absurd (none_some row e)
+adds_next r (Start id spec) row e = ap (λ (z : Row). z.dot) (sym (some_same _ row e))
+adds_next r (Replace id spec) row e = ap (λ (z : Row). z.dot) (sym (some_same _ row e))
+adds_next r (Delete id) row e = absurd (none_some row e)
+adds_next r (Register name id) row e = ap (λ (z : Row). z.dot) (sym (some_same _ row e))
+adds_next r (Unregister name) row e = absurd (none_some row e)
 
--- the refusal of a result, by what is known of it
-pub refused_by : {A : Type 0} (result : Result A Refusal) (P : Refusal → Type 0) → IsErrAnd result P → ((r : Refusal) → P r → r ≡ OutOfMemory) → IfErr result (λ r. r ≡ OutOfMemory)
-refused_by (Ok a) P h f = tt
-refused_by (Err r) P h f = f r h
+-- a node knows no row of its next dot
+not_yet : (site : Site) (r : Row) → HasRow site.operations r → r.dot ≡ next (reading site) → ⊥
+not_yet site r h d =
+    let le : r.dot.counter ≤ greatest site.operations site.name = subst (λ n. r.dot.counter ≤ greatest site.operations n) (ap (λ (z : Dot). z.node) d) (added-greatest site.operations r h) in
+    let is : r.dot.counter ≡ greatest site.operations site.name + 1 = ap (λ (z : Dot). z.counter) d in
+    absurd (omega (arith, le, is))
+
+-- so the operation of a command clashes with none
+pub clear_command : (site : Site) (c : Command) → NoClash site.operations → NoClash (site.operations ++ operation (reading site) c ∷ [])
+clear_command site c clear r q hr hq same =
+    let op = operation (reading site) c in
+    let fresh = adds_next (reading site) c in
+    row-append site.operations (op ∷ []) r (r ≡ q) hr
+    (λ old. row-append site.operations (op ∷ []) q (r ≡ q) hq
+    (λ other. clear r q old other same)
+    (λ new. absurd (not_yet site r old (same ∙ fresh q (row-one op q new)))))
+    (λ new. row-append site.operations (op ∷ []) q (r ≡ q) hq
+    (λ other. absurd (not_yet site q other (sym same ∙ fresh r (row-one op r new))))
+    (λ also. some_same r q (sym (row-one op r new) ∙ row-one op q also)))
+
+-- a command that was carried out
+pub carried_out : (real : Node) (site : Site) (c : Command) (answer : Answer) → may (reading site) c ≡ Ok tt → may_change site.count ≡ Ok tt
+    → answer ≡ reply c (next (reading site)) (operation (reading site) c).removes → NodeStandsFor real (changed site (operation (reading site) c ∷ [])) → Gives (NodeBecomes real) (command_at site c) (Ok answer)
+carried_out real site c answer e f a h =
+    let op = operation (reading site) c in
+    let told = reply c (next (reading site)) op.removes in
+    let result : Result Answer Refusal = Ok answer in
+    let becomes : NodeBecomes real answer (record { answer = told; site = changed site (op ∷ []) }) = record { answers = a; stands = h } in
+    subst (λ (checks : Result (Unit {0}) Refusal). Gives (NodeBecomes real) (then_do checks (λ _. changes site (op ∷ []) told)) result) (sym e)
+    (subst (λ (checks : Result (Unit {0}) Refusal). Gives (NodeBecomes real) (then_do checks (λ _. Ok (record { answer = told; site = changed site (op ∷ []) }))) result) (sym f) becomes)

@@ -1,5 +1,5 @@
 -- The faults that end a run, their lines and their statuses (this project's output format).
-use Rattle.std.specs.Prelude.{ℕ, List, [], ◌∷◌, codes, decimal}
+use Rattle.std.specs.Prelude.{ℕ, List, [], ◌∷◌, Result, Ok, Err, codes, decimal}
 use Rattle.supctl.specs.Text.{text}
 use Rattle.supctl.specs.declared.fault.Fault.{Fault}
 use Rattle.supctl.specs.declared.fault.Fault.TheVariants.{BadLine, BadInput, Device, OutOfMemory}
@@ -21,6 +21,15 @@ status_of (BadLine number) = 1
 status_of BadInput = 1
 status_of Device = 3
 status_of OutOfMemory = 3
+
+-- the status of a run that ended so, 0 without a fault
+abbrev pub status_at : {X : Type 0} → Result X Fault → ℕ
+status_at (Ok x) = 0
+status_at (Err fault) = status_of fault
+
+abbrev pub fault_line_at : {X : Type 0} → Result X Fault → List ℕ
+fault_line_at (Ok x) = []
+fault_line_at (Err fault) = fault_text fault
 
 -- the device and memory, which no input decides
 abbrev pub IsOutside : Fault → Type 0

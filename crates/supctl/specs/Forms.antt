@@ -145,9 +145,13 @@ are_distinct (name ∷ names) = not (list_any (λ other. bytes_eq other name) na
 abbrev pub if_distinct : List Name → Option (List Name)
 if_distinct names = if are_distinct names then Some names else None
 
+-- each word, read as a name, where no name stands twice
+abbrev pub distinct_names_of : List Word → Option (List Name)
+distinct_names_of words = names_of words >>= if_distinct
+
 -- nodes NAME.., 1 to 16 distinct names
 unfoldable pub nodes_of : List Word → Option (List Name)
 nodes_of [] = None
 nodes_of (verb ∷ words) =
     if bytes_eq verb (codes "nodes") && nat_lt 0 (length words) && nat_le (length words) 16
-    then names_of words >>= if_distinct else None
+    then distinct_names_of words else None

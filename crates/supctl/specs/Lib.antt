@@ -14,5 +14,7 @@ pub mod Headline
 pub mod Stands
 pub mod Text
 pub mod Faults
+pub mod Ends
 pub mod Run
+pub mod Placing
 pub mod CommandLine

@@ -1,24 +1,22 @@
 -- What a run prints, and how it ends (this project).
-use Rattle.std.specs.Prelude.{◌≡◌, ℕ, ◌<◌, ◌≤◌, ◌⊎◌, List, [], ◌∷◌, ◌++◌, length, take, Option, Result, Ok, Err, IfSome}
-use Rattle.std.specs.Io.KnownBytes.{Appends, Consumes, Keeps}
+use Rattle.std.specs.Prelude.{◌≡◌, ℕ, ◌⊎◌, List, [], ◌∷◌, ◌++◌, take, Result, Ok, Err}
+use Rattle.std.specs.Io.KnownBytes.{Appends}
 use Rattle.sup_placement.specs.Place.{Weigher}
+pub use Rattle.supctl.specs.Ends.{Bytes, TakesAtMost}
+use Rattle.supctl.specs.Ends.{Job, Does, EndsAt, StopsAt}
 use Rattle.supctl.specs.Script.{ScriptText, script_of}
 use Rattle.supctl.specs.Text.{answer_text}
 use Rattle.supctl.specs.Worlds.{World, new_world}
 use Rattle.supctl.specs.Runs.{Allows}
 use Rattle.supctl.specs.Stands.{Follows, WorldStandsFor}
 use Rattle.supctl.specs.declared.world.state.World.{World as Real}
-use Rattle.supctl.specs.Faults.{fault_text, status_of, IsOutside}
+use Rattle.supctl.specs.Faults.{fault_text, status_of}
 use Rattle.supctl.specs.declared.world.step.Step.{Step}
 use Rattle.supctl.specs.declared.world.answer.Answer.{Answer}
 use Rattle.supctl.specs.declared.fault.Fault.{Fault}
-use Rattle.supctl.specs.declared.fault.Fault.TheVariants.{BadLine, BadInput, Device, OutOfMemory}
+use Rattle.supctl.specs.declared.fault.Fault.TheVariants.{OutOfMemory}
 use Rattle.supctl.specs.declared.run.Ran.{Ran}
 use Rattle.supctl.specs.declared.run.Ran.TheVariants.{Status}
-
--- the bytes of a reader or a writer, where these are known
-abbrev pub Bytes : Type 0
-Bytes = Option (List ℕ)
 
 -- From this world these steps may print this and leave that world.
 abbrev pub Plays : Weigher → World → List Step → List ℕ → World → Type 0
@@ -55,35 +53,24 @@ pub record PrintsFront (weight : Weigher) (world : World) (steps : List Step) (b
   pub plays : Plays weight world (take made steps) printed final
   pub writes : Appends before written (take bytes printed)
 
--- The run was stopped: nothing was written, or a front of what the script prints.
-abbrev pub Stops : Weigher → List ℕ → Bytes → Bytes → Type 0
-Stops weight input before written = Keeps before written
-    ⊎ ((s : ScriptText) × (script_of input ≡ Ok s) × PrintsFront weight (new_world s.0) s.1 before written)
+-- a script is run from the world of its nodes
+abbrev pub simulation : Weigher → Job ScriptText
+simulation weight = record {
+  read = script_of;
+  PrintsAll = λ s. PrintsAll weight (new_world s.0) s.1;
+  PrintsFront = λ s. PrintsFront weight (new_world s.0) s.1;
+}
 
 -- How a run over this input ends, and what the writer has got then.
 abbrev pub Ends : {X : Type 0} → Weigher → List ℕ → Bytes → Bytes → Result X Fault → Type 0
-Ends weight input before written (Ok x) = (length input ≤ 1048576)
-    × ((s : ScriptText) × (script_of input ≡ Ok s) × PrintsAll weight (new_world s.0) s.1 before written)
-Ends weight input before written (Err (BadLine number)) = (length input ≤ 1048576) × (script_of input ≡ Err number) × Keeps before written
-Ends weight input before written (Err BadInput) = (1048576 < length input) × Keeps before written
-Ends weight input before written (Err Device) = Stops weight input before written
-Ends weight input before written (Err OutOfMemory) = Stops weight input before written
+Ends weight input before written end = EndsAt (simulation weight) input before written end
 
-abbrev pub status_at : {X : Type 0} → Result X Fault → ℕ
-status_at (Ok x) = 0
-status_at (Err fault) = status_of fault
+abbrev pub Stops : Weigher → List ℕ → Bytes → Bytes → Type 0
+Stops weight input before written = StopsAt (simulation weight) input before written
 
-abbrev pub fault_line_at : {X : Type 0} → Result X Fault → List ℕ
-fault_line_at (Ok x) = []
-fault_line_at (Err fault) = fault_text fault
-
--- The status tells how the run ended, and the error writer has got that end's fault step or a front of it.
+-- The status tells how the run ended, and the error writer has got that end's fault line or a front of it.
 abbrev pub Simulates : Weigher → Bytes → Bytes → Bytes → Bytes → Bytes → ℕ → Type 0
-Simulates weight input before written errors_before errors_written status =
-    (end : Result (Unit {0}) Fault) × (count : ℕ)
-    × (status ≡ status_at end)
-    × Appends errors_before errors_written (take count (fault_line_at end))
-    × IfSome input (λ bytes. Ends weight bytes before written end)
+Simulates weight input before written errors_before errors_written status = Does (simulation weight) input before written errors_before errors_written status
 
 -- Memory was refused before anything was read or written, and that was said.
 abbrev pub WantsMemory : Bytes → Bytes → ℕ → Type 0
@@ -100,10 +87,6 @@ TellsUsage errors_before errors_written status =
 abbrev pub Refuses : Bytes → Bytes → ℕ → Type 0
 Refuses errors_before errors_written status =
     TellsUsage errors_before errors_written status ⊎ WantsMemory errors_before errors_written status
-
--- At most so many bytes were taken from a reader.
-abbrev pub TakesAtMost : ℕ → Bytes → Bytes → Type 0
-TakesAtMost most before after = (bytes : List ℕ) × (length bytes ≤ most) × Consumes before after bytes
 
 abbrev pub status_in : Ran → ℕ
 status_in (Status status) = status

@@ -35,35 +35,36 @@ opening_of bytes = if is_plain bytes then nodes_of (words_of bytes) else None
 abbrev pub numbered_lines : List ℕ → List (ℕ × List ℕ)
 numbered_lines bytes = filter (λ l. not (is_skipped l.1)) (enumerate_from 1 (lines_of bytes))
 
--- the step of a line, in front of those of the lines after it; else the line's number
-abbrev pub in_front : ℕ → Option Step → Result (List Step) ℕ → Result (List Step) ℕ
+-- what a line says, in front of what the lines after it say; else the line's number
+abbrev pub in_front : {A : Type 0} → ℕ → Option A → Result (List A) ℕ → Result (List A) ℕ
 in_front number None others = Err number
-in_front number (Some step) (Ok steps) = Ok (step ∷ steps)
-in_front number (Some step) (Err later) = Err later
+in_front number (Some said) (Ok others) = Ok (said ∷ others)
+in_front number (Some said) (Err later) = Err later
 
--- the steps of these lines, or the number of the first bad one
-abbrev pub steps_of : List (ℕ × List ℕ) → Result (List Step) ℕ
-steps_of [] = Ok []
-steps_of (line ∷ lines) = in_front line.0 (step_of line.1) (steps_of lines)
+-- what each of these lines says, or the number of the first bad one
+abbrev pub each_of : {A : Type 0} → (List ℕ → Option A) → List (ℕ × List ℕ) → Result (List A) ℕ
+each_of read [] = Ok []
+each_of read (line ∷ lines) = in_front line.0 (read line.1) (each_of read lines)
+
+abbrev pub behind : {A B : Type 0} → ℕ → Option A → Result (List B) ℕ → Result (A × List B) ℕ
+behind number None others = Err number
+behind number (Some first) (Ok others) = Ok (first, others)
+behind number (Some first) (Err later) = Err later
+
+-- what the first of these lines says, and each line after it; 0 where there is none
+abbrev pub opened : {A B : Type 0} → (List ℕ → Option A) → (List ℕ → Option B) → List (ℕ × List ℕ) → Result (A × List B) ℕ
+opened read_first read [] = Err 0
+opened read_first read (line ∷ lines) = behind line.0 (read_first line.1) (each_of read lines)
 
 -- the nodes of a script, and its steps
 abbrev pub ScriptText : Type 0
 ScriptText = List Name × List Step
 
-abbrev pub behind : ℕ → Option (List Name) → Result (List Step) ℕ → Result ScriptText ℕ
-behind number None steps = Err number
-behind number (Some nodes) (Ok steps) = Ok (nodes, steps)
-behind number (Some nodes) (Err later) = Err later
-
-abbrev pub opened : List (ℕ × List ℕ) → Result ScriptText ℕ
-opened [] = Err 0
-opened (line ∷ lines) = behind line.0 (opening_of line.1) (steps_of lines)
-
 -- the script that the bytes say, or the number of the first bad line, 0 where all lines are skipped
 abbrev pub script_of : List ℕ → Result ScriptText ℕ
-script_of bytes = opened (numbered_lines bytes)
+script_of bytes = opened opening_of step_of (numbered_lines bytes)
 
--- What was answered is what reading the script gives, unless memory was refused.
+-- What was answered is what reading gives, unless memory was refused.
 abbrev pub ReadsAll : {X Y : Type 0} → (X → Y) → Result X ScriptFault → Result Y ℕ → Type 0
 ReadsAll view (Ok x) read = read ≡ Ok (view x)
 ReadsAll view (Err (BadLine number)) read = read ≡ Err number

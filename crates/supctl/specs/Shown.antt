@@ -1,10 +1,14 @@
 -- What a node shows: of each table each key's winner, by key, and behind it the key's losers, in dot order (this project).
 use Rattle.std.specs.Prelude.{List, ◌∷◌, ◌++◌, map, flat_map, Option, Some, None, if◌then◌else◌}
 use Rattle.sup_specs.specs.Values.{Bytes}
+use Rattle.sup_tables.specs.declared.row.Entry.{Entry}
+use Rattle.sup_tables.specs.declared.row.Entry.TheVariants as entry
 use Rattle.sup_tables.specs.declared.row.Row.{Row}
 use Rattle.sup_tables.specs.Rows.{Table, members, children, names, key_of, info_of, spec_of, target_of}
 use Rattle.sup_tables.specs.Readers.{winners, losers, is_present}
 use Rattle.sup_placement.specs.Place.{Weigher, place}
+use Rattle.supctl.specs.declared.world.line.Key.{Key}
+use Rattle.supctl.specs.declared.world.line.Key.TheVariants as key
 use Rattle.supctl.specs.declared.world.line.Line.{Line}
 use Rattle.supctl.specs.declared.world.line.Line.TheVariants.{Member, Child, Name, Loser}
 use Rattle.supctl.specs.declared.world.line.Place.{Place}
@@ -25,9 +29,18 @@ child_place weight rows id = on_or_unplaced (place weight (eligible rows) id)
 abbrev pub name_place : Weigher → List Row → Bytes → Place
 name_place weight rows id = if is_present rows children id then child_place weight rows id else Gone
 
+-- the key of an entry, in its table
+abbrev pub key_in_table : Entry → Key
+key_in_table (entry.Member member info) = key.Member member
+key_in_table (entry.Child id spec) = key.Child id
+key_in_table (entry.Name name id) = key.Name name
+
+abbrev pub loser_line : Row → Line
+loser_line r = Loser (key_in_table r.entry) r.dot
+
 -- a winner's line, and those of its losers
 abbrev pub with_losers : List Row → Table → Row → Line → List Line
-with_losers rows table winner line = line ∷ map Loser (losers rows table (key_of winner.entry))
+with_losers rows table winner line = line ∷ map loser_line (losers rows table (key_of winner.entry))
 
 abbrev pub member_lines : List Row → Row → List Line
 member_lines rows r = with_losers rows members r (Member (key_of r.entry) r.dot (info_of r.entry))

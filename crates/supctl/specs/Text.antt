@@ -7,13 +7,13 @@ use Rattle.sup_specs.specs.declared.child.Restart.TheVariants.{Permanent, Transi
 use Rattle.sup_specs.specs.declared.child.Shutdown.{Shutdown}
 use Rattle.sup_specs.specs.declared.child.Shutdown.TheVariants.{Brutal, Millis, Infinity}
 use Rattle.sup_causal.specs.declared.dot.Dot.{Dot}
-use Rattle.sup_tables.specs.declared.row.Entry.{Entry}
-use Rattle.sup_tables.specs.declared.row.Entry.TheVariants as entry
 use Rattle.supctl.specs.declared.world.answer.Answer.{Answer}
 use Rattle.supctl.specs.declared.world.answer.Answer.TheVariants.{Added, Replaced, Removed, Sent, Absorbed, Known, Shown, Refused}
 use Rattle.supctl.specs.declared.world.answer.Letter.{Letter}
 use Rattle.supctl.specs.declared.world.answer.LetterKind.{LetterKind}
 use Rattle.supctl.specs.declared.world.answer.LetterKind.TheVariants.{Whole}
+use Rattle.supctl.specs.declared.world.line.Key.{Key}
+use Rattle.supctl.specs.declared.world.line.Key.TheVariants as key
 use Rattle.supctl.specs.declared.world.line.Line.{Line}
 use Rattle.supctl.specs.declared.world.line.Line.TheVariants.{Member, Child, Name, Loser}
 use Rattle.supctl.specs.declared.world.line.Place.{Place}
@@ -72,18 +72,18 @@ place_text (On member) = text (codes "on " ∷ member ∷ [])
 place_text Unplaced = codes "unplaced"
 place_text Gone = codes "gone"
 
--- the table and the key of an entry
-abbrev pub key_text : Entry → List ℕ
-key_text (entry.Member member info) = text (codes "member " ∷ member ∷ [])
-key_text (entry.Child id spec) = text (codes "child " ∷ id ∷ [])
-key_text (entry.Name name id) = text (codes "name " ∷ name ∷ [])
+-- a table, and a key in it
+abbrev pub key_text : Key → List ℕ
+key_text (key.Member member) = text (codes "member " ∷ member ∷ [])
+key_text (key.Child id) = text (codes "child " ∷ id ∷ [])
+key_text (key.Name name) = text (codes "name " ∷ name ∷ [])
 
 -- member M DOT label=TEXT, child ID DOT KIND RESTART SHUTDOWN arg=TEXT PLACE, name NAME DOT ID PLACE, loser TABLE KEY DOT
 abbrev pub line_text : Line → List ℕ
 line_text (Member member dot info) = text (codes "member " ∷ member ∷ codes " " ∷ dot_text dot ∷ codes " label=" ∷ info.label ∷ codes "\n" ∷ [])
 line_text (Child id dot spec place) = text (codes "child " ∷ id ∷ codes " " ∷ dot_text dot ∷ codes " " ∷ spec_text spec ∷ codes " " ∷ place_text place ∷ codes "\n" ∷ [])
 line_text (Name name dot id place) = text (codes "name " ∷ name ∷ codes " " ∷ dot_text dot ∷ codes " " ∷ id ∷ codes " " ∷ place_text place ∷ codes "\n" ∷ [])
-line_text (Loser row) = text (codes "loser " ∷ key_text row.entry ∷ codes " " ∷ dot_text row.dot ∷ codes "\n" ∷ [])
+line_text (Loser key dot) = text (codes "loser " ∷ key_text key ∷ codes " " ∷ dot_text dot ∷ codes "\n" ∷ [])
 
 -- delta 3 whole
 abbrev pub letter_kind_text : LetterKind → List ℕ

@@ -2,7 +2,7 @@
 
 ghost use Rattle.std.specs.Prelude.{◌≡◌, ℕ, take};
 ghost use Rattle.std.specs.Io.KnownBytes.{Appends};
-ghost use Rattle.supctl.specs.Faults.{fault_text, of_input, of_script, status_of};
+ghost use Rattle.supctl.specs.Faults.{fault_line_at, fault_text, of_input, of_script, status_at, status_of};
 
 use crate::input::InputFault;
 use crate::output::{DeviceFault, put_all};
@@ -80,6 +80,21 @@ impl Fault {
         match self {
             Fault::BadLine(_) | Fault::BadInput => 1,
             Fault::Device | Fault::OutOfMemory => 3,
+        }
+    }
+}
+
+/// Tells how a run ended, and answers its exit status.
+pub fn finish<E: Write>(errors: &mut E, end: Result<(), Fault>) -> u8
+    ensures status { result ≡ status_at end }
+    ensures told { (count : ℕ)
+        × Appends (E.contents errors.old) (E.contents errors.new) (take count (fault_line_at end)) }
+{
+    match end {
+        Ok(()) => 0,
+        Err(fault) => {
+            report(errors, fault);
+            fault.status()
         }
     }
 }

@@ -5,6 +5,7 @@ mod fault;
 mod input;
 mod options;
 mod output;
+mod place;
 mod run;
 mod script;
 #[cfg(test)]

@@ -1,17 +1,18 @@
 //! The program's run, from its words and input to its output and status.
 
 ghost use Rattle.std.specs.Prelude.{◌≡◌, ◌≢◌, ◌≤◌, ◌+◌, length, OnOk, IfErr, IfSome, map};
-ghost use Rattle.sup_placement.specs.Weights.{sha256_weight};
-ghost use Rattle.supctl.specs.CommandLine.{IsCommand, IsNoCommand};
+ghost use Rattle.supctl.specs.CommandLine.{AsksFor, IsNoCommand, weight_of};
 ghost use Rattle.supctl.specs.Faults.{IsOutside};
 ghost use Rattle.supctl.specs.Stands.{WorldStandsFor};
 ghost use Rattle.supctl.specs.Worlds.{World as Model};
+ghost use Rattle.supctl.specs.Placing.{Places};
 ghost use Rattle.supctl.specs.Run.{Ends, PlaysOne, PrintsAll, PrintsFront, Refuses, Simulates, TakesAtMost, WantsMemory, status_in};
 
-use crate::fault::{Fault, report};
+use crate::fault::{Fault, finish, report};
 use crate::input::{LIMIT, read_input};
-use crate::options::{is_want_of_memory, read_words};
+use crate::options::{Request, Task, Weighing, is_want_of_memory, read_words};
 use crate::output::put_all;
+use crate::place::place_children;
 use crate::script::{Script, read_script};
 use crate::text::answer_text;
 use crate::world::{Step, World};
@@ -19,7 +20,7 @@ use clap::Error;
 use std::alloc::Global;
 use std::convert::AsStr;
 use std::io::{Read, Write};
-use sup_placement::{Sha256Weigh, Weigh};
+use sup_placement::{FlatWeigh, Sha256Weigh, Weigh};
 
 /// The exit status where the words are refused.
 pub const USAGE: u8 = 2;
@@ -39,10 +40,13 @@ pub fn run<S: AsStr, R: Read, W: Write, E: Write>(
     writer: &mut W,
     errors: &mut E,
 ) -> u8
-    // A command of those that there are.
-    ensures simulates { IsCommand (map S.text words.now)
-        → Simulates sha256_weight (R.remaining reader.old) (W.contents writer.old) (W.contents writer.new)
-        (E.contents errors.old) (E.contents errors.new) result }
+    // Words that ask for a task.
+    ensures simulates { (weighing : Weighing) → AsksFor (map S.text words.now) Task.Simulate weighing
+        → Simulates (weight_of weighing) (R.remaining reader.old) (W.contents writer.old)
+        (W.contents writer.new) (E.contents errors.old) (E.contents errors.new) result }
+    ensures places { (weighing : Weighing) → AsksFor (map S.text words.now) Task.Place weighing
+        → Places (weight_of weighing) (R.remaining reader.old) (W.contents writer.old)
+        (W.contents writer.new) (E.contents errors.old) (E.contents errors.new) result }
     ensures taken { TakesAtMost (LIMIT + 1) (R.remaining reader.old) (R.remaining reader.new) }
 
     // Other words.
@@ -64,10 +68,13 @@ pub fn run_plain<S: AsStr, R: Read, W: Write, E: Write>(
     writer: &mut W,
     errors: &mut E,
 ) -> Ran
-    // A command of those that there are.
-    ensures simulates { IsCommand (map S.text words.now)
-        → Simulates sha256_weight (R.remaining reader.old) (W.contents writer.old) (W.contents writer.new)
-        (E.contents errors.old) (E.contents errors.new) (status_in result) }
+    // Words that ask for a task.
+    ensures simulates { (weighing : Weighing) → AsksFor (map S.text words.now) Task.Simulate weighing
+        → Simulates (weight_of weighing) (R.remaining reader.old) (W.contents writer.old)
+        (W.contents writer.new) (E.contents errors.old) (E.contents errors.new) (status_in result) }
+    ensures places { (weighing : Weighing) → AsksFor (map S.text words.now) Task.Place weighing
+        → Places (weight_of weighing) (R.remaining reader.old) (W.contents writer.old)
+        (W.contents writer.new) (E.contents errors.old) (E.contents errors.new) (status_in result) }
     ensures taken { TakesAtMost (LIMIT + 1) (R.remaining reader.old) (R.remaining reader.new) }
 
     // Other words.
@@ -77,9 +84,55 @@ pub fn run_plain<S: AsStr, R: Read, W: Write, E: Write>(
     ensures unwritten { IsNoCommand (map S.text words.now) → writer.new ≡ writer.old }
 {
     match read_words(alloc, words) {
-        Ok(()) => Ran::Status(simulate(alloc, &Sha256Weigh, reader, writer, errors)),
+        Ok(request) => Ran::Status(perform(alloc, request, reader, writer, errors)),
         Err(error) if is_want_of_memory(&error) => Ran::Status(want_of_memory(errors)),
         Err(error) => Ran::Status(refuse(alloc, &error, errors)),
+    }
+}
+
+// Does what is asked for, with the weigher that is asked for.
+fn perform<R: Read, W: Write, E: Write>(
+    alloc: Global,
+    request: Request,
+    reader: &mut R,
+    writer: &mut W,
+    errors: &mut E,
+) -> u8
+    ensures simulates { request.task ≡ Task.Simulate
+        → Simulates (weight_of request.weighing) (R.remaining reader.old) (W.contents writer.old)
+        (W.contents writer.new) (E.contents errors.old) (E.contents errors.new) result }
+    ensures places { request.task ≡ Task.Place
+        → Places (weight_of request.weighing) (R.remaining reader.old) (W.contents writer.old)
+        (W.contents writer.new) (E.contents errors.old) (E.contents errors.new) result }
+    ensures taken { TakesAtMost (LIMIT + 1) (R.remaining reader.old) (R.remaining reader.new) }
+{
+    match request.weighing {
+        Weighing::Sha256 => {
+            perform_with(alloc, request.task, &Sha256Weigh, reader, writer, errors)
+        }
+        Weighing::Flat => perform_with(alloc, request.task, &FlatWeigh, reader, writer, errors),
+    }
+}
+
+fn perform_with<G: Weigh, R: Read, W: Write, E: Write>(
+    alloc: Global,
+    task: Task,
+    weigher: &G,
+    reader: &mut R,
+    writer: &mut W,
+    errors: &mut E,
+) -> u8
+    ensures simulates { task ≡ Task.Simulate
+        → Simulates G.weight_of (R.remaining reader.old) (W.contents writer.old)
+        (W.contents writer.new) (E.contents errors.old) (E.contents errors.new) result }
+    ensures places { task ≡ Task.Place
+        → Places G.weight_of (R.remaining reader.old) (W.contents writer.old)
+        (W.contents writer.new) (E.contents errors.old) (E.contents errors.new) result }
+    ensures taken { TakesAtMost (LIMIT + 1) (R.remaining reader.old) (R.remaining reader.new) }
+{
+    match task {
+        Task::Simulate => simulate(alloc, weigher, reader, writer, errors),
+        Task::Place => place_children(alloc, weigher, reader, writer, errors),
     }
 }
 
@@ -116,13 +169,8 @@ fn simulate<G: Weigh, R: Read, W: Write, E: Write>(
         (W.contents writer.new) (E.contents errors.old) (E.contents errors.new) result }
     ensures taken { TakesAtMost (LIMIT + 1) (R.remaining reader.old) (R.remaining reader.new) }
 {
-    match run_script(alloc, weigher, reader, writer) {
-        Ok(()) => 0,
-        Err(fault) => {
-            report(errors, fault);
-            fault.status()
-        }
-    }
+    let end = run_script(alloc, weigher, reader, writer);
+    finish(errors, end)
 }
 
 fn run_script<G: Weigh, R: Read, W: Write>(

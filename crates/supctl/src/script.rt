@@ -1,7 +1,7 @@
 //! Scripts: the nodes of a world, and the steps that are made in it.
 
 ghost use Rattle.std.specs.Prelude.{map};
-ghost use Rattle.supctl.specs.Script.{script_of, ReadsAll, steps_of};
+ghost use Rattle.supctl.specs.Script.{ReadsAll, each_of, script_of, step_of};
 
 mod commands;
 mod fault;
@@ -14,9 +14,12 @@ mod words;
 
 use crate::world::Step;
 pub use fault::{LineFault, ScriptFault};
-use lines::{NumberedLine, number_lines};
+pub use lines::{NumberedLine, number_lines};
+pub use opening::{MOST_NODES, read_distinct};
 use std::alloc::Global;
 use sup_specs::NodeName;
+pub use values::read_child_id;
+pub use words::{plain_text, words_of};
 
 /// The nodes, and the steps of the lines after them.
 #[derive(Drop)]
@@ -45,7 +48,8 @@ pub fn read_script(alloc: Global, bytes: &[u8]) -> Result<Script, ScriptFault>
 }
 
 fn read_steps(alloc: Global, lines: &[NumberedLine]) -> Result<Vec<Step>, ScriptFault>
-    ensures { ReadsAll (λ v. v.items) result (steps_of (map (λ l. (l.number, l.bytes.now)) lines.now)) }
+    ensures { ReadsAll (λ v. v.items) result
+        (each_of step_of (map (λ l. (l.number, l.bytes.now)) lines.now)) }
 {
     let mut steps = Vec::new(alloc);
     for line in lines {

@@ -2,9 +2,12 @@
 
 mod devices;
 mod first_path;
+mod placing;
 mod rows;
+mod tables;
 mod texts;
 mod usage;
+mod weighers;
 
 use crate::run::run;
 use std::alloc::Global;
@@ -15,7 +18,7 @@ const SCRIPT: &[u8] = b"# two nodes\nnodes a b\n\nshow b\nshow z\nshow a\n";
 
 const OUTPUT: &[u8] = b"node b boot 1\nrefused 3 UnknownNode\nnode a boot 1\n";
 
-/// A run of `simulate`, and what it has to give.
+/// A run, and what it has to give.
 #[derive(Clone, Copy)]
 struct Case<'a> {
     name: &'a str,
@@ -25,11 +28,16 @@ struct Case<'a> {
     status: u8,
 }
 
+// Runs `simulate` without options.
 fn check(rt: &impl Abort, alloc: Global, case: &Case) {
+    check_words(rt, alloc, &["simulate"], case);
+}
+
+fn check_words(rt: &impl Abort, alloc: Global, words: &[&str], case: &Case) {
     let mut reader = case.input;
     let mut writer = Vec::new(alloc);
     let mut errors = Vec::new(alloc);
-    let status = run(alloc, &["simulate"], &mut reader, &mut writer, &mut errors);
+    let status = run(alloc, words, &mut reader, &mut writer, &mut errors);
     let name = case.name;
     assert!(rt; status == case.status, "{name}: status {status}");
     assert!(rt; writer.as_slice() == case.output, "{name}: output");

@@ -6,7 +6,6 @@ ghost use Rattle.supctl.specs.Text.{answer_text};
 mod dot;
 mod letter;
 mod line;
-mod node_name;
 mod refusal;
 mod spec;
 
@@ -14,7 +13,6 @@ use crate::world::Answer;
 use dot::{DotText, spaced_dots};
 use letter::LetterText;
 use line::lines_text;
-use node_name::node_name_text;
 use refusal::RefusalText;
 use std::alloc::{AllocError, Global};
 
@@ -45,7 +43,7 @@ pub fn answer_text(alloc: Global, answer: &Answer) -> Result<String, AllocError>
         Answer::Absorbed => format!(in alloc; "ok absorbed\n"),
         Answer::Known => format!(in alloc; "ok known\n"),
         Answer::Shown { node, boot, lines } => {
-            let node = node_name_text(node);
+            let node = node.as_str();
             let lines = lines_text(alloc, lines.as_slice())?;
             let lines = lines.as_str();
             format!(in alloc; "node {node} boot {boot}\n{lines}")

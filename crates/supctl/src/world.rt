@@ -21,7 +21,7 @@ use crate::world::node::Node;
 use crate::world::outbox::Outbox;
 pub use answer::{Answer, Dots, Letter, LetterKind};
 pub use command::Command;
-pub use line::{Line, Lines, Place};
+pub use line::{Key, Line, Lines, Place};
 pub use refusal::Refusal;
 pub use state::World;
 use std::alloc::{AllocError, Global};

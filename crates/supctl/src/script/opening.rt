@@ -2,7 +2,7 @@
 
 ghost use Rattle.std.specs.Prelude.{◌≡◌, ◌<◌, ◌≤◌};
 ghost use Rattle.supctl.specs.Words.{Reads, texts};
-ghost use Rattle.supctl.specs.Forms.{are_distinct, names_of, nodes_of};
+ghost use Rattle.supctl.specs.Forms.{are_distinct, distinct_names_of, names_of, nodes_of};
 ghost use Rattle.supctl.specs.Script.{opening_of};
 
 use crate::script::LineFault;
@@ -12,7 +12,7 @@ use std::alloc::Global;
 use sup_specs::NodeName;
 
 /// A world has at most this many nodes.
-const MOST_NODES: usize = 16;
+pub const MOST_NODES: usize = 16;
 
 /// The nodes of a script, 1 to 16 distinct ones.
 #[tactic(auto, unfolding(crate::specs::Script::opening_of))]
@@ -38,6 +38,13 @@ fn read_nodes(alloc: Global, words: &[&str]) -> Result<Vec<NodeName>, LineFault>
     if *verb != "nodes" || words.is_empty() || words.len() > MOST_NODES {
         return Err(LineFault::Bad);
     }
+    read_distinct(alloc, words)
+}
+
+/// The names that the words are, no two of them equal.
+pub fn read_distinct(alloc: Global, words: &[&str]) -> Result<Vec<NodeName>, LineFault>
+    ensures { Reads (λ v. v.items) result (distinct_names_of (texts words.now)) }
+{
     let names = read_names(alloc, words)?;
     if !are_distinct(names.as_slice()) {
         return Err(LineFault::Bad);

@@ -18,6 +18,8 @@ fn check_usage(rt: &impl Abort, alloc: Global, words: &[&str]) {
     );
 }
 
+// The rows no-words-are-usage, buffer-of-0-is-usage, unknown-weigher-is-usage and
+// place-takes-no-buffer are among these.
 #[test]
 fn other_words_are_usage_and_nothing_is_read(rt: HostRuntime) {
     check_usage(&rt, rt.alloc(), &[]);
@@ -29,4 +31,18 @@ fn other_words_are_usage_and_nothing_is_read(rt: HostRuntime) {
     check_usage(&rt, rt.alloc(), &["simulate", "more"]);
     check_usage(&rt, rt.alloc(), &["place", "--buffer", "4"]);
     check_usage(&rt, rt.alloc(), &["supctl", "simulate"]);
+}
+
+#[test]
+fn a_weigher_is_one_of_two_and_given_once(rt: HostRuntime) {
+    check_usage(&rt, rt.alloc(), &["place", "--weigh", "x"]);
+    check_usage(&rt, rt.alloc(), &["place", "--weigh", ""]);
+    check_usage(&rt, rt.alloc(), &["place", "--weigh", "Flat"]);
+    check_usage(&rt, rt.alloc(), &["place", "--weigh"]);
+    check_usage(&rt, rt.alloc(), &["--weigh", "flat", "place"]);
+    check_usage(
+        &rt,
+        rt.alloc(),
+        &["place", "--weigh", "flat", "--weigh", "flat"],
+    );
 }

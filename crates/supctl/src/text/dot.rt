@@ -4,7 +4,6 @@ ghost use Rattle.std.specs.Prelude.{◌≡◌, IfOk, Some, string_bytes};
 ghost use Rattle.std.specs.List.{flat_map};
 ghost use Rattle.supctl.specs.Text.{dot_text, spaced_dot};
 
-use crate::text::node_name::node_name_text;
 use std::alloc::{AllocError, Global};
 use std::fmt;
 use sup_causal::Dot;
@@ -17,7 +16,7 @@ impl fmt::Display for DotText {
     ghost output = { λ d. Some (dot_text d.0) };
 
     fn fmt<W: fmt::Write>(&self, f: &mut fmt::Formatter<W>) -> fmt::Result {
-        let node = node_name_text(&self.0.node);
+        let node = self.0.node.as_str();
         let counter = self.0.counter;
         write!(f, "({node},{counter})")
     }

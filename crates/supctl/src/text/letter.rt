@@ -3,7 +3,6 @@
 ghost use Rattle.std.specs.Prelude.{Some};
 ghost use Rattle.supctl.specs.Text.{letter_kind_text, letter_text};
 
-use crate::text::node_name::node_name_text;
 use crate::world::{Letter, LetterKind};
 use std::fmt;
 
@@ -15,9 +14,9 @@ impl fmt::Display for LetterText {
     ghost output = { λ l. Some (letter_text l.0) };
 
     fn fmt<W: fmt::Write>(&self, f: &mut fmt::Formatter<W>) -> fmt::Result {
-        let from = node_name_text(&self.0.from);
+        let from = self.0.from.as_str();
         let k = self.0.k;
-        let to = node_name_text(&self.0.to);
+        let to = self.0.to.as_str();
         let kind = LetterKindText(self.0.kind);
         write!(f, "  sent {from} {k} to {to} {kind}\n")
     }

@@ -5,12 +5,10 @@ ghost use Rattle.std.specs.List.{flat_map};
 ghost use Rattle.supctl.specs.Text.{key_text, line_text, place_text};
 
 use crate::text::dot::DotText;
-use crate::text::node_name::node_name_text;
 use crate::text::spec::SpecText;
-use crate::world::{Line, Place};
+use crate::world::{Key, Line, Place};
 use std::alloc::{AllocError, Global};
 use std::fmt;
-use sup_tables::Entry;
 
 /// The lines, one after another.
 pub fn lines_text(alloc: Global, lines: &[Line]) -> Result<String, AllocError>
@@ -35,7 +33,7 @@ impl fmt::Display for LineText<'_> {
     fn fmt<W: fmt::Write>(&self, f: &mut fmt::Formatter<W>) -> fmt::Result {
         match self.0 {
             Line::Member { member, dot, info } => {
-                let member = node_name_text(member);
+                let member = member.as_str();
                 let dot = DotText(*dot);
                 let label = info.label.as_str();
                 write!(f, "member {member} {dot} label={label}\n")
@@ -64,9 +62,9 @@ impl fmt::Display for LineText<'_> {
                 let place = PlaceText(*place);
                 write!(f, "name {name} {dot} {id} {place}\n")
             }
-            Line::Loser(row) => {
-                let key = KeyText(&row.entry);
-                let dot = DotText(row.dot);
+            Line::Loser { key, dot } => {
+                let key = KeyText(key);
+                let dot = DotText(*dot);
                 write!(f, "loser {key} {dot}\n")
             }
         }
@@ -83,7 +81,7 @@ impl fmt::Display for PlaceText {
     fn fmt<W: fmt::Write>(&self, f: &mut fmt::Formatter<W>) -> fmt::Result {
         match self.0 {
             Place::On(member) => {
-                let member = node_name_text(&member);
+                let member = member.as_str();
                 write!(f, "on {member}")
             }
             Place::Unplaced => write!(f, "unplaced"),
@@ -92,24 +90,24 @@ impl fmt::Display for PlaceText {
     }
 }
 
-/// The table and the key of an entry.
+/// A table and a key in it.
 #[derive(Clone, Copy)]
-struct KeyText<'a>(&'a Entry);
+struct KeyText<'a>(&'a Key);
 
 impl fmt::Display for KeyText<'_> {
     ghost output = { λ k. Some (key_text k.0.now) };
 
     fn fmt<W: fmt::Write>(&self, f: &mut fmt::Formatter<W>) -> fmt::Result {
         match self.0 {
-            Entry::Member(member, _) => {
-                let member = node_name_text(member);
+            Key::Member(member) => {
+                let member = member.as_str();
                 write!(f, "member {member}")
             }
-            Entry::Child(id, _) => {
+            Key::Child(id) => {
                 let id = id.as_str();
                 write!(f, "child {id}")
             }
-            Entry::Name(name, _) => {
+            Key::Name(name) => {
                 let name = name.as_str();
                 write!(f, "name {name}")
             }

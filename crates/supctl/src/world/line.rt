@@ -1,10 +1,10 @@
 //! What a node shows, line by line.
-ghost use Rattle.std.specs.Prelude.{◌≡◌};
+ghost use Rattle.std.specs.Prelude.{◌≡◌, IfOk};
 
+use std::alloc::{AllocError, Global};
 use std::marker::Model;
 use sup_causal::Dot;
-use sup_specs::{ChildId, ChildSpec, MemberInfo, Name, NodeName};
-use sup_tables::Row;
+use sup_specs::{ChildId, ChildSpec, MemberInfo, Name, NodeName, Plain};
 
 /// A line of what a node shows.
 #[derive(Drop)]
@@ -29,8 +29,32 @@ pub enum Line {
         id: ChildId,
         place: Place,
     },
-    /// A live entry that did not win.
-    Loser(Row),
+    /// An entry that is live and did not win.
+    Loser {
+        key: Key,
+        dot: Dot,
+    },
+}
+
+/// A key of a table.
+#[derive(Drop)]
+pub enum Key {
+    Member(NodeName),
+    Child(ChildId),
+    Name(Name),
+}
+
+impl Key {
+    /// A copy, which equals its source.
+    pub fn try_clone(&self, alloc: Global) -> Result<Key, AllocError>
+        ensures { IfOk result (λ copy. copy ≡ self.now) }
+    {
+        match self {
+            Key::Member(member) => Ok(Key::Member(*member)),
+            Key::Child(id) => Ok(Key::Child(id.try_clone(alloc)?)),
+            Key::Name(name) => Ok(Key::Name(name.try_clone(alloc)?)),
+        }
+    }
 }
 
 /// Where a child is.

@@ -1,5 +1,7 @@
 //! The checks of commands, in their order.
 ghost use Rattle.std.specs.Prelude.{◌≡◌};
+ghost use Rattle.sup_tables.specs.Rows.{members, children, names};
+ghost use Rattle.sup_tables.specs.Readers.{is_present};
 ghost use Rattle.supctl.specs.Worlds.{Site};
 ghost use Rattle.sup_specs.specs.declared.child.ChildSpec.{ChildSpec as ChildSpecValue};
 ghost use Rattle.sup_specs.specs.declared.child.MemberInfo.{MemberInfo as MemberInfoValue};
@@ -35,7 +37,7 @@ impl Node {
     fn may_join(&self) -> Result<(), Refusal>
         ensures { (site : Site) (info : MemberInfoValue) → NodeStandsFor self.now site → result ≡ may (reading site) (Join info) }
     {
-        if self.tables.member(&self.name).is_some() {
+        if self.is_member(&self.name) {
             return Err(Refusal::AlreadyMember);
         }
         self.has_room()
@@ -44,7 +46,7 @@ impl Node {
     fn may_leave(&self, member: &NodeName) -> Result<(), Refusal>
         ensures { (site : Site) → NodeStandsFor self.now site → result ≡ may (reading site) (Leave member.now) }
     {
-        if self.tables.member(member).is_none() {
+        if !self.is_member(member) {
             return Err(Refusal::NotMember);
         }
         Ok(())
@@ -53,7 +55,7 @@ impl Node {
     fn may_start(&self, id: &ChildId) -> Result<(), Refusal>
         ensures { (site : Site) (spec : ChildSpecValue) → NodeStandsFor self.now site → result ≡ may (reading site) (Start id.now spec) }
     {
-        if self.tables.child(id).is_some() {
+        if self.is_child(id) {
             return Err(Refusal::AlreadyPresent);
         }
         self.has_room()
@@ -62,7 +64,7 @@ impl Node {
     fn may_replace(&self, id: &ChildId) -> Result<(), Refusal>
         ensures { (site : Site) (spec : ChildSpecValue) → NodeStandsFor self.now site → result ≡ may (reading site) (Replace id.now spec) }
     {
-        if self.tables.child(id).is_none() {
+        if !self.is_child(id) {
             return Err(Refusal::NotFound);
         }
         self.has_dot()
@@ -71,7 +73,7 @@ impl Node {
     fn may_delete(&self, id: &ChildId) -> Result<(), Refusal>
         ensures { (site : Site) → NodeStandsFor self.now site → result ≡ may (reading site) (Delete id.now) }
     {
-        if self.tables.child(id).is_none() {
+        if !self.is_child(id) {
             return Err(Refusal::NotFound);
         }
         Ok(())
@@ -80,10 +82,10 @@ impl Node {
     fn may_register(&self, name: &Name, id: &ChildId) -> Result<(), Refusal>
         ensures { (site : Site) → NodeStandsFor self.now site → result ≡ may (reading site) (Register name.now id.now) }
     {
-        if self.tables.child(id).is_none() {
+        if !self.is_child(id) {
             return Err(Refusal::NoSuchChild);
         }
-        if self.tables.name(name).is_some() {
+        if self.is_name(name) {
             return Err(Refusal::NameTaken);
         }
         self.has_room()
@@ -92,10 +94,31 @@ impl Node {
     fn may_unregister(&self, name: &Name) -> Result<(), Refusal>
         ensures { (site : Site) → NodeStandsFor self.now site → result ≡ may (reading site) (Unregister name.now) }
     {
-        if self.tables.name(name).is_none() {
+        if !self.is_name(name) {
             return Err(Refusal::NameUnknown);
         }
         Ok(())
+    }
+
+    // Whether there is such a member.
+    fn is_member(&self, member: &NodeName) -> bool
+        ensures { (site : Site) → NodeStandsFor self.now site → result ≡ is_present (reading site).rows members member.now }
+    {
+        self.tables.member(member).is_some()
+    }
+
+    // Whether there is such a child.
+    fn is_child(&self, id: &ChildId) -> bool
+        ensures { (site : Site) → NodeStandsFor self.now site → result ≡ is_present (reading site).rows children id.now }
+    {
+        self.tables.child(id).is_some()
+    }
+
+    // Whether there is such a name.
+    fn is_name(&self, name: &Name) -> bool
+        ensures { (site : Site) → NodeStandsFor self.now site → result ≡ is_present (reading site).rows names name.now }
+    {
+        self.tables.name(name).is_some()
     }
 
     // Whether there is room for a row, and a dot for it.
