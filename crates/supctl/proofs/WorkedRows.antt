@@ -44,7 +44,7 @@ replace_and_register_travel weight = refl
 pub unregister_takes_winner_and_loser : (weight : Weigher) → answers_among weight (a ∷ b ∷ [])
     (Act a (Start x sp) ∷ Ship a b ∷ Deliver a 1 ∷ Act a (Register n x) ∷ Act b (Register n x) ∷ Ship b a ∷ Deliver b 1 ∷ Show a ∷ Act a (Unregister n) ∷ [])
     ≡ Added (dot a 1) ∷ sent a 1 b 1 ∷ Absorbed ∷ Added (dot a 2) ∷ Added (dot b 1) ∷ sent b 1 a 2 ∷ Absorbed
-    ∷ shown a (Child x (dot a 1) sp Unplaced ∷ Name n (dot b 1) x Unplaced ∷ lost_name n (dot a 2) x ∷ []) ∷ Removed (dot b 1 ∷ dot a 2 ∷ []) ∷ []
+    ∷ shown a (Child x (dot a 1) sp Unplaced ∷ Name n (dot b 1) x Unplaced ∷ lost_name n (dot a 2) ∷ []) ∷ Removed (dot b 1 ∷ dot a 2 ∷ []) ∷ []
 unregister_takes_winner_and_loser weight = refl
 
 -- a name that was registered while its child was deleted elsewhere
