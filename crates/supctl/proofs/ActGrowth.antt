@@ -11,7 +11,7 @@ use Rattle.supctl.specs.declared.world.answer.Answer.TheVariants.{Refused}
 use Rattle.supctl.specs.declared.world.refusal.Refusal.{Refusal}
 use Rattle.supctl.specs.Worlds.{Message, Site, World, site_of}
 use Rattle.supctl.specs.Commands.{reading, next}
-use Rattle.supctl.specs.Steps.{Outcome, may_change, changed, changes, posts}
+use Rattle.supctl.specs.Steps.{Outcome, may_change, changes, posts}
 use Rattle.supctl.specs.Runs.{dots_of}
 use Rattle.supctl.specs.Sound.{own, everything, HasRow}
 use Rattle.supctl.proofs.Afters.{After, after-checked}

@@ -1,5 +1,5 @@
 -- What the act of one node makes of a world.
-use Rattle.std.specs.Prelude.{◌≡◌, ℕ, ◌<◌, not, List, length, is_some, slice_index_or, slice_set, Option, Some, None, Result, Ok, Err, refl}
+use Rattle.std.specs.Prelude.{◌≡◌, ℕ, not, List, length, is_some, slice_index_or, slice_set, Option, Some, Result, Ok, Err, refl}
 use Rattle.std.specs.List.{AllZip}
 use Rattle.std.proofs.Common.{sym, ap, ◌∙◌, subst}
 use Rattle.sup_specs.specs.Values.{Bytes}
@@ -20,8 +20,8 @@ use Rattle.supctl.proofs.ActGrowth.{ActsAt}
 use Rattle.supctl.proofs.NodeActs.{ship_in_acts, show_acts}
 use Rattle.supctl.proofs.Silence.{IsStill, ship_in_still}
 use Rattle.supctl.proofs.Refusals.{gives_then}
-use Rattle.supctl.proofs.PlaceLaws.{same_place, same_length, a_site, set_place, keep_place}
-use Rattle.supctl.proofs.Here.{Here, place_in, nowhere, here, found, found_named, at_named, of_site}
+use Rattle.supctl.proofs.PlaceLaws.{set_place, keep_place}
+use Rattle.supctl.proofs.Here.{Here, place_in, nowhere, found, found_named, at_named, of_site}
 
 shown_site : (weight : Weigher) (s : Site) (o : Outcome) → show_at weight s ≡ Ok o → s ≡ o.site
 shown_site weight s o e = cc

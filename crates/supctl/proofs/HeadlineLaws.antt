@@ -1,14 +1,14 @@
 -- Nodes with the same operations agree, and an add stays.
-use Rattle.std.specs.Prelude.{◌≡◌, ℕ, ◌==◌, Bool, true, false, not, ◌&&◌, List, Contains, refl}
-use Rattle.std.specs.Ordering.{eq_by_cmp, is_eq}
-use Rattle.std.specs.Cmp.{Equal-is, tied_itself, nat_eq_equiv}
+use Rattle.std.specs.Prelude.{◌≡◌, true, not, ◌&&◌, List, Contains, refl}
+use Rattle.std.specs.Ordering.{eq_by_cmp}
+use Rattle.std.specs.Cmp.{nat_eq_equiv}
 use Rattle.std.proofs.Common.{sym, ap, ◌∙◌, subst}
 use Rattle.std.proofs.lemmas.List.Folds.{Any-from_list_any, list_any-from_Any}
 use Rattle.std.proofs.lemmas.Map.Views.{any-filter_same}
 use Rattle.sup_specs.specs.Rising.{among}
 use Rattle.sup_tables.specs.declared.row.Row.{Row}
 use Rattle.sup_tables.specs.Rows.{table_of, table_place, key_of, is_at, row_cmp}
-use Rattle.sup_tables.specs.Operations.{named, added, live}
+use Rattle.sup_tables.specs.Operations.{added, live}
 use Rattle.sup_tables.specs.Readers.{entries, winners}
 use Rattle.sup_tables.proofs.OperationLaws.{known_same, live_same}
 use Rattle.sup_tables.proofs.AddLaws.{same_row, row_itself, has_live}

@@ -1,5 +1,5 @@
 -- The message that a node sent as its k-th, beside the model's.
-use Rattle.std.specs.Prelude.{◌≡◌, ℕ, List, length, slice_index_or, Option, Some, None, Result, Ok, Err, refl}
+use Rattle.std.specs.Prelude.{◌≡◌, ℕ, List, length, slice_index_or, Some, None, Result, Ok, Err, refl}
 use Rattle.std.proofs.Common.{sym, subst}
 use Rattle.sup_specs.specs.Values.{Bytes}
 use Rattle.supctl.specs.declared.world.node.Node.{Node}

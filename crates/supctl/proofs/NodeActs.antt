@@ -7,7 +7,6 @@ use Rattle.sup_causal.specs.declared.dot.Dot.{Dot}
 use Rattle.sup_tables.specs.declared.row.Row.{Row}
 use Rattle.sup_tables.specs.Operations.{Operation, covers}
 use Rattle.sup_placement.specs.Place.{Weigher}
-use Rattle.supctl.specs.declared.world.answer.Answer.{Answer}
 use Rattle.supctl.specs.declared.world.answer.Answer.TheVariants.{Absorbed}
 use Rattle.supctl.specs.declared.world.command.Command.{Command}
 use Rattle.supctl.specs.declared.world.command.Command.TheVariants.{Join, Leave, Start, Replace, Delete, Register, Unregister}

@@ -2,14 +2,15 @@
 use Rattle.std.specs.Prelude.{ℕ, List, [], ◌∷◌, codes}
 use Rattle.sup_specs.specs.Values.{Bytes}
 use Rattle.sup_specs.specs.declared.child.ChildSpec.{ChildSpec}
+use Rattle.sup_specs.specs.declared.child.MemberInfo.{MemberInfo}
 use Rattle.sup_specs.specs.declared.child.Restart.TheVariants.{Permanent}
 use Rattle.sup_specs.specs.declared.child.Shutdown.TheVariants.{Millis}
 use Rattle.sup_causal.specs.declared.dot.Dot.{Dot}
-use Rattle.sup_tables.specs.declared.row.Entry.TheVariants as entry
 use Rattle.sup_placement.specs.Place.{Weigher}
 use Rattle.supctl.specs.declared.world.answer.Answer.{Answer}
 use Rattle.supctl.specs.declared.world.answer.Answer.TheVariants.{Sent, Shown}
 use Rattle.supctl.specs.declared.world.answer.LetterKind.TheVariants.{Whole}
+use Rattle.supctl.specs.declared.world.line.Key.TheVariants as key
 use Rattle.supctl.specs.declared.world.line.Line.{Line}
 use Rattle.supctl.specs.declared.world.line.Line.TheVariants.{Loser}
 use Rattle.supctl.specs.declared.world.step.Step.{Step}
@@ -44,12 +45,16 @@ of_kind kind = record { kind = kind; arg = []; restart = Permanent; shutdown = M
 abbrev pub sp : ChildSpec
 sp = of_kind (codes "worker")
 
+-- what a join without a label says of the member
+abbrev pub unlabelled : MemberInfo
+unlabelled = record { label = [] }
+
 abbrev pub dot : Bytes → ℕ → Dot
 dot node n = record { counter = n; node = node }
 
 -- an entry of a name that didn't win
-abbrev pub lost_name : Bytes → Dot → Bytes → Line
-lost_name name dot id = Loser (record { dot = dot; entry = entry.Name name id })
+abbrev pub lost_name : Bytes → Dot → Line
+lost_name name dot = Loser (key.Name name) dot
 
 -- the k-th message of a node, with all that it knew at count n
 abbrev pub sent : Bytes → ℕ → Bytes → ℕ → Answer

@@ -1,5 +1,5 @@
 -- Every run keeps the world sound, and makes no dot twice.
-use Rattle.std.specs.Prelude.{◌≡◌, ◌≢◌, ◌⊎◌, ℕ, ◌<◌, List, [], ◌∷◌, ◌++◌, All, AllPairs, IsOk, Option, Some, None, Result, Ok, Err, refl, map}
+use Rattle.std.specs.Prelude.{◌≡◌, ◌≢◌, ℕ, ◌<◌, List, [], ◌∷◌, ◌++◌, All, AllPairs, Option, Some, None, Result, Ok, Err, refl, map}
 use Rattle.std.proofs.Common.{sym, ap, ◌∙◌, subst, arith}
 use mathlib.Core.Logic.{inl, inr}
 use Rattle.std.proofs.lemmas.List.Kept.{AllPairs-cons}
@@ -9,17 +9,15 @@ use Rattle.sup_causal.specs.declared.dot.Dot.{Dot}
 use Rattle.sup_tables.specs.declared.row.Row.{Row}
 use Rattle.sup_placement.specs.Place.{Weigher}
 use Rattle.supctl.specs.declared.world.answer.Answer.{Answer}
-use Rattle.supctl.specs.declared.world.answer.Answer.TheVariants.{Refused}
 use Rattle.supctl.specs.declared.world.refusal.Refusal.{Refusal}
-use Rattle.supctl.specs.declared.world.refusal.Refusal.TheVariants.{OutOfMemory}
 use Rattle.supctl.specs.declared.world.step.Step.{Step}
 use Rattle.supctl.specs.Worlds.{Site, World, new_world, new_site, site_of, with_site}
 use Rattle.supctl.specs.Steps.{Stepped, step}
 use Rattle.supctl.specs.Runs.{answer_of, world_after, Allows, Run, dots_of, new_dots}
-use Rattle.supctl.specs.Sound.{own, everything, HasRow, Sound}
+use Rattle.supctl.specs.Sound.{everything, HasRow, Sound}
 use Rattle.supctl.specs.Headline.{NoDotTwice}
 use Rattle.supctl.proofs.Afters.{After}
-use Rattle.supctl.proofs.RowSets.{no-row, some_same, none_some}
+use Rattle.supctl.proofs.RowSets.{no-row}
 use Rattle.supctl.proofs.Growth.{Grows, stays, new_there, new_is_new, sound_after}
 use Rattle.supctl.proofs.ActGrowth.{dots_in}
 use Rattle.supctl.proofs.StepGrowth.{StepAt, step_acts}

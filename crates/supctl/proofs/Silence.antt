@@ -1,5 +1,5 @@
 -- What an act leaves as it was: the messages that the node sent, or, at a ship, all else.
-use Rattle.std.specs.Prelude.{◌≡◌, ℕ, Bool, true, false, not, List, [], ◌∷◌, is_some, Result, Ok, Err, refl}
+use Rattle.std.specs.Prelude.{◌≡◌, Bool, true, false, not, List, [], ◌∷◌, is_some, Result, Ok, refl}
 use Rattle.sup_specs.specs.Values.{Bytes}
 use Rattle.sup_tables.specs.Operations.{Operation, covers}
 use Rattle.supctl.specs.declared.world.answer.Answer.{Answer}
@@ -7,7 +7,6 @@ use Rattle.supctl.specs.declared.world.answer.Answer.TheVariants.{Absorbed}
 use Rattle.supctl.specs.declared.world.command.Command.{Command}
 use Rattle.supctl.specs.declared.world.refusal.Refusal.{Refusal}
 use Rattle.supctl.specs.declared.world.refusal.Refusal.TheVariants.{UnknownNode}
-use Rattle.supctl.specs.Checks.{refused_if, then_do}
 use Rattle.supctl.specs.Worlds.{Message, Site, World, site_of}
 use Rattle.supctl.specs.Commands.{reading, next, may, operation, reply}
 use Rattle.supctl.specs.Steps.{Outcome, may_change, changed, changes, command_at, posts, shipment, ship_at, ship_in, takes_in, deliver_at}

@@ -3,7 +3,6 @@ use Rattle.std.specs.Prelude.{◌≡◌, ℕ, ◌-◌, ◌==◌, true, false, Li
 use Rattle.std.proofs.Common.{sym, subst}
 use Rattle.sup_specs.specs.Values.{Bytes}
 use Rattle.sup_tables.specs.declared.row.Row.{Row}
-use Rattle.sup_tables.specs.Operations.{covers}
 use Rattle.sup_placement.specs.Place.{Weigher}
 use Rattle.supctl.specs.declared.world.refusal.Refusal.{Refusal}
 use Rattle.supctl.specs.declared.world.refusal.Refusal.TheVariants.{UnknownNode, NoSuchMessage}

@@ -1,14 +1,14 @@
 -- Worked rows, computed from the definitions. Where nobody is a member, no weight matters.
-use Rattle.std.specs.Prelude.{◌≡◌, List, [], ◌∷◌, codes, refl}
+use Rattle.std.specs.Prelude.{◌≡◌, [], ◌∷◌, codes, refl}
 use Rattle.sup_placement.specs.Place.{Weigher}
 use Rattle.sup_placement.specs.Weights.{flat_weight}
 use Rattle.supctl.specs.declared.world.answer.Answer.TheVariants.{Added, Replaced, Removed, Absorbed, Known, Refused}
-use Rattle.supctl.specs.declared.world.command.Command.TheVariants.{Join, Start, Replace, Delete, Register, Unregister}
+use Rattle.supctl.specs.declared.world.command.Command.TheVariants.{Join, Leave, Start, Replace, Delete, Register, Unregister}
 use Rattle.supctl.specs.declared.world.line.Line.TheVariants.{Member, Child, Name}
 use Rattle.supctl.specs.declared.world.line.Place.TheVariants.{On, Unplaced, Gone}
 use Rattle.supctl.specs.declared.world.refusal.Refusal.TheVariants.{UnknownNode, AlreadyPresent, NotFound, NoSuchChild, UpToDate, NoSuchMessage}
 use Rattle.supctl.specs.declared.world.step.Step.TheVariants.{Act, Ship, Deliver, Show}
-use Rattle.supctl.proofs.RowWords.{a, b, x, n, web, www, sp, of_kind, dot, lost_name, sent, shown, answers_among}
+use Rattle.supctl.proofs.RowWords.{a, b, x, n, web, www, sp, of_kind, unlabelled, dot, lost_name, sent, shown, answers_among}
 
 -- a child travels whole
 pub child_travels_whole : (weight : Weigher) → answers_among weight (a ∷ b ∷ []) (Act a (Start web sp) ∷ Ship a b ∷ Deliver a 1 ∷ Show b ∷ [])
@@ -44,7 +44,7 @@ replace_and_register_travel weight = refl
 pub unregister_takes_winner_and_loser : (weight : Weigher) → answers_among weight (a ∷ b ∷ [])
     (Act a (Start x sp) ∷ Ship a b ∷ Deliver a 1 ∷ Act a (Register n x) ∷ Act b (Register n x) ∷ Ship b a ∷ Deliver b 1 ∷ Show a ∷ Act a (Unregister n) ∷ [])
     ≡ Added (dot a 1) ∷ sent a 1 b 1 ∷ Absorbed ∷ Added (dot a 2) ∷ Added (dot b 1) ∷ sent b 1 a 2 ∷ Absorbed
-    ∷ shown a (Child x (dot a 1) sp Unplaced ∷ Name n (dot b 1) x Unplaced ∷ lost_name n (dot a 2) x ∷ []) ∷ Removed (dot b 1 ∷ dot a 2 ∷ []) ∷ []
+    ∷ shown a (Child x (dot a 1) sp Unplaced ∷ Name n (dot b 1) x Unplaced ∷ lost_name n (dot a 2) ∷ []) ∷ Removed (dot b 1 ∷ dot a 2 ∷ []) ∷ []
 unregister_takes_winner_and_loser weight = refl
 
 -- a name that was registered while its child was deleted elsewhere
@@ -55,7 +55,15 @@ pub a_name_outlives_its_child : (weight : Weigher) → answers_among weight (a �
 a_name_outlives_its_child weight = refl
 
 -- a member has its child
-pub a_member_has_its_child : answers_among flat_weight (a ∷ []) (Act a (Join (record { label = [] })) ∷ Act a (Start web sp) ∷ Act a (Start web sp) ∷ Show a ∷ [])
+pub a_member_has_its_child : answers_among flat_weight (a ∷ []) (Act a (Join unlabelled) ∷ Act a (Start web sp) ∷ Act a (Start web sp) ∷ Show a ∷ [])
     ≡ Added (dot a 1) ∷ Added (dot a 2) ∷ Refused AlreadyPresent
-    ∷ shown a (Member a (dot a 1) (record { label = [] }) ∷ Child web (dot a 2) sp (On a) ∷ []) ∷ []
+    ∷ shown a (Member a (dot a 1) unlabelled ∷ Child web (dot a 2) sp (On a) ∷ []) ∷ []
 a_member_has_its_child = refl
+
+-- a name is where its child is, and nowhere once the last member has left
+pub a_name_is_where_its_child_is : answers_among flat_weight (a ∷ b ∷ [])
+    (Act b (Join unlabelled) ∷ Ship b a ∷ Deliver b 1 ∷ Act a (Start x sp) ∷ Act a (Register n x) ∷ Show a ∷ Act a (Leave b) ∷ Show a ∷ [])
+    ≡ Added (dot b 1) ∷ sent b 1 a 1 ∷ Absorbed ∷ Added (dot a 1) ∷ Added (dot a 2)
+    ∷ shown a (Member b (dot b 1) unlabelled ∷ Child x (dot a 1) sp (On b) ∷ Name n (dot a 2) x (On b) ∷ [])
+    ∷ Removed (dot b 1 ∷ []) ∷ shown a (Child x (dot a 1) sp Unplaced ∷ Name n (dot a 2) x Unplaced ∷ []) ∷ []
+a_name_is_where_its_child_is = refl

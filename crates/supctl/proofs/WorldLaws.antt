@@ -1,5 +1,5 @@
 -- A new world, and what the answer of a step says of the model.
-use Rattle.std.specs.Prelude.{◌≡◌, ◌⊎◌, ℕ, ◌+◌, ◌<◌, ◌≤◌, List, [], ◌∷◌, ◌++◌, length, map, take, drop, slice_index_or, IsOk, Result, Ok, Err, refl}
+use Rattle.std.specs.Prelude.{◌≡◌, ℕ, ◌+◌, ◌<◌, ◌≤◌, List, [], ◌∷◌, ◌++◌, length, map, take, drop, slice_index_or, IsOk, Result, Ok, Err, refl}
 use Rattle.std.specs.List.{AllZip}
 use Rattle.std.proofs.Common.{sym, ap, ◌∙◌, subst, arith}
 use mathlib.Core.Logic.{inl, inr}
@@ -11,9 +11,8 @@ use Rattle.supctl.specs.declared.world.answer.Answer.TheVariants.{Refused}
 use Rattle.supctl.specs.declared.world.node.Node.{Node}
 use Rattle.supctl.specs.declared.world.outbox.Outbox.{Outbox}
 use Rattle.supctl.specs.declared.world.refusal.Refusal.{Refusal}
-use Rattle.supctl.specs.declared.world.refusal.Refusal.TheVariants.{OutOfMemory}
 use Rattle.supctl.specs.declared.world.step.Step.{Step}
-use Rattle.supctl.specs.Worlds.{Site, World, new_site, new_world}
+use Rattle.supctl.specs.Worlds.{Site, World, new_site}
 use Rattle.supctl.specs.Steps.{Stepped, step}
 use Rattle.supctl.specs.Runs.{Allows, answer_of, world_after}
 use Rattle.supctl.specs.Stands.{AllStand, WorldBecomes, Gives}

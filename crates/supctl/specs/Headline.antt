@@ -27,8 +27,12 @@ SameAgree = (a b : Site) → SameOperations a.operations b.operations → Agree 
 
 -- an absorbed add that no absorbed operation names is a winner or a loser of its key
 abbrev pub AddsStay : Type 0
-AddsStay = (a : Site) (r : Row) → Contains (added a.operations) r → named a.operations r.dot ≡ false → Contains (entries (live a.operations) (table_of r.entry) (key_of r.entry)) r
+AddsStay =
+    (a : Site) (r : Row) → Contains (added a.operations) r → named a.operations r.dot ≡ false
+    → Contains (entries (live a.operations) (table_of r.entry) (key_of r.entry)) r
 
--- no two operations of one run add the same dot
+-- no two operations of one run add the same dot, whatever weighs members for children
 abbrev pub NoDotTwice : Type 0
-NoDotTwice = (weight : Weigher) (names : List Bytes) (steps : List Step) (answers : List Answer) (w : World) → Run weight (new_world names) steps answers w → AllPairs (λ (d e : Dot). d ≢ e) (new_dots answers)
+NoDotTwice =
+    (weight : Weigher) (names : List Bytes) (steps : List Step) (answers : List Answer) (w : World)
+    → Run weight (new_world names) steps answers w → AllPairs (λ (d e : Dot). d ≢ e) (new_dots answers)

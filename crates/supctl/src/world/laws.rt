@@ -1,7 +1,8 @@
 //! Laws of the model world, each the contract of a function that does nothing.
 ghost use Rattle.supctl.specs.Headline.{SameAgree, AddsStay, NoDotTwice};
 
-/// Nodes that absorbed the same operations, in any order and any number of times, have the same known dots and the same tables.
+/// Nodes that absorbed the same operations, in any order and any number of times, have the same known dots and the same
+/// tables, and place each child on the same member.
 pub fn same_operations_agree()
     ensures { SameAgree }
 {}
@@ -11,7 +12,7 @@ pub fn unremoved_adds_stay()
     ensures { AddsStay }
 {}
 
-/// No two operations of one run add the same dot.
+/// No two operations of one run add the same dot, whatever weighs members for children.
 pub fn no_dot_twice()
     ensures { NoDotTwice }
 {}

@@ -1,4 +1,4 @@
-use Rattle.std.proofs.Common.{◌≡◌, length, ◌∙◌, sym, subst}
+use Rattle.std.proofs.Common.{◌≡◌, length, ◌∙◌, subst}
 use Rattle.supctl.specs.Steps.{deliver_at, at_node}
 use Rattle.supctl.specs.Stands.{WorldBecomes}
 use Rattle.supctl.specs.Worlds.{Site}

@@ -1,4 +1,4 @@
-use Rattle.std.proofs.Common.{◌∙◌, sym, subst}
+use Rattle.std.proofs.Common.{sym, subst}
 use Rattle.supctl.specs.Checks.{then_do}
 use Rattle.supctl.specs.Stands.{Gives, WorldBecomes}
 use Rattle.supctl.specs.Steps.{message_in, at_node, deliver_at}

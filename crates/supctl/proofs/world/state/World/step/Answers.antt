@@ -1,5 +1,4 @@
 use Rattle.std.proofs.Common.{◌≡◌, ◌++◌, List, take, drop, length, refl, sym, subst, rules, arith, ◌∙◌}
-use Rattle.supctl.specs.declared.world.answer.Answer.TheVariants.{Refused}
 use Rattle.supctl.specs.declared.world.node.Node.{Node}
 use Rattle.supctl.specs.declared.world.outbox.Outbox.{Outbox}
 use Rattle.supctl.specs.Stands.{AllStand}
