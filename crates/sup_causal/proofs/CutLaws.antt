@@ -1,16 +1,13 @@
 -- That runs and the rest are a set's cut, and that canonical parts are just the cuts.
-use Rattle.std.proofs.Common.{◌≡◌, ℕ, suc, zero, ◌+◌, ◌<◌, ◌≤◌, Bool, true, false, ◌||◌, ◌&&◌, cond, leb, ltb, List, [], ◌∷◌, length, get_or, refl, sym, ap, ◌∙◌, subst, arith, Some, None, inl, inr}
-use Rattle.std.specs.Prelude.{◌↔◌}
-use Rattle.std.specs.Ordering.{is_eq, eq_by_cmp}
+use Rattle.std.proofs.Common.{◌≡◌, ℕ, suc, zero, ◌+◌, ◌<◌, ◌≤◌, Bool, true, false, ◌||◌, ◌&&◌, cond, leb, ltb, List, [], ◌∷◌, length, get_or, refl, sym, ap, ◌∙◌, subst, arith, Some, inl, inr}
 use Rattle.std.specs.Map.{keys_of}
 use Rattle.std.specs.List.{AllByRecursion, filter, slice_get}
 use Rattle.std.specs.BTreeMap.{BTreeMap, get, IsOrdered}
-use Rattle.std.proofs.lemmas.Bool.{both_ways, or_left, or_right, or_cases, or_from, and_parts, and_from, cases_order, false_from_ne_true, ltb-true, lt-ltb, leb-true, le-leb, lt-leb}
+use Rattle.std.proofs.lemmas.Bool.{both_ways, or_left, or_right, or_cases, or_from, and_parts, and_from, cases_order, false_from_ne_true, ltb-true, lt-ltb, le-leb, lt-leb}
 use Rattle.std.proofs.lemmas.Cmp.{nat_list_cmp_total, tied_itself}
 use Rattle.std.proofs.lemmas.List.Elements.{recursion_from_All, All-from_recursion}
 use Rattle.std.proofs.lemmas.List.Kept.{IsStrictlySortedBy-filter}
 use Rattle.std.proofs.lemmas.Map.Entries.{btree_map_get_place}
-use mathlib.Core.Bool.{false≢true}
 use Rattle.sup_specs.specs.Rising.{IsRising, among}
 use Rattle.sup_causal.specs.declared.dot.Dot.{Dot}
 use Rattle.sup_causal.specs.declared.dot.TheConstants.{MAX}

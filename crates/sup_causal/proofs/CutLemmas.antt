@@ -1,16 +1,15 @@
 -- Laws of runs and of entries.
-use Rattle.std.proofs.Common.{◌≡◌, ℕ, suc, zero, ◌+◌, ◌<◌, ◌≤◌, Bool, true, false, ◌||◌, ◌&&◌, cond, leb, eqb, List, [], ◌∷◌, ◌++◌, length, get_or, take, refl, sym, ap, ◌∙◌, subst, arith, unwrap_or, Option, Some, None, inl, inr, length-take}
-use Rattle.std.specs.Prelude.{◌↔◌, bytes_eq}
+use Rattle.std.proofs.Common.{◌≡◌, ℕ, suc, zero, ◌+◌, ◌<◌, ◌≤◌, Bool, true, false, ◌||◌, ◌&&◌, cond, leb, eqb, List, [], ◌∷◌, ◌++◌, length, get_or, take, refl, sym, ap, ◌∙◌, subst, arith, unwrap_or, Some, None, inl, inr, length-take}
+use Rattle.std.specs.Prelude.{bytes_eq}
 use Rattle.std.specs.Cmp.Lexicographic.{texts_ties}
 use Rattle.std.proofs.lemmas.Bool.Decides.{nat_tests}
 use Rattle.sup_causal.proofs.Sorted.{dots_tie}
-use Rattle.std.specs.declared.cmp.Ordering.{Ordering}
-use Rattle.std.specs.declared.cmp.Ordering.TheVariants.{Less, Equal, Greater}
+use Rattle.std.specs.declared.cmp.Ordering.TheVariants.{Less, Equal}
 use Rattle.std.specs.Ordering.{is_eq, eq_by_cmp}
-use Rattle.std.specs.Map.{keys_of, lookup}
-use Rattle.std.specs.List.{AllByRecursion, filter}
-use Rattle.std.specs.BTreeMap.{BTreeMap, get, IsOrdered}
-use Rattle.std.proofs.lemmas.Bool.{both_ways, or_left, or_right, or_parts, or_from, cases_order, false_from_ne_true}
+use Rattle.std.specs.Map.{lookup}
+use Rattle.std.specs.List.{AllByRecursion}
+use Rattle.std.specs.BTreeMap.{BTreeMap, get}
+use Rattle.std.proofs.lemmas.Bool.{both_ways, or_left, or_right, or_from, cases_order, false_from_ne_true}
 use Rattle.std.proofs.lemmas.Cmp.{nat_list_cmp_total, tied_back, tied_itself, eq_by_cmp_equiv}
 use Rattle.std.proofs.lemmas.List.{take_more, get_or_read, get_or-take}
 use Rattle.std.proofs.lemmas.List.Elements.{All-from_recursion}

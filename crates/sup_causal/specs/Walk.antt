@@ -1,5 +1,5 @@
 -- A walk over two maps: their entries in rising order of the keys, each key of either once (this project).
-use Rattle.std.specs.Prelude.{◌≡◌, ◌||◌, true, List, [], ◌∷◌, Option, Some, None, ⊤}
+use Rattle.std.specs.Prelude.{◌≡◌, ◌||◌, true, List, ◌∷◌, Option, Some, None}
 use Rattle.std.specs.declared.cmp.Ordering.{Ordering}
 use Rattle.std.specs.declared.cmp.Ordering.TheVariants.{Less}
 use Rattle.std.specs.List.{AllByRecursion}

@@ -1,6 +1,6 @@
-use Rattle.std.proofs.Common.{◌≡◌, ◌+◌, ◌≤◌, rules, subst, refl}
+use Rattle.std.proofs.Common.{◌+◌, ◌≤◌, subst, refl}
 use Rattle.std.specs.Prelude.{All}
-use Rattle.std.proofs.lemmas.List.{take_all, get_or_default}
+use Rattle.std.proofs.lemmas.List.{take_all}
 use Rattle.std.proofs.lemmas.List.Elements.{All-more}
 use Rattle.sup_causal.specs.Cut.{entry}
 use Rattle.sup_causal.specs.declared.dot.Dot.{Dot}

@@ -1,5 +1,4 @@
-use Rattle.std.proofs.Common.{◌||◌, arith, ap, ◌∙◌, take}
-use Rattle.sup_causal.specs.Cut.{in_run}
+use Rattle.std.proofs.Common.{arith, ap, ◌∙◌}
 use Rattle.sup_causal.specs.Dots.{list_has, IsCounted}
 use Rattle.sup_causal.proofs.CutLemmas.{each_push, run_push}
 use Rattle.sup_causal.proofs.parts.push_run.Goals as goal

@@ -1,4 +1,4 @@
-use Rattle.std.proofs.Common.{◌≡◌, ◌||◌, ◌≤◌}
+use Rattle.std.proofs.Common.{◌≡◌, ◌||◌}
 use Rattle.std.specs.List.{AllByRecursion}
 use Rattle.sup_causal.specs.Cut.{in_run}
 use Rattle.sup_causal.specs.declared.dot.Dot.{Dot}

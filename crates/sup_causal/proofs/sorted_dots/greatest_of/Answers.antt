@@ -1,6 +1,5 @@
-use Rattle.std.proofs.Common.{◌≡◌, ◌≤◌, ◌-◌, ◌+◌, ◌<◌, arith, sym, ◌∙◌, get_or, length}
+use Rattle.std.proofs.Common.{◌-◌, arith, sym, ◌∙◌}
 use Rattle.std.proofs.lemmas.Slice.Eq.{bytes_eq-Decides}
-use Rattle.std.proofs.lemmas.List.{get_or_read}
 use Rattle.sup_causal.proofs.DotLemmas.{both_ways, greatest_at, greatest_past, none_more}
 use Rattle.sup_causal.proofs.sorted_dots.greatest_of.Goals as goal
 

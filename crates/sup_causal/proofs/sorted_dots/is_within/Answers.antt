@@ -1,4 +1,4 @@
-use Rattle.std.proofs.Common.{◌≡◌, ◌≤◌, ◌<◌, true, false, arith, sym, ◌∙◌, length, inl, inr}
+use Rattle.std.proofs.Common.{◌≤◌, arith, sym, ◌∙◌, length, inl, inr}
 use Rattle.std.proofs.lemmas.Bool.{cases_lt, eqb-true, eq-eqb}
 use mathlib.Core.Bool.{false≢true}
 use Rattle.sup_causal.specs.Dots.{dot_cmp}

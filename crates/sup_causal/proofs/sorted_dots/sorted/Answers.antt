@@ -1,4 +1,4 @@
-use Rattle.std.proofs.Common.{◌≡◌, ap, sym, ◌∙◌}
+use Rattle.std.proofs.Common.{ap, ◌∙◌}
 use Rattle.std.proofs.lemmas.List.Filters.{dedup_is}
 use Rattle.sup_causal.specs.Dots.{list_has}
 use Rattle.sup_causal.proofs.Sorted.{same_dot, sorted_has, sorted_kept}

@@ -1,9 +1,7 @@
-use Rattle.std.proofs.Common.{◌≡◌, ◌∙◌, subst, sym}
-use Rattle.sup_causal.specs.declared.dot.Dot.{Dot}
+use Rattle.std.proofs.Common.{subst}
 use Rattle.std.proofs.Common.{List, ℕ}
-use Rattle.sup_causal.specs.Dots.{has, list_has, dot_cmp}
+use Rattle.sup_causal.specs.Dots.{has, list_has}
 use Rattle.sup_causal.specs.Cut.{IsCloud, IsRun, entry}
-use Rattle.sup_specs.specs.Rising.{IsRising}
 use Rattle.sup_causal.proofs.CutLaws.{cloud_is}
 use Rattle.sup_causal.proofs.context.CausalContext.cloud.Goals as goal
 

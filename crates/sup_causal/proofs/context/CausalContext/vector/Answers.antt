@@ -1,4 +1,4 @@
-use Rattle.std.proofs.Common.{◌≡◌, ◌∙◌, subst, sym}
+use Rattle.std.proofs.Common.{◌∙◌, subst, sym}
 use Rattle.sup_causal.specs.Dots.{has, list_has}
 use Rattle.sup_causal.specs.Cut.{IsVector}
 use Rattle.sup_causal.proofs.CutLaws.{vector_is}

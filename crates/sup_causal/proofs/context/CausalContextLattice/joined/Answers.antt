@@ -1,5 +1,5 @@
 use mathlib.Core.Path.{fun_ext}
-use Rattle.std.proofs.Common.{◌||◌, ap, ◌∙◌}
+use Rattle.std.proofs.Common.{◌||◌, ◌∙◌}
 use Rattle.sup_causal.specs.Dots.{has, list_has}
 use Rattle.sup_causal.proofs.context.CausalContextLattice.joined.Goals as goal
 

@@ -1,4 +1,4 @@
-use Rattle.std.proofs.Common.{◌≡◌, sym, ap, ◌∙◌}
+use Rattle.std.proofs.Common.{sym, ap, ◌∙◌}
 use Rattle.sup_causal.specs.Dots.{has, list_has}
 use Rattle.sup_causal.proofs.DotLemmas.{adds_nothing, nothing_added}
 use Rattle.sup_causal.proofs.context.CausalContextLattice.leq.Goals as goal
