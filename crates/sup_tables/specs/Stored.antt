@@ -31,6 +31,7 @@ child_row id dot spec = record { dot = dot; entry = Child id spec }
 abbrev pub name_row : Bytes → Dot → Bytes → Row
 name_row name dot id = record { dot = dot; entry = Name name id }
 
+-- key, dot and value of a member's row, and none of another table's
 abbrev pub member_of : Dot → Entry → Option (Bytes × Dot × MemberInfo)
 member_of dot (Member m info) = Some (m, dot, info)
 member_of dot (Child id spec) = None
@@ -46,7 +47,7 @@ name_of dot (Member m info) = None
 name_of dot (Child id spec) = None
 name_of dot (Name name id) = Some (name, dot, id)
 
--- what a row says in one table, and nothing where it is of another for a row of another
+-- the same of a row
 abbrev pub as_member : Row → Option (Bytes × Dot × MemberInfo)
 as_member r = member_of r.dot r.entry
 

@@ -26,7 +26,7 @@ impl Tables {
         ensures rows { IfOk result (λ t. t.rows ≡ rows.items) }
         ensures context { IfOk result (λ t. t.context ≡ context) }
         ensures not_canonical { IsErrOf result RowsFault.NotCanonical ↔ ¬ AreInOrder rows.items }
-        ensures not_covered { IsErrOf result RowsFault.NotCovered ↔ AreInOrder rows.items × ¬ HasDotsOf context rows.items }
+        ensures not_covered { IsErrOf result RowsFault.NotCovered ↔ (AreInOrder rows.items × ¬ HasDotsOf context rows.items) }
     {
         if !are_in_order(&rows) {
             return Err(RowsFault::NotCanonical);

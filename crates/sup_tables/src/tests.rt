@@ -5,7 +5,7 @@ mod seen;
 
 use crate::laws;
 use node::Node;
-use read::{child, dot, is_not_covered, is_out_of_order, member, name, node_with};
+use read::{child, dot, is_not_covered, is_out_of_order, member, name, node_with, two};
 use std::process::Abort;
 use sup_causal::{Dot, MAX};
 
@@ -184,24 +184,28 @@ fn no_rows_are_read_under_any_dots(rt: HostRuntime) {
 fn rows_out_of_order_are_refused(rt: HostRuntime) {
     let one = dot(&rt, 1, "a");
     let late = dot(&rt, 2, "a");
-    let keys = vec![in rt.alloc(); child(&rt, one, "db"), child(&rt, one, "cache")];
-    assert!(rt; is_out_of_order(&rt, &[one], keys.expect(&rt, "rows")));
-    let dots = vec![in rt.alloc(); child(&rt, late, "db"), child(&rt, one, "db")];
-    assert!(rt; is_out_of_order(&rt, &[one, late], dots.expect(&rt, "rows")));
-    let tables = vec![in rt.alloc(); child(&rt, one, "db"), member(&rt, one, "z")];
-    assert!(rt; is_out_of_order(&rt, &[one], tables.expect(&rt, "rows")));
-    let twice = vec![in rt.alloc(); child(&rt, one, "db"), child(&rt, one, "db")];
-    assert!(rt; is_out_of_order(&rt, &[one], twice.expect(&rt, "rows")));
+    let known = [one, late];
+    let keys = two(&rt, child(&rt, one, "db"), child(&rt, one, "cache"));
+    let keys = is_out_of_order(&rt, &known, keys);
+    let dots = two(&rt, child(&rt, late, "db"), child(&rt, one, "db"));
+    let dots = is_out_of_order(&rt, &known, dots);
+    let tables = two(&rt, child(&rt, one, "db"), member(&rt, one, "z"));
+    let tables = is_out_of_order(&rt, &known, tables);
+    let twice = two(&rt, child(&rt, one, "db"), child(&rt, one, "db"));
+    let twice = is_out_of_order(&rt, &known, twice);
+    assert!(rt; keys && dots && tables && twice);
 }
 
 #[test]
 fn a_row_beyond_the_context_is_refused_after_the_order(rt: HostRuntime) {
     let one = dot(&rt, 1, "a");
     let late = dot(&rt, 2, "a");
-    let beyond = vec![in rt.alloc(); child(&rt, one, "cache"), child(&rt, late, "db")];
-    assert!(rt; is_not_covered(&rt, &[one], beyond.expect(&rt, "rows")));
-    let both = vec![in rt.alloc(); child(&rt, late, "db"), child(&rt, one, "cache")];
-    assert!(rt; is_out_of_order(&rt, &[one], both.expect(&rt, "rows")));
+    let known = [one];
+    let beyond = two(&rt, child(&rt, one, "cache"), child(&rt, late, "db"));
+    let beyond = is_not_covered(&rt, &known, beyond);
+    let both = two(&rt, child(&rt, late, "db"), child(&rt, one, "cache"));
+    let both = is_out_of_order(&rt, &known, both);
+    assert!(rt; beyond && both);
 }
 
 #[test]

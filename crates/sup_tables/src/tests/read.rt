@@ -40,6 +40,13 @@ pub(crate) fn name(rt: &(impl Abort + AllocGlobal), dot: Dot, name: &str, id: &s
     }
 }
 
+pub(crate) fn two(rt: &(impl Abort + AllocGlobal), first: Row, second: Row) -> Vec<Row> {
+    let mut rows = Vec::new(rt.alloc());
+    rows.push(first).expect(rt, "room for a row");
+    rows.push(second).expect(rt, "room for a row");
+    rows
+}
+
 // What the rows give under the context of these dots.
 fn read(
     rt: &(impl Abort + AllocGlobal),
