@@ -1,6 +1,6 @@
 -- What a delivery makes of a node.
-use Rattle.std.specs.Prelude.{◌≡◌, ◌↔◌, Bool, true, false, IsTrue, List, ◌++◌, Result, Ok, Err, refl}
-use Rattle.std.proofs.Common.{sym, ap, ◌∙◌, subst}
+use Rattle.std.specs.Prelude.{◌≡◌, ◌↔◌, Bool, true, false, IsTrue, List, ◌++◌, Result, Ok, refl}
+use Rattle.std.proofs.Common.{sym, ◌∙◌, subst}
 use mathlib.Core.Bool.{true≢false}
 use Rattle.sup_tables.specs.Operations.{Operation, covers, Covers}
 use Rattle.supctl.specs.declared.world.answer.Answer.{Answer}
@@ -8,7 +8,7 @@ use Rattle.supctl.specs.declared.world.answer.Answer.TheVariants.{Absorbed, Know
 use Rattle.supctl.specs.declared.world.node.Node.{Node}
 use Rattle.supctl.specs.declared.world.refusal.Refusal.{Refusal}
 use Rattle.supctl.specs.Worlds.{Message, Site}
-use Rattle.supctl.specs.Steps.{Outcome, changes, takes_in, deliver_at}
+use Rattle.supctl.specs.Steps.{changes, takes_in, deliver_at}
 use Rattle.supctl.specs.Stands.{NodeStandsFor, NodeBecomes, Gives}
 use Rattle.supctl.proofs.Covering.{Covers-covers, not_covers}
 

@@ -1,18 +1,17 @@
 -- A world stays sound when one of its nodes grows.
-use Rattle.std.specs.Prelude.{◌≡◌, ℕ, ◌+◌, ◌≤◌, Bool, true, false, List, [], ◌∷◌, ◌++◌, Option, Some, None, refl}
+use Rattle.std.specs.Prelude.{◌≡◌, ◌+◌, ◌≤◌, Bool, true, false, Option, Some, refl}
 use Rattle.std.proofs.Common.{sym, ap, ◌∙◌, subst, arith}
 use mathlib.Core.Bool.{true≢false}
 use mathlib.Core.Logic.{◌⊎◌, inl, inr}
-use Rattle.sup_specs.specs.Values.{Bytes}
 use Rattle.sup_causal.specs.declared.dot.Dot.{Dot}
 use Rattle.sup_tables.specs.declared.row.Row.{Row}
-use Rattle.sup_tables.specs.Operations.{Operation, greatest, NoClash}
+use Rattle.sup_tables.specs.Operations.{greatest, NoClash}
 use Rattle.supctl.specs.Worlds.{Site, World, is_named, site_of, with_site, put_site}
 use Rattle.supctl.specs.Commands.{reading, next}
 use Rattle.supctl.specs.Sound.{own, everything, HasRow, Sound}
 use Rattle.supctl.proofs.Tops.{added-greatest}
 use Rattle.supctl.proofs.RowSets.{row-append, some_same, none_some}
-use Rattle.supctl.proofs.SiteLists.{named_itself, same_name, found-name, found-put, other-put, row-found, row-put, row-stays}
+use Rattle.supctl.proofs.SiteLists.{named_itself, same_name, found-put, other-put, row-found, row-put, row-stays}
 
 -- what one node becomes: it forgets no row, and has no row that nobody had but at most a new one, under its next dot
 pub record Grows (w : World) (s t : Site) (new : Option Row) : Type 0 where

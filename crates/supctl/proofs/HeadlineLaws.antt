@@ -1,5 +1,5 @@
 -- Nodes with the same operations agree, and an add stays.
-use Rattle.std.specs.Prelude.{◌≡◌, true, not, ◌&&◌, List, Contains, refl}
+use Rattle.std.specs.Prelude.{◌≡◌, true, not, ◌&&◌, List, Contains}
 use Rattle.std.specs.Ordering.{eq_by_cmp}
 use Rattle.std.specs.Cmp.{nat_eq_equiv}
 use Rattle.std.proofs.Common.{sym, ap, ◌∙◌, subst}

@@ -1,5 +1,5 @@
 -- The acts of a node: each lets it grow, and a dot in its answer is that of the new row.
-use Rattle.std.specs.Prelude.{◌≡◌, ◌+◌, ◌==◌, not, Bool, true, false, List, [], ◌∷◌, ◌++◌, is_some, Some, None, Result, Ok, refl}
+use Rattle.std.specs.Prelude.{◌≡◌, ◌==◌, not, Bool, true, false, List, [], ◌∷◌, ◌++◌, is_some, Some, None, Result, Ok, refl}
 use Rattle.std.proofs.Common.{sym, ap}
 use mathlib.Core.Logic.{inl}
 use Rattle.sup_specs.specs.Values.{Bytes}

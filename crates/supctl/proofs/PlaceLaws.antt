@@ -1,7 +1,7 @@
 -- Lists beside the model's sites, and the place that a name leads to.
-use Rattle.std.specs.Prelude.{◌≡◌, ℕ, ◌+◌, ◌<◌, Bool, true, false, cond, not, List, [], ◌∷◌, find, length, slice_index_or, slice_set, zero, suc, Option, Some, None, refl, if◌then◌else◌}
+use Rattle.std.specs.Prelude.{◌≡◌, ℕ, ◌+◌, ◌<◌, true, false, cond, not, List, [], ◌∷◌, length, slice_index_or, slice_set, suc, Some, None, refl, if◌then◌else◌}
 use Rattle.std.specs.List.{AllZip, position_or_len}
-use Rattle.std.proofs.Common.{◌≤◌, ltb, sym, ap, ◌∙◌, subst, arith}
+use Rattle.std.proofs.Common.{◌≤◌, ltb, sym, ap, subst, arith}
 use Rattle.std.proofs.lemmas.Bool.{ltb-false}
 use Rattle.sup_specs.specs.Values.{Bytes}
 use Rattle.supctl.specs.declared.world.node.Node.{Node}

@@ -1,17 +1,15 @@
 -- What a node sent, beside the model's messages.
-use Rattle.std.specs.Prelude.{◌≡◌, ℕ, ◌+◌, ◌-◌, ◌==◌, Bool, true, false, List, [], ◌∷◌, ◌++◌, length, slice_get, zero, suc, Option, Some, None, Result, Ok, Err, refl, if◌then◌else◌}
+use Rattle.std.specs.Prelude.{◌≡◌, ℕ, ◌+◌, ◌-◌, ◌==◌, true, false, List, [], ◌∷◌, ◌++◌, length, slice_get, zero, suc, Some, None, Result, Ok, Err, refl, if◌then◌else◌}
 use Rattle.std.specs.List.{AllZip}
-use Rattle.std.specs.Option.{option_map}
 use Rattle.std.proofs.Common.{sym, ap, ◌∙◌, subst}
 use Rattle.sup_specs.specs.Values.{Bytes}
-use Rattle.supctl.specs.declared.world.answer.Answer.{Answer}
 use Rattle.supctl.specs.declared.world.answer.Answer.TheVariants.{Sent}
 use Rattle.supctl.specs.declared.world.answer.LetterKind.TheVariants.{Whole}
 use Rattle.supctl.specs.declared.world.outbox.Message.{Message as Held}
 use Rattle.supctl.specs.declared.world.refusal.Refusal.{Refusal}
 use Rattle.supctl.specs.Checks.{then_do}
 use Rattle.supctl.specs.Worlds.{Message, Site, nth}
-use Rattle.supctl.specs.Steps.{Outcome, posts, shipment, ship_at}
+use Rattle.supctl.specs.Steps.{posts, shipment, ship_at}
 use Rattle.supctl.specs.Stands.{MessageStandsFor, PostBecomes, Gives}
 use Rattle.supctl.proofs.RowSets.{some_same, none_some}
 

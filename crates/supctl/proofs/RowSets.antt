@@ -7,7 +7,7 @@ use mathlib.Core.Bool.{true≢false}
 use Rattle.sup_specs.specs.Rising.{among}
 use Rattle.sup_tables.specs.declared.row.Row.{Row}
 use Rattle.sup_tables.specs.Rows.{row_cmp}
-use Rattle.sup_tables.specs.Operations.{Operation, added}
+use Rattle.sup_tables.specs.Operations.{Operation}
 use Rattle.sup_tables.proofs.AddLaws.{or-left, or-right, among-added-append, row_itself, same_row}
 use Rattle.supctl.specs.Sound.{HasRow}
 

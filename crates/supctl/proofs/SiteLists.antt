@@ -1,7 +1,6 @@
 -- Lists of sites in which one is put in the place of another.
-use Rattle.std.specs.Prelude.{◌≡◌, ℕ, Bool, true, false, cond, List, [], ◌∷◌, ◌++◌, find, flat_map, Option, Some, None, refl, if◌then◌else◌}
+use Rattle.std.specs.Prelude.{◌≡◌, true, false, cond, List, [], ◌∷◌, Some, refl, if◌then◌else◌}
 use Rattle.std.proofs.Common.{sym, ap, ◌∙◌, subst}
-use mathlib.Core.Bool.{true≢false}
 use mathlib.Core.Logic.{◌⊎◌, inl, inr}
 use Rattle.sup_specs.specs.Values.{Bytes}
 use Rattle.sup_tables.specs.declared.row.Row.{Row}
@@ -9,7 +8,7 @@ use Rattle.std.proofs.lemmas.Map.Text.{is_eq-slice_cmp}
 use Rattle.sup_tables.proofs.PointLaws.{text_itself, same_text}
 use Rattle.supctl.specs.Worlds.{Site, is_named, find_site, put_site}
 use Rattle.supctl.specs.Sound.{own, everything, HasRow}
-use Rattle.supctl.proofs.RowSets.{row-append, row-left, row-right, no-row, some_same, none_some}
+use Rattle.supctl.proofs.RowSets.{row-append, row-left, row-right, some_same, none_some}
 
 -- names are one where the test says so
 pub named_itself : (name : Bytes) → is_named name name ≡ true

@@ -1,6 +1,6 @@
 -- What a stripped prefix and a parsed number are, as the definitions say it.
-use Rattle.std.proofs.Common.{◌≡◌, ℕ, ◌+◌, ◌<◌, ◌^◌, ◌∙◌, Bool, true, false, ◌&&◌, List, length, drop, get_or, map, refl, sym, ap, arith, rules, option_map, Option, Some, None, Result}
-use Rattle.std.specs.Prelude.{◌≢◌, ◌≤◌, nat_le, Err}
+use Rattle.std.proofs.Common.{◌≡◌, ℕ, ◌+◌, ◌<◌, ◌^◌, ◌∙◌, true, false, List, length, drop, refl, ap, arith, rules, option_map, Option, Some, None, Result}
+use Rattle.std.specs.Prelude.{◌≤◌, nat_le, Err}
 use Rattle.std.proofs.lemmas.Bool.Decides.{nat_tests}
 use Rattle.std.specs.Option.{MatchOption}
 use Rattle.std.specs.Result.{OkIff}
