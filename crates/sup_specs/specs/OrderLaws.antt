@@ -11,8 +11,6 @@ use Rattle.sup_specs.specs.declared.child.Restart.{Restart}
 use Rattle.sup_specs.specs.declared.child.Restart.TheVariants.{Permanent, Transient, Temporary}
 use Rattle.sup_specs.specs.declared.child.Shutdown.{Shutdown}
 use Rattle.sup_specs.specs.declared.child.Shutdown.TheVariants.{Brutal, Millis, Infinity}
-use Rattle.sup_specs.specs.declared.child.ChildSpec.{ChildSpec}
-use Rattle.sup_specs.specs.declared.child.MemberInfo.{MemberInfo}
 use Rattle.sup_specs.specs.Values.{text_cmp, restart_place, shutdown_place, shutdown_millis, shutdown_cmp, spec_cmp, info_cmp}
 
 -- where one comparison after another finds a tie, each does

@@ -5,7 +5,6 @@ use Rattle.sup_specs.specs.declared.child.Restart.{Restart}
 use Rattle.sup_specs.specs.declared.child.Restart.TheVariants.{Permanent, Transient, Temporary}
 use Rattle.sup_specs.specs.declared.child.Shutdown.{Shutdown}
 use Rattle.sup_specs.specs.declared.child.Shutdown.TheVariants.{Brutal, Millis, Infinity}
-use Rattle.sup_specs.specs.declared.child.ExitReason.{ExitReason}
 use Rattle.sup_specs.specs.declared.child.ExitReason.TheVariants.{Normal, ShutdownWith, Failed, Crash}
 use Rattle.sup_specs.specs.declared.child.ExitReason.TheVariants as reason
 use Rattle.sup_specs.specs.declared.child.ChildSpec.{ChildSpec}

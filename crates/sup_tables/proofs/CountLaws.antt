@@ -1,7 +1,7 @@
 -- How many rows the stores have.
-use Rattle.std.specs.Prelude.{◌≡◌, ℕ, ◌+◌, List, [], ◌∷◌, ◌++◌, length, map, refl}
+use Rattle.std.specs.Prelude.{◌≡◌, ◌+◌, List, [], ◌∷◌, ◌++◌, length, map, refl}
 use Rattle.std.specs.Map.{values_of}
-use Rattle.std.proofs.Common.{sym, ap, ◌∙◌, length-append}
+use Rattle.std.proofs.Common.{ap, ◌∙◌, length-append}
 use Rattle.std.proofs.lemmas.List.{length-map}
 use Rattle.sup_causal.specs.declared.dot.Dot.{Dot}
 use Rattle.sup_dot_store.specs.declared.dot_fun.DotFun.{DotFun}

@@ -1,10 +1,9 @@
 -- The states of one operation.
-use Rattle.std.specs.Prelude.{◌≡◌, ℕ, ◌+◌, length, Bool, true, false, not, ◌||◌, cond, List, [], ◌∷◌, ◌++◌, map, filter, Option, Some, None, IsSome, refl}
-use Rattle.std.specs.Ordering.{eq_by_cmp, is_eq}
+use Rattle.std.specs.Prelude.{◌≡◌, ◌+◌, length, Bool, true, false, not, ◌||◌, cond, List, [], ◌∷◌, ◌++◌, map, Option, Some, None, IsSome, refl}
 use Rattle.std.specs.Map.{lookup, values_of}
 use Rattle.std.specs.BTreeMap.{is_at as is_key}
 use Rattle.std.proofs.Common.{sym, ap, ◌∙◌, subst}
-use mathlib.Core.Bool.{true≢false, false≢true}
+use mathlib.Core.Bool.{false≢true}
 use Rattle.std.proofs.lemmas.Cmp.{eq_by_cmp_equiv}
 use Rattle.sup_specs.specs.Values.{Bytes, text_cmp}
 use Rattle.sup_specs.specs.Rising.{rising, among}
@@ -15,8 +14,7 @@ use Rattle.sup_dot_store.specs.declared.dot_fun.DotFun.{DotFun}
 use Rattle.sup_dot_store.specs.Places.{optional_held}
 use Rattle.sup_tables.specs.declared.row.Row.{Row}
 use Rattle.sup_tables.specs.Rows.{row_cmp}
-use Rattle.sup_tables.specs.Operations.{Operation, known, named, live}
-use Rattle.sup_tables.specs.States.{State, StandsFor}
+use Rattle.sup_tables.specs.States.{StandsFor}
 use Rattle.sup_tables.specs.Stored.{Values, Stored, rows_in, value_in, stored_rows, state_of, IsOneRow, count_in}
 use Rattle.sup_tables.proofs.AddLaws.{same_dot, dot_itself}
 

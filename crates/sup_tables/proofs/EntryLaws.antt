@@ -1,5 +1,5 @@
 -- The entries of a key, by what the stores hold.
-use Rattle.std.specs.Prelude.{◌≡◌, ℕ, Bool, true, false, ◌||◌, cond, List, [], ◌∷◌, ◌++◌, map, filter, Option, Some, None, slice_get, refl}
+use Rattle.std.specs.Prelude.{◌≡◌, Bool, true, false, ◌||◌, cond, List, [], ◌∷◌, ◌++◌, map, filter, Option, Some, None, slice_get, refl}
 use Rattle.std.specs.Option.{option_map}
 use Rattle.std.specs.Ordering.{eq_by_cmp}
 use Rattle.std.specs.List.{AllByRecursion}
@@ -27,8 +27,8 @@ use Rattle.std.specs.Prelude.{All}
 use Rattle.std.proofs.lemmas.List.Elements.{All-from_recursion}
 use Rattle.sup_tables.specs.States.{State, IsKept}
 use Rattle.sup_tables.proofs.AddLaws.{or-left, or-right, row_itself, same_dot}
-use Rattle.sup_tables.specs.Readers.{entries, winner, live_dots}
-use Rattle.sup_tables.specs.Stored.{Values, Stored, rows_in, member_row, child_row, name_row, stored_rows, state_of, first_value, rows_under, dots_under}
+use Rattle.sup_tables.specs.Readers.{entries, live_dots}
+use Rattle.sup_tables.specs.Stored.{Values, Stored, rows_in, member_row, child_row, name_row, state_of, first_value, rows_under, dots_under}
 use Rattle.sup_tables.proofs.StoredLaws.{IsOrderedStored}
 use Rattle.sup_tables.proofs.PointLaws.{same_text}
 use Rattle.sup_tables.proofs.OrderedRows.{all_rows, stored_is}

@@ -1,12 +1,10 @@
 -- The join of two states stands for both lists of operations, where no dot has two different adds.
 use Rattle.std.specs.Prelude.{◌≡◌, Bool, true, false, not, ◌||◌, ◌&&◌, List, ◌++◌, filter, Option, Some, None, refl}
-use Rattle.std.specs.List.{list_any}
-use Rattle.std.specs.Ordering.{eq_by_cmp}
 use Rattle.std.proofs.Common.{sym, ap, ◌∙◌, subst}
 use mathlib.Core.Bool.{true≢false}
 use Rattle.std.proofs.lemmas.List.Folds.{list_any-append}
-use Rattle.sup_specs.specs.Rising.{rising, among}
-use Rattle.sup_specs.proofs.RisingLaws.{rising_same, among-rising}
+use Rattle.sup_specs.specs.Rising.{among}
+use Rattle.sup_specs.proofs.RisingLaws.{rising_same}
 use Rattle.sup_causal.specs.declared.dot.Dot.{Dot}
 use Rattle.sup_causal.specs.Dots.{dot_cmp, has}
 use Rattle.sup_causal.specs.Join.{lesser, lesser_laws}
@@ -17,7 +15,7 @@ use Rattle.sup_tables.specs.RowLaws.{row_total, row_tie}
 use Rattle.sup_tables.specs.Operations.{Operation, known, named, added, live, NoClash}
 use Rattle.sup_tables.specs.States.{State, StandsFor, IsKept, is_point, row_at, point, knowledge, together}
 use Rattle.sup_tables.proofs.OperationLaws.{among-live_adds, among-added, both_ways}
-use Rattle.sup_tables.proofs.AddLaws.{or-left, or-right, and-first, and-second, known_of_added, known_of_named, among-added-append, same_add, same_add_right, has_live, added_of_live}
+use Rattle.sup_tables.proofs.AddLaws.{or-left, or-right, and-first, and-second, known_of_added, known_of_named, among-added-append, same_add, same_add_right, has_live}
 use Rattle.sup_tables.proofs.PointLaws.{find_some, find_none, at_point, point_itself}
 
 -- what is known at a point that has a row

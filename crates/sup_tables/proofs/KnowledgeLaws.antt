@@ -1,15 +1,13 @@
 -- What states know: equal knowledge is equal rows, nothing adds nothing, and one state knows what another does where its operations cover the other's.
-use Rattle.std.specs.Prelude.{◌≡◌, ◌↔◌, Bool, true, false, not, ◌||◌, ◌&&◌, List, [], ◌++◌, Option, Some, None, IsTrue, refl}
-use Rattle.std.specs.List.{list_any}
+use Rattle.std.specs.Prelude.{◌≡◌, ◌↔◌, Bool, true, false, ◌||◌, List, [], ◌++◌, Option, Some, None, IsTrue, refl}
 use Rattle.std.proofs.Common.{sym, ap, ◌∙◌, subst}
 use mathlib.Core.Path.{fun_ext}
 use mathlib.Core.Bool.{true≢false}
-use Rattle.std.proofs.lemmas.List.Folds.{list_any-append}
 use Rattle.sup_specs.specs.Values.{Bytes}
-use Rattle.sup_specs.specs.Rising.{rising, among}
+use Rattle.sup_specs.specs.Rising.{among}
 use Rattle.sup_specs.proofs.RisingLaws.{rising_same}
 use Rattle.sup_causal.specs.declared.dot.Dot.{Dot}
-use Rattle.sup_causal.specs.Dots.{dot_cmp, has}
+use Rattle.sup_causal.specs.Dots.{has}
 use Rattle.sup_causal.specs.Join.{lesser}
 use Rattle.sup_dot_store.specs.Points.{Standing, unknown, present, gone, standing, higher}
 use Rattle.sup_tables.specs.declared.row.Row.{Row}
@@ -18,8 +16,8 @@ use Rattle.sup_tables.specs.RowLaws.{row_total, row_tie}
 use Rattle.sup_tables.specs.Operations.{Operation, named, added, live, Covers, NoClash}
 use Rattle.sup_tables.specs.States.{State, StandsFor, IsKept, is_point, row_at, point, knowledge, together, together_laws}
 use Rattle.sup_tables.proofs.OperationLaws.{both_ways}
-use Rattle.sup_tables.proofs.AddLaws.{or-left, or-right, and-first, and-second, known_of_added, added_of_known, among-added-append, has_live, added_of_live}
-use Rattle.sup_tables.proofs.PointLaws.{find_some, find_none, at_point, point_itself}
+use Rattle.sup_tables.proofs.AddLaws.{or-left, or-right, added_of_known, among-added-append, added_of_live}
+use Rattle.sup_tables.proofs.PointLaws.{find_some, find_none, at_point}
 use Rattle.sup_tables.proofs.JoinLaws.{present_is, lesser_itself, join_stands}
 use Rattle.sup_tables.proofs.CoverLaws.{Below, below-from_Covers, live-from}
 

@@ -1,10 +1,9 @@
 -- Rows in order of their places: their order, and what they are table by table.
-use Rattle.std.specs.Prelude.{◌≡◌, ℕ, Bool, true, false, ◌||◌, List, [], ◌∷◌, ◌++◌, map, filter_map, length, Option, Some, None, IsSome, All, refl}
+use Rattle.std.specs.Prelude.{◌≡◌, Bool, true, false, ◌||◌, List, [], ◌∷◌, ◌++◌, map, filter_map, Option, Some, None, IsSome, refl}
 use Rattle.std.specs.Option.{option_map}
-use Rattle.std.specs.List.{AllByRecursion, cons_option, list_any}
-use Rattle.std.specs.declared.cmp.Ordering.{Ordering}
-use Rattle.std.specs.declared.cmp.Ordering.TheVariants.{Less, Equal, Greater}
-use Rattle.std.specs.Ordering.{ordering_then, eq_by_cmp}
+use Rattle.std.specs.List.{AllByRecursion, cons_option}
+use Rattle.std.specs.declared.cmp.Ordering.TheVariants.{Less}
+use Rattle.std.specs.Ordering.{eq_by_cmp}
 use Rattle.std.specs.Cmp.{IsTotalOrder, nat_cmp_total, on_total, then_total}
 use Rattle.std.proofs.Common.{sym, ap, ◌∙◌, subst}
 use Rattle.std.proofs.lemmas.List.{append-nil}
@@ -16,15 +15,15 @@ use Rattle.sup_specs.specs.Rising.{IsRising, among, rising}
 use Rattle.sup_specs.specs.declared.child.ChildSpec.{ChildSpec}
 use Rattle.sup_specs.specs.declared.child.MemberInfo.{MemberInfo}
 use Rattle.sup_causal.specs.declared.dot.Dot.{Dot}
-use Rattle.sup_causal.specs.Dots.{Context, has, dot_cmp}
+use Rattle.sup_causal.specs.Dots.{Context, has}
 use Rattle.sup_causal.specs.DotLaws.{dot_total}
 use Rattle.sup_dot_store.specs.declared.dot_fun.DotFun.{DotFun}
 use Rattle.sup_dot_store.specs.RowLists.{rows_under, rows_of, row_cmp as part_cmp}
 use Rattle.sup_tables.specs.declared.row.Row.{Row}
 use Rattle.sup_tables.specs.declared.row.Entry.{Entry}
 use Rattle.sup_tables.specs.declared.row.Entry.TheVariants.{Member, Child, Name}
-use Rattle.sup_tables.specs.Rows.{Table, members, children, names, table_place, table_of, key_of, row_of, place_cmp, row_cmp}
-use Rattle.sup_tables.specs.Stored.{Values, Stored, rows_in, value_in, stored_rows, member_row, child_row, name_row, member_of, child_of, name_of, as_member, as_child, as_name, AreCovered}
+use Rattle.sup_tables.specs.Rows.{table_place, table_of, key_of, row_of, place_cmp, row_cmp}
+use Rattle.sup_tables.specs.Stored.{Stored, rows_in, value_in, stored_rows, member_row, child_row, name_row, member_of, child_of, name_of, as_member, as_child, as_name, AreCovered}
 use Rattle.sup_tables.proofs.OperationLaws.{is_row_of}
 use Rattle.sup_tables.proofs.AddLaws.{row_itself, same_row}
 use Rattle.sup_tables.proofs.StoredLaws.{IsOrderedStored, among-stored}

@@ -1,8 +1,7 @@
 -- The dots that the removal of a child names.
-use Rattle.std.specs.Prelude.{◌≡◌, ℕ, Bool, true, false, ◌||◌, ◌&&◌, cond, List, [], ◌∷◌, ◌++◌, map, filter, bytes_eq, All, refl}
-use Rattle.std.specs.declared.cmp.Ordering.{Ordering}
+use Rattle.std.specs.Prelude.{◌≡◌, Bool, true, false, ◌||◌, ◌&&◌, cond, List, [], ◌∷◌, ◌++◌, map, filter, bytes_eq, All, refl}
 use Rattle.std.specs.declared.cmp.Ordering.TheVariants.{Less, Equal, Greater}
-use Rattle.std.specs.Ordering.{eq_by_cmp, is_eq}
+use Rattle.std.specs.Ordering.{eq_by_cmp}
 use Rattle.std.specs.List.{AllByRecursion}
 use Rattle.std.specs.List.Sorted.{IsStrictlySortedBy}
 use Rattle.std.specs.Map.{keys_of, values_of}
@@ -13,17 +12,16 @@ use Rattle.std.proofs.lemmas.List.{map-append}
 use Rattle.std.proofs.lemmas.List.Elements.{All-from_recursion}
 use Rattle.std.proofs.lemmas.Slice.Eq.{bytes_eq-Decides}
 use Rattle.sup_specs.specs.Values.{Bytes, text_cmp}
-use Rattle.sup_specs.specs.Rising.{rising, among, put_in, IsRising}
+use Rattle.sup_specs.specs.Rising.{rising, put_in, IsRising}
 use Rattle.sup_causal.specs.declared.dot.Dot.{Dot}
 use Rattle.sup_causal.specs.Dots.{Context, has, dot_cmp}
 use Rattle.sup_causal.specs.DotLaws.{dot_total}
-use Rattle.sup_dot_store.specs.declared.dot_fun.DotFun.{DotFun}
 use Rattle.sup_tables.specs.declared.row.Row.{Row}
-use Rattle.sup_tables.specs.Rows.{Table, children, names, is_at, is_in, target_of}
+use Rattle.sup_tables.specs.Rows.{children, names, is_at, is_in, target_of}
 use Rattle.sup_tables.specs.Readers.{live_dots}
 use Rattle.sup_tables.specs.Makers.{names_of, child_and_names}
 use Rattle.sup_tables.specs.States.{State, IsKept}
-use Rattle.sup_tables.specs.Stored.{Values, Stored, rows_in, member_row, child_row, name_row, stored_rows, state_of, dots_to, dots_to_in}
+use Rattle.sup_tables.specs.Stored.{Values, Stored, rows_in, member_row, child_row, name_row, state_of, dots_to, dots_to_in}
 use Rattle.sup_tables.proofs.StoredLaws.{IsOrderedStored}
 use Rattle.sup_tables.proofs.OperationLaws.{both_ways}
 use Rattle.sup_tables.proofs.PointLaws.{same_text, text_itself}

@@ -1,7 +1,7 @@
 -- Winners and losers, by what the stores hold.
-use Rattle.std.specs.Prelude.{◌≡◌, ℕ, Bool, true, false, ◌||◌, cond, List, [], ◌∷◌, ◌++◌, map, filter, filter_map, drop, Option, Some, None, slice_get, refl}
+use Rattle.std.specs.Prelude.{◌≡◌, Bool, true, false, ◌||◌, cond, List, [], ◌∷◌, ◌++◌, map, filter, filter_map, drop, Option, Some, None, slice_get, refl}
 use Rattle.std.specs.Option.{option_map}
-use Rattle.std.specs.List.{AllByRecursion, list_any, cons_option}
+use Rattle.std.specs.List.{AllByRecursion, cons_option}
 use Rattle.std.specs.List.Sorted.{IsStrictlySortedBy}
 use Rattle.std.specs.declared.cmp.Ordering.TheVariants.{Less}
 use Rattle.std.specs.Ordering.{eq_by_cmp, is_eq}
@@ -22,8 +22,8 @@ use Rattle.sup_causal.specs.Dots.{Context}
 use Rattle.sup_dot_store.specs.declared.dot_fun.DotFun.{DotFun}
 use Rattle.sup_tables.specs.declared.row.Row.{Row}
 use Rattle.sup_tables.specs.Rows.{Table, members, children, names, is_in, key_of}
-use Rattle.sup_tables.specs.Readers.{keys, winner, winners}
-use Rattle.sup_tables.specs.Stored.{Values, Stored, rows_in, member_row, child_row, name_row, stored_rows, state_of, firsts_in, triple, rows_under, rest_under}
+use Rattle.sup_tables.specs.Readers.{winner, winners}
+use Rattle.sup_tables.specs.Stored.{Values, Stored, rows_in, member_row, child_row, name_row, state_of, firsts_in, triple, rows_under, rest_under}
 use Rattle.sup_tables.proofs.StoredLaws.{IsOrderedStored}
 use Rattle.sup_tables.proofs.OrderedRows.{all_rows, stored_is, rising_already}
 use Rattle.sup_tables.proofs.EntryLaws.{filter_all, filter_none, filter_append, nothing_after, member_entries, child_entries, name_entries, first_under}

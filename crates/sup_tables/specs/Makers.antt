@@ -1,5 +1,5 @@
 -- The operation of each command (this project). `rows` are the live rows at its node, `dot` is the new dot.
-use Rattle.std.specs.Prelude.{ℕ, ◌+◌, ◌&&◌, List, [], ◌∷◌, ◌++◌, Some, None, filter, map}
+use Rattle.std.specs.Prelude.{◌+◌, ◌&&◌, List, [], ◌∷◌, ◌++◌, Some, None, filter, map}
 use Rattle.std.specs.Ordering.{eq_by_cmp}
 use Rattle.sup_specs.specs.declared.child.ChildSpec.{ChildSpec}
 use Rattle.sup_specs.specs.declared.child.MemberInfo.{MemberInfo}

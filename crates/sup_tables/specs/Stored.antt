@@ -1,5 +1,5 @@
 -- How the stores keep the rows of the tables.
-use Rattle.std.specs.Prelude.{◌≡◌, ℕ, ◌+◌, Bool, true, IsSome, List, [], ◌∷◌, ◌++◌, length, map, filter, filter_map, slice_get, drop, Option, Some, None}
+use Rattle.std.specs.Prelude.{◌≡◌, ℕ, ◌+◌, true, IsSome, List, [], ◌∷◌, ◌++◌, length, map, filter, filter_map, slice_get, drop, Option, Some, None}
 use Rattle.std.specs.Option.{option_map}
 use Rattle.std.specs.Ordering.{eq_by_cmp}
 use Rattle.std.specs.Map.{lookup, keys_of}

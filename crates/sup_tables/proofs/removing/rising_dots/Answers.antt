@@ -1,6 +1,5 @@
-use Rattle.std.proofs.Common.{sym, ap, ◌∙◌}
+use Rattle.std.proofs.Common.{sym, ◌∙◌}
 use Rattle.sup_causal.specs.DotLaws.{dot_total, dot_exact}
-use Rattle.sup_specs.specs.Rising.{among}
 use Rattle.sup_causal.specs.Dots.{dot_cmp}
 use Rattle.sup_specs.proofs.RisingLaws.{rising_same}
 use Rattle.sup_tables.proofs.RemovalLaws.{sorted_already}

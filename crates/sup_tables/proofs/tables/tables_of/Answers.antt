@@ -1,4 +1,3 @@
-use Rattle.std.proofs.Common.{inl, inr}
 use Rattle.sup_tables.proofs.MappedLaws.{at_places}
 use Rattle.sup_tables.proofs.tables.tables_of.Goals as goal
 

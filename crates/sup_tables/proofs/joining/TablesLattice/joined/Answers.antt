@@ -1,6 +1,5 @@
 use Rattle.std.proofs.Common.{ap, inl, inr, ◌∙◌}
 use Rattle.sup_tables.specs.States.{knowledge, together}
-use Rattle.sup_tables.specs.Stored.{Stored}
 use Rattle.sup_tables.proofs.JoinLaws.{join_stands}
 use Rattle.sup_tables.proofs.MappedLaws.{knows_together}
 use Rattle.sup_tables.proofs.joining.TablesLattice.joined.Goals as goal

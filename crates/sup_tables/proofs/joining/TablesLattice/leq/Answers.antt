@@ -1,5 +1,5 @@
 use mathlib.Core.Path.{fun_ext}
-use Rattle.std.proofs.Common.{sym, ap, subst, inl, inr, ◌∙◌, ◌≡◌}
+use Rattle.std.proofs.Common.{sym, ap, inl, inr}
 use Rattle.sup_tables.specs.Stored.{Stored, state_of}
 use Rattle.sup_tables.proofs.StoredLaws.{IsOrderedStored}
 use Rattle.sup_tables.proofs.MappedLaws.{knows_together, holds_higher, same_at, same_pair, said_of}
