@@ -1,15 +1,16 @@
 #!/usr/bin/env bash
-# Runs `supctl simulate` on a script with each of its allocations refused in turn, and looks at what comes of it:
+# Runs `supctl simulate` on scripts, and `supctl place` on files that end in .members, with each allocation refused in turn,
+# and looks at what comes of it:
 # - status 3: `out of memory` on standard error, and a front of the run's output;
 # - status 0: one step answered `refused 19 OutOfMemory`, and all else as if that line weren't in the script;
 #   or the whole output, where the program found its room in another way.
 # It needs a C compiler, for the few lines that refuse.
-# usage: bench/refused_allocations.sh [SCRIPT ...]
+# usage: bench/refused_allocations.sh [FILE ...]
 set -eu
 top=$(cd "$(dirname "$0")/.." && pwd)
 work=$(mktemp -d)
 trap 'rm -rf "$work"' EXIT
-[ $# -gt 0 ] || set -- "$top/crates/supctl/stdin" "$top"/examples/*.script
+[ $# -gt 0 ] || set -- "$top/crates/supctl/stdin" "$top"/examples/*.script "$top"/examples/*.members
 "${CC:-cc}" -shared -fPIC -O1 -o "$work/refuse.so" "$top/bench/refuse_allocation.c" -ldl
 "$top/supctl" simulate <<<'nodes a' >"$work/output"
 program=$top/crates/supctl/out/supctl
@@ -31,7 +32,7 @@ expect_each() {
 
 is_step_refused() {
   local step
-  for step in "$work"/step.*; do
+  for step in "$work"/step.[0-9]*; do
     cmp -s "$work/output" "$step" && return 0
   done
   return 1
@@ -43,10 +44,12 @@ is_front() {
 
 for script in "$@"; do
   rm -f "$work"/step.*
+  command=simulate
+  [ "$script" = "${script%.members}" ] || command=place
   # Skipped lines aren't steps.
   grep -v -e '^#' -e '^$' "$script" >"$work/script"
-  "$program" simulate <"$work/script" >"$work/whole"
-  expect_each
+  "$program" "$command" <"$work/script" >"$work/whole"
+  [ "$command" = place ] || expect_each
   refused=0
   ended=0
   answered=0
@@ -54,7 +57,7 @@ for script in "$@"; do
   while :; do
     : >"$work/mark"
     status=0
-    REFUSED=$((refused + 1)) LD_PRELOAD=$work/refuse.so "$program" simulate <"$work/script" >"$work/output" 2>"$work/errors" 9>"$work/mark" || status=$?
+    REFUSED=$((refused + 1)) LD_PRELOAD=$work/refuse.so "$program" "$command" <"$work/script" >"$work/output" 2>"$work/errors" 9>"$work/mark" || status=$?
     [ -s "$work/mark" ] || break
     refused=$((refused + 1))
     if [ "$status" = 3 ] && [ "$(cat "$work/errors")" = "out of memory" ] && is_front; then
