@@ -2,3 +2,4 @@ pub mod Points
 pub mod Places
 pub mod Contents
 pub mod RowLists
+pub mod Index

@@ -63,6 +63,16 @@ impl<S: DotStore> Causal<S> {
         }
     }
 
+    /// The store and the context that covers it.
+    pub fn into_parts(self) -> (S, CausalContext)
+        ensures store { result.0 ≡ store_of self }
+        ensures context { result.1 ≡ context_of self }
+        ensures covered { Covers result.1 (S.held result.0) }
+    {
+        let Causal { store, context } = self;
+        (store, context)
+    }
+
     /// The rows.
     pub fn store(&self) -> &S
         ensures { result.now ≡ store_of self.now }

@@ -32,6 +32,7 @@ pub struct DotMap<K: Plain, S: DotStore> {
 
 impl<K: Plain, S: DotStore> DotMap<K, S> {
     ghost use Rattle.sup_dot_store.specs.Contents.{stores_of};
+    ghost use Rattle.sup_dot_store.specs.Places.{NoneEmpty};
 
     /// No stores.
     pub fn new(alloc: Global) -> Self
@@ -49,6 +50,23 @@ impl<K: Plain, S: DotStore> DotMap<K, S> {
         let mut stores = BTreeMap::new(alloc);
         stores.insert(key, store)?;
         Ok(DotMap { alloc, stores })
+    }
+
+    /// The map of these stores, each with a row.
+    pub fn of_stores(alloc: Global, stores: BTreeMap<K, S>) -> Self
+        requires { NoneEmpty S.held K.cmp stores }
+        ensures { stores_of result ≡ stores }
+    {
+        keys_rise(&stores);
+        DotMap { alloc, stores }
+    }
+
+    /// The stores, by key, each with a row.
+    pub fn into_stores(self) -> BTreeMap<K, S>
+        ensures stores { result ≡ stores_of self }
+        ensures none_empty { NoneEmpty S.held K.cmp result }
+    {
+        self.stores
     }
 
     /// The store under the key. None where no row stands there.
@@ -71,6 +89,7 @@ impl<K: Plain, V: Plain> DotMap<K, DotFun<V>> {
     ghost use Rattle.sup_specs.specs.Rising.{IsRising};
     ghost use Rattle.sup_dot_store.specs.Contents.{stores_of};
     ghost use Rattle.sup_dot_store.specs.RowLists.{rows_of, row_cmp};
+    ghost use Rattle.sup_dot_store.specs.Index.{row_value, value_under};
 
     /// The map with these rows, each a key, a dot and a value, which rise by key and under one key by dot.
     /// An `Err` is want of memory.
@@ -88,6 +107,7 @@ impl<K: Plain, V: Plain> DotMap<K, DotFun<V>> {
     pub fn rows(&self) -> Result<Vec<(K, Dot, V)>, AllocError>
         ensures rows { IfOk result (λ rows. rows.items ≡ rows_of (stores_of self.now).entries) }
         ensures rising { IfOk result (λ rows. IsRising (row_cmp K.cmp) rows.items) }
+        ensures values { IfOk result (λ rows. (k : K) (d : DotValue) → row_value K.cmp rows.items k d ≡ value_under K.cmp (stores_of self.now) k d) }
     {
         let rows = copied_rows(self.alloc, &self.stores)?;
         Ok(rows)

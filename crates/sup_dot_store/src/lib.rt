@@ -6,6 +6,7 @@ pub mod causal;
 pub mod dot_fun;
 pub mod dot_map;
 pub mod dot_store;
+pub mod indexed;
 mod row_lists;
 mod row_runs;
 mod stores_under;
@@ -16,6 +17,9 @@ pub use causal::{Causal, NotCovered};
 pub use dot_fun::DotFun;
 pub use dot_map::DotMap;
 pub use dot_store::DotStore;
+pub use indexed::Indexed;
+pub use indexed::index::index_of;
+pub use indexed::join::NotPut;
 
 #[cfg(test)]
 mod tests;

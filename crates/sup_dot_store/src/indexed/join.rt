@@ -1,0 +1,134 @@
+//! The rows of others, taken in where they are new, and rows taken away where others know that they are gone.
+
+ghost use Rattle.std.specs.Prelude.{◌≡◌, ◌≤◌, true, false, IsSome, IfOk, IfSome, OnOk};
+ghost use Rattle.std.specs.Option.{option_copied};
+ghost use Rattle.std.specs.BTreeMap.{values};
+ghost use Rattle.sup_specs.specs.Rising.{among};
+ghost use Rattle.sup_causal.specs.declared.dot.Dot.{Dot as DotValue};
+ghost use Rattle.sup_causal.specs.Join.{lesser};
+ghost use Rattle.sup_causal.specs.Dots.{has, dot_cmp};
+ghost use Rattle.sup_dot_store.specs.Contents.{stores_of};
+ghost use Rattle.sup_dot_store.specs.Index.{AreGone, TakesDots, count_in, row_value, value_under};
+
+use crate::dot_fun::DotFun;
+use crate::dot_map::DotMap;
+use crate::indexed::Indexed;
+use std::alloc::{AllocError, Global};
+use std::collections::BTreeMap;
+use sup_causal::{CausalContext, Dot};
+use sup_specs::Plain;
+
+/// Why rows were not put in.
+#[derive(Clone, Copy, Debug, PartialEq, Eq)]
+pub enum NotPut {
+    /// A dot has values under two keys.
+    TwoKeys,
+    OutOfMemory,
+}
+
+impl From<AllocError> for NotPut {
+    ghost use Rattle.std.specs.Prelude.{◌≡◌};
+    ghost use Rattle.sup_dot_store.specs.declared.indexed.join.NotPut.TheVariants.{OutOfMemory};
+
+    ghost from_gives = { λ _ fault. fault ≡ OutOfMemory };
+
+    fn from(_refused: AllocError) -> NotPut {
+        NotPut::OutOfMemory
+    }
+}
+
+impl<K: Plain, V: Plain> Indexed<K, V> {
+    /// Puts in those of the rows whose dots the context lacks. After an `Err` some of them are in. `TwoKeys` where
+    /// such a dot would have values under two keys, else `OutOfMemory`.
+    pub fn put_fresh(
+        &mut self,
+        alloc: Global,
+        rows: Vec<(K, Dot, V)>,
+        mine: &CausalContext,
+    ) -> Result<(), NotPut>
+        requires { (k : K) (d : DotValue) → IsSome (value_under K.cmp self.old.stores k d) → has mine.now d ≡ true }
+        ensures known { (k : K) (d : DotValue) → has mine.now d ≡ true → value_under K.cmp self.new.stores k d ≡ value_under K.cmp self.old.stores k d }
+        ensures fresh { OnOk result ((k : K) (d : DotValue) → has mine.now d ≡ false → value_under K.cmp self.new.stores k d ≡ row_value K.cmp rows.items k d) }
+        ensures brought { (k : K) (d : DotValue) → has mine.now d ≡ false → IsSome (value_under K.cmp self.new.stores k d) → IsSome (row_value K.cmp rows.items k d) }
+    {
+        for (key, dot, value) in rows {
+            if mine.contains(&dot) {
+                continue;
+            }
+            if self.keys.contains_key(&dot) {
+                return Err(NotPut::TwoKeys);
+            }
+            self.put(alloc, key, dot, value)?;
+        }
+        Ok(())
+    }
+
+    /// Takes the values of these dots away.
+    pub fn take_dots(&mut self, dots: &[Dot])
+        ensures taken { TakesDots K.cmp (among dot_cmp dots.now) self.old.stores self.new.stores }
+        ensures no_more { count_in (values self.new.stores) ≤ count_in (values self.old.stores) }
+    {
+        for dot in dots {
+            self.take(dot);
+        }
+    }
+
+    /// Of dots that two states know, those that have a value here and none under the same key there: they are gone.
+    /// None where a value there is lesser than the one here. An `Err` is want of memory.
+    pub fn gone(
+        &self,
+        alloc: Global,
+        known: &[Dot],
+        theirs: &DotMap<K, DotFun<V>>,
+    ) -> Result<Option<Vec<Dot>>, AllocError>
+        ensures { IfOk result (λ found. IfSome found (λ gone. AreGone (lesser V.cmp) K.cmp (among dot_cmp known.now) (among dot_cmp gone.items) self.now.stores (stores_of theirs.now))) }
+    {
+        let mut gone = Vec::new(alloc);
+        for dot in known {
+            if let Some(key) = self.keys.get(dot) {
+                match outcome_of(&self.stores, theirs.stores(), key, dot) {
+                    Outcome::Gone => gone.push(*dot)?,
+                    Outcome::Stays => {}
+                    Outcome::Lesser => return Ok(None),
+                }
+            }
+        }
+        Ok(Some(gone))
+    }
+}
+
+// What becomes of a value here whose dot is known there.
+enum Outcome {
+    // There it is gone.
+    Gone,
+    // There it is the same or a greater one.
+    Stays,
+    // There it is a lesser one.
+    Lesser,
+}
+
+fn outcome_of<K: Plain, V: Plain>(
+    mine: &BTreeMap<K, DotFun<V>>,
+    theirs: &BTreeMap<K, DotFun<V>>,
+    key: &K,
+    dot: &Dot,
+) -> Outcome {
+    let Some(other) = value_in(theirs, key, dot) else {
+        return Outcome::Gone;
+    };
+    match value_in(mine, key, dot) {
+        Some(value) if *other < *value => Outcome::Lesser,
+        _ => Outcome::Stays,
+    }
+}
+
+// The value under a key and a dot.
+fn value_in<'a, K: Plain, V: Plain>(
+    stores: &'a BTreeMap<K, DotFun<V>>,
+    key: &K,
+    dot: &Dot,
+) -> Option<&'a V>
+    ensures { option_copied result ≡ value_under K.cmp stores.now key.now dot.now }
+{
+    stores.get(key)?.values().get(dot)
+}
