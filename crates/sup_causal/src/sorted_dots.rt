@@ -1,7 +1,7 @@
 //! Lists of dots in rising order: their union, inclusion, and a node's greatest counter.
 
-ghost use Rattle.std.specs.Prelude.{◌≡◌, ◌||◌, ◌↔◌, IsTrue, IfOk, true};
-ghost use Rattle.std.specs.List.{AllByRecursion};
+ghost use Rattle.std.specs.Prelude.{◌≡◌, ◌||◌, ◌↔◌, not, IsTrue, IfOk, true};
+ghost use Rattle.std.specs.List.{AllByRecursion, filter};
 ghost use Rattle.sup_specs.specs.Rising.{IsRising};
 ghost use Rattle.sup_causal.specs.Dots.{dot_cmp, list_has, IsCounted, IsGreatest, IsKept};
 
@@ -72,6 +72,42 @@ pub(crate) fn is_within(left: &[Dot], right: &[Dot]) -> bool
         }
     }
     i == left.len()
+}
+
+// The dots of the first list that the second has too.
+pub(crate) fn common(alloc: Global, left: &[Dot], right: &[Dot]) -> Result<Vec<Dot>, AllocError>
+    requires { IsRising dot_cmp right.now }
+    ensures { IfOk result (λ dots. dots.items ≡ filter (λ d. list_has right.now d) left.now) }
+{
+    let mut dots = Vec::new(alloc);
+    for dot in left {
+        if is_in(dot, right) {
+            dots.push(*dot)?;
+        }
+    }
+    Ok(dots)
+}
+
+// The dots of the first list that the second lacks.
+pub(crate) fn absent(alloc: Global, left: &[Dot], right: &[Dot]) -> Result<Vec<Dot>, AllocError>
+    requires { IsRising dot_cmp right.now }
+    ensures { IfOk result (λ dots. dots.items ≡ filter (λ d. not (list_has right.now d)) left.now) }
+{
+    let mut dots = Vec::new(alloc);
+    for dot in left {
+        if !is_in(dot, right) {
+            dots.push(*dot)?;
+        }
+    }
+    Ok(dots)
+}
+
+// Whether the list has the dot, by binary search.
+fn is_in(dot: &Dot, dots: &[Dot]) -> bool
+    requires { IsRising dot_cmp dots.now }
+    ensures { result ≡ list_has dots.now dot.now }
+{
+    dots.binary_search(dot).is_ok()
 }
 
 // The greatest counter of the node's dots, from the back: counters rise, so the first that is met is the greatest.
