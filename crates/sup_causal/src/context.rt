@@ -11,7 +11,7 @@ use crate::cut::{cloud_of, runs_of, vector_of};
 use crate::dot::{Dot, MAX};
 use crate::lattice::Lattice;
 use crate::parts::{PartsFault, dots_of, is_canonical};
-use crate::sorted_dots::{absent, common, greatest_of, is_within, sorted, union};
+use crate::sorted_dots::{absent, common, greatest_of, is_within, put_in, sorted, union};
 use std::alloc::{AllocError, Global};
 use std::marker::Model;
 use sup_specs::NodeName;
@@ -193,6 +193,19 @@ impl Lattice for CausalContext {
     fn joined(&self, alloc: Global, other: &CausalContext) -> Result<CausalContext, AllocError> {
         let dots = union(alloc, &self.dots, &other.dots)?;
         Ok(CausalContext { dots })
+    }
+
+    /// Takes in the other's dots, in place where they are few beside its own: then a dot above all others costs a
+    /// look-up and a push.
+    fn join_from(&mut self, alloc: Global, other: &CausalContext) -> Result<(), AllocError> {
+        if self.dots.len() / 8 < other.dots.len() {
+            let joined = self.joined(alloc, other)?;
+            *self = joined;
+            return Ok(());
+        }
+        let fresh = absent(alloc, &other.dots, &self.dots)?;
+        put_in(alloc, &mut self.dots, &fresh)?;
+        Ok(())
     }
 
     /// Whether the other context has all dots of this one.
