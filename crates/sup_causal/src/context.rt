@@ -195,9 +195,10 @@ impl Lattice for CausalContext {
         Ok(CausalContext { dots })
     }
 
-    /// Takes in the other's dots, in place where they are few beside its own: then a dot above all others costs a
+    /// Takes in the other's dots, in place where they are few beside its own. A dot above all others then costs a
     /// look-up and a push.
     fn join_from(&mut self, alloc: Global, other: &CausalContext) -> Result<(), AllocError> {
+        // With more than an eighth as many, one pass over both is cheaper than a look-up for each.
         if self.dots.len() / 8 < other.dots.len() {
             let joined = self.joined(alloc, other)?;
             *self = joined;
