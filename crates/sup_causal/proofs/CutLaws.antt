@@ -36,7 +36,7 @@ vector_is holds m ordered runs none_zero = record {
 }
 
 -- ---- the cloud
-has-filter : (p : Dot → Bool) (xs : List Dot) (d : Dot) → list_has (filter p xs) d ≡ (list_has xs d && p d)
+pub has-filter : (p : Dot → Bool) (xs : List Dot) (d : Dot) → list_has (filter p xs) d ≡ (list_has xs d && p d)
 has-filter p [] d = refl
 has-filter p (x ∷ xs) d = turn (p x) refl (dot_eq x d) refl (has-filter p xs d)
   where

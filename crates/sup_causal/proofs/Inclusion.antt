@@ -67,7 +67,7 @@ not_itself : (x : Dot) → dot_cmp x x ≡ Less → ⊥
 not_itself x h = let e : Equal ≡ Less = sym (tied_itself dot_total x) ∙ h in cc
 
 -- the first or a later one
-first_or_later : (x : Dot) (xs : List Dot) (d : Dot) → list_has (x ∷ xs) d ≡ true → (x ≡ d) ⊎ (list_has xs d ≡ true)
+pub first_or_later : (x : Dot) (xs : List Dot) (d : Dot) → list_has (x ∷ xs) d ≡ true → (x ≡ d) ⊎ (list_has xs d ≡ true)
 first_or_later x xs d h = elim (or_cases (dot_eq x d) (list_has xs d) h) [ inl same ↦ inl (dot_eq-true x d same) | inr later ↦ inr later ]
 
 has_first : (x : Dot) (xs : List Dot) → list_has (x ∷ xs) x ≡ true

@@ -7,3 +7,4 @@ pub mod Inclusion
 pub mod Sorted
 pub mod CutLemmas
 pub mod CutLaws
+pub mod InPlace

@@ -1,5 +1,5 @@
 -- The union of two rising lists, as one pass over both makes it.
-use Rattle.std.proofs.Common.{◌≡◌, ℕ, ◌+◌, ◌<◌, ◌≤◌, Bool, true, false, ◌||◌, List, [], ◌∷◌, ◌++◌, length, get_or, drop, refl, sym, ap, ◌∙◌, subst, ◌⊎◌, inl, inr, append_assoc}
+use Rattle.std.proofs.Common.{◌≡◌, ℕ, ◌+◌, ◌<◌, ◌≤◌, Bool, true, false, ◌||◌, List, [], ◌∷◌, ◌++◌, length, get_or, drop, refl, sym, ap, ◌∙◌, subst, arith, ◌⊎◌, inl, inr, append_assoc}
 use Rattle.std.proofs.lemmas.List.{drop_more, drop_all, append-nil, get_or_read}
 use Rattle.std.specs.declared.cmp.Ordering.{Ordering}
 use Rattle.std.specs.declared.cmp.Ordering.TheVariants.{Less, Equal, Greater}
@@ -59,6 +59,23 @@ module _ {K : Type 0} (R : K → K → Ordering) where
   pub each_union : (P : K → Type 0) (xs ys : List K) → AllByRecursion P xs → AllByRecursion P ys → AllByRecursion P (union xs ys)
   each_union P [] ys left right = right
   each_union P (x ∷ xs) ys left right = each_put_before P x (union xs) left.0 (λ zs all. each_union P xs zs left.1 all) ys right
+
+  -- it is no longer than both
+  length_put_before : (x : K) (rest : List K → List K) (n : ℕ) → ((ys : List K) → length (rest ys) ≤ n + length ys) → (ys : List K) → length (put_before x rest ys) ≤ (n + 1) + length ys
+  length_put_before x rest n later [] = omega (arith, later [])
+  length_put_before x rest n later (y ∷ ys) =
+      let further : length (put_before x rest ys) ≤ (n + 1) + length ys = length_put_before x rest n later ys in
+      elim (R x y) as (λ o. length (by_order o (x ∷ rest (y ∷ ys)) (x ∷ rest ys) (y ∷ put_before x rest ys)) ≤ (n + 1) + length (y ∷ ys)) [
+        | Less ↦ omega (arith, later (y ∷ ys))
+        | Equal ↦ omega (arith, later ys)
+        | Greater ↦ omega (arith, further)
+      ]
+
+  pub length_union : (xs ys : List K) → length (union xs ys) ≤ length xs + length ys
+  length_union [] ys = omega arith
+  length_union (x ∷ xs) ys =
+      let both : length (put_before x (union xs) ys) ≤ (length xs + 1) + length ys = length_put_before x (union xs) (length xs) (length_union xs) ys in
+      omega (arith, both)
 
   module _ (total : IsTotalOrder R) (exact : IsExact R) where
     -- it has what one of the two has

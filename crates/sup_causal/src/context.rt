@@ -1,17 +1,17 @@
 //! Causal contexts: which dots a node has seen.
 
-ghost use Rattle.std.specs.Prelude.{◌≡◌, ◌≤◌, ◌||◌, ◌↔◌, Bool, false, true, IsTrue, IfOk, IfErr, OnOk, OnErr, IfSome, IsNone};
+ghost use Rattle.std.specs.Prelude.{◌≡◌, ◌≤◌, ◌||◌, ◌&&◌, ◌↔◌, not, Bool, false, true, IsTrue, IfOk, IfErr, OnOk, OnErr, IfSome, IsNone};
 ghost use Rattle.std.specs.Prelude.{All};
-ghost use Rattle.sup_specs.specs.Rising.{among};
+ghost use Rattle.sup_specs.specs.Rising.{among, IsRising};
 ghost use Rattle.sup_causal.specs.Cut.{IsVector, IsCloud, IsCanonical, in_parts};
 ghost use Rattle.sup_causal.specs.declared.parts.PartsFault.TheVariants.{NotCanonical};
-ghost use Rattle.sup_causal.specs.Dots.{has, dot_cmp, dot_eq, IsCounted, IsGreatest, IsNext};
+ghost use Rattle.sup_causal.specs.Dots.{has, size, dot_cmp, dot_eq, IsCounted, IsGreatest, IsNext};
 
 use crate::cut::{cloud_of, runs_of, vector_of};
 use crate::dot::{Dot, MAX};
 use crate::lattice::Lattice;
 use crate::parts::{PartsFault, dots_of, is_canonical};
-use crate::sorted_dots::{greatest_of, is_within, sorted, union};
+use crate::sorted_dots::{absent, common, greatest_of, is_within, put_in, sorted, union};
 use std::alloc::{AllocError, Global};
 use std::marker::Model;
 use sup_specs::NodeName;
@@ -90,6 +90,13 @@ impl CausalContext {
         self.dots.binary_search(dot).is_ok()
     }
 
+    /// How many dots there are.
+    pub fn len(&self) -> usize
+        ensures { result ≡ size self.now }
+    {
+        self.dots.len()
+    }
+
     /// Adds a dot. Where memory is refused the context stays as it was.
     pub fn insert(&mut self, dot: Dot) -> Result<(), AllocError>
         requires { IsCounted dot }
@@ -146,6 +153,26 @@ impl CausalContext {
         let cloud = cloud_of(alloc, &self.dots, &runs)?;
         Ok(cloud)
     }
+
+    /// The dots of this context that the other has too, rising. Refused only for memory. One look-up in the other for
+    /// each dot of this one.
+    pub fn shared(&self, alloc: Global, other: &CausalContext) -> Result<Vec<Dot>, AllocError>
+        ensures dots { IfOk result (λ dots. (d : Dot) → among dot_cmp dots.items d ≡ (has self.now d && has other.now d)) }
+        ensures rising { IfOk result (λ dots. IsRising dot_cmp dots.items) }
+    {
+        let dots = common(alloc, &self.dots, &other.dots)?;
+        Ok(dots)
+    }
+
+    /// The dots of this context that the other lacks, rising. Refused only for memory. One look-up in the other for
+    /// each dot of this one.
+    pub fn beyond(&self, alloc: Global, other: &CausalContext) -> Result<Vec<Dot>, AllocError>
+        ensures dots { IfOk result (λ dots. (d : Dot) → among dot_cmp dots.items d ≡ (has self.now d && not (has other.now d))) }
+        ensures rising { IfOk result (λ dots. IsRising dot_cmp dots.items) }
+    {
+        let dots = absent(alloc, &self.dots, &other.dots)?;
+        Ok(dots)
+    }
 }
 
 impl Lattice for CausalContext {
@@ -166,6 +193,20 @@ impl Lattice for CausalContext {
     fn joined(&self, alloc: Global, other: &CausalContext) -> Result<CausalContext, AllocError> {
         let dots = union(alloc, &self.dots, &other.dots)?;
         Ok(CausalContext { dots })
+    }
+
+    /// Takes in the other's dots, in place where they are few beside its own. A dot above all others then costs a
+    /// look-up and a push.
+    fn join_from(&mut self, alloc: Global, other: &CausalContext) -> Result<(), AllocError> {
+        // With more than an eighth as many, one pass over both is cheaper than a look-up for each.
+        if self.dots.len() / 8 < other.dots.len() {
+            let joined = self.joined(alloc, other)?;
+            *self = joined;
+            return Ok(());
+        }
+        let fresh = absent(alloc, &other.dots, &self.dots)?;
+        put_in(alloc, &mut self.dots, &fresh)?;
+        Ok(())
     }
 
     /// Whether the other context has all dots of this one.

@@ -1,5 +1,6 @@
 //! Contexts at values that were worked out by hand.
 mod counts;
+mod joins;
 mod known;
 mod lattices;
 

@@ -98,6 +98,32 @@ impl Known {
             .expect(rt, "a join")
     }
 
+    pub(crate) fn len(&self) -> usize {
+        self.context.len()
+    }
+
+    // Whether these are the dots that both have.
+    pub(crate) fn shares(
+        &self,
+        rt: &(impl Abort + AllocGlobal),
+        other: &Known,
+        dots: &[Dot],
+    ) -> bool {
+        let shared = self.context.shared(rt.alloc(), &other.context);
+        shared.expect(rt, "room").as_slice() == dots
+    }
+
+    // Whether these are its dots that the other lacks.
+    pub(crate) fn exceeds(
+        &self,
+        rt: &(impl Abort + AllocGlobal),
+        other: &Known,
+        dots: &[Dot],
+    ) -> bool {
+        let beyond = self.context.beyond(rt.alloc(), &other.context);
+        beyond.expect(rt, "room").as_slice() == dots
+    }
+
     pub(crate) fn is_within(&self, other: &Known) -> bool {
         self.context.leq(&other.context)
     }
