@@ -6,7 +6,8 @@ use Rattle.std.proofs.lemmas.List.{length-map}
 use Rattle.sup_causal.specs.declared.dot.Dot.{Dot}
 use Rattle.sup_dot_store.specs.declared.dot_fun.DotFun.{DotFun}
 use Rattle.sup_tables.specs.declared.row.Row.{Row}
-use Rattle.sup_tables.specs.Stored.{Stored, rows_in, stored_rows, member_row, child_row, name_row, count_in}
+use Rattle.sup_tables.specs.Stored.{Stored, rows_in, stored_rows, member_row, child_row, name_row}
+use Rattle.sup_dot_store.specs.Index.{count_in}
 
 rows_count : {K V : Type 0} (make : K → Dot → V → Row) (es : List (K × DotFun V)) → length (rows_in make es) ≡ count_in (values_of es)
 rows_count make [] = refl

@@ -1,5 +1,5 @@
 -- How the stores keep the rows of the tables.
-use Rattle.std.specs.Prelude.{◌≡◌, ℕ, ◌+◌, true, IsSome, List, [], ◌∷◌, ◌++◌, length, map, filter, filter_map, slice_get, drop, Option, Some, None}
+use Rattle.std.specs.Prelude.{◌≡◌, true, IsSome, List, [], ◌∷◌, ◌++◌, map, filter, filter_map, slice_get, drop, Option, Some, None}
 use Rattle.std.specs.Option.{option_map}
 use Rattle.std.specs.Ordering.{eq_by_cmp}
 use Rattle.std.specs.Map.{lookup, keys_of}
@@ -119,11 +119,6 @@ dots_to id es = keys_of (filter (λ e. eq_by_cmp text_cmp id e.1) es)
 abbrev pub dots_to_in : Bytes → List (DotFun Bytes) → List Dot
 dots_to_in id [] = []
 dots_to_in id (f ∷ fs) = dots_to id f.values.entries ++ dots_to_in id fs
-
--- how many values there are
-abbrev pub count_in : {V : Type 0} → List (DotFun V) → ℕ
-count_in [] = 0
-count_in (f ∷ fs) = length f.values.entries + count_in fs
 
 -- what is lent of a row
 abbrev pub triple : {K V : Type 0} → K → Dot → V → K × Dot × V

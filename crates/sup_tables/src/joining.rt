@@ -4,13 +4,17 @@ ghost use Rattle.std.specs.BTreeMap.{values};
 ghost use Rattle.sup_causal.specs.declared.dot.Dot.{Dot as DotValue};
 ghost use Rattle.sup_causal.specs.Dots.{has};
 ghost use Rattle.sup_tables.specs.Operations.{Operation, Covers, NoClash};
-ghost use Rattle.sup_tables.specs.Stored.{count_in};
+ghost use Rattle.sup_dot_store.specs.Index.{count_in, IsIndex};
+ghost use Rattle.sup_specs.specs.Values.{text_cmp};
 ghost use Rattle.sup_tables.specs.States.{StandsFor, Knowledge, knowledge, together, together_laws};
 
+use crate::in_place::NotJoined;
 use crate::table::count_with;
-use crate::tables::{Stores, Tables};
+use crate::tables::{Index, Stores, Tables};
 use std::alloc::{AllocError, Global};
+use std::mem::replace;
 use sup_causal::Lattice;
+use sup_dot_store::index_of;
 
 impl Lattice for Tables {
     ghost Meaning = { Knowledge };
@@ -34,6 +38,7 @@ impl Lattice for Tables {
         let tables = Tables {
             state,
             count,
+            index: None,
             alloc: self.alloc,
         };
         tables.context();
@@ -55,13 +60,50 @@ impl Lattice for Tables {
         ensures stands { OnOk result ((ops others : List Operation) → StandsFor self.old ops → StandsFor other.now others → NoClash (ops ++ others) → StandsFor self.new (ops ++ others)) }
         ensures err { OnErr result (self.new ≡ self.old) }
     {
+        if !other.is_small_beside(self) {
+            return self.join_by_merge(alloc, other);
+        }
+        self.make_index(alloc)?;
+        let tables = replace(self, Tables::empty(alloc));
+        let (tables, joined) = tables.joined_in_place(alloc, other);
+        *self = tables;
+        match joined {
+            Ok(()) => Ok(()),
+            Err(NotJoined::OutOfMemory) => Err(AllocError),
+            Err(NotJoined::ByMerge) => self.join_by_merge(alloc, other),
+        }
+    }
+}
+
+// A join is made in place where the other tables know at most an eighth as many dots.
+const SMALL: usize = 8;
+
+impl Tables {
+    // Whether a join with the other tables costs less in place than by a merge, which copies all rows.
+    fn is_small_beside(&self, other: &Tables) -> bool {
+        self.context().len() <= other.context().len() / SMALL
+    }
+
+    // Becomes the merge of both: a new state. An `Err` changes nothing.
+    pub(crate) fn join_by_merge(&mut self, alloc: Global, other: &Tables) -> Result<(), AllocError>
+        ensures knowledge { OnOk result (knowledge self.new ≡ together (knowledge self.old) (knowledge other.now)) }
+        ensures err { OnErr result (self.new ≡ self.old) }
+    {
         let joined = self.joined(alloc, other)?;
         *self = joined;
         Ok(())
     }
-}
 
-impl Tables {
+    // Makes the index of the rows' dots, where there is none and no dot stands under two keys.
+    pub(crate) fn make_index(&mut self, alloc: Global) -> Result<(), AllocError>
+        ensures { self.new ≡ self.old }
+    {
+        if self.index.is_none() {
+            self.index = found_index(alloc, self.state.store())?;
+        }
+        Ok(())
+    }
+
     /// The same tables once more.
     pub fn try_clone(&self, alloc: Global) -> Result<Tables, AllocError>
         ensures rows { IfOk result (λ copy. copy.rows ≡ self.now.rows) }
@@ -83,4 +125,23 @@ fn count_of(store: &Stores) -> Option<usize>
     let names = count_with(0, &store.second.second)?;
     let children = count_with(names, &store.second.first)?;
     count_with(children, &store.first)
+}
+
+// The key of each dot. None where a dot stands under two keys of one table.
+fn found_index(alloc: Global, store: &Stores) -> Result<Option<Index>, AllocError>
+    ensures members { IfOk result (λ found. IfSome found (λ i. IsIndex text_cmp store.now.first.stores i.members)) }
+    ensures children { IfOk result (λ found. IfSome found (λ i. IsIndex text_cmp store.now.second.first.stores i.children)) }
+    ensures names { IfOk result (λ found. IfSome found (λ i. IsIndex text_cmp store.now.second.second.stores i.names)) }
+{
+    let members = index_of(alloc, &store.first)?;
+    let children = index_of(alloc, &store.second.first)?;
+    let names = index_of(alloc, &store.second.second)?;
+    match (members, children, names) {
+        (Some(members), Some(children), Some(names)) => Ok(Some(Index {
+            members,
+            children,
+            names,
+        })),
+        _ => Ok(None),
+    }
 }

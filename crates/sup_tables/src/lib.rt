@@ -5,6 +5,7 @@ mod adding;
 mod delta;
 pub mod fault;
 mod from_rows;
+mod in_place;
 mod joining;
 pub mod laws;
 mod readers;

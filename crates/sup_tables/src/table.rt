@@ -3,7 +3,8 @@ ghost use Rattle.std.specs.Prelude.{◌≡◌, ◌+◌, ◌++◌, ◌<◌, IfOk,
 ghost use Rattle.std.specs.Option.{option_map};
 ghost use Rattle.sup_tables.specs.Rows.{row_of};
 ghost use Rattle.std.specs.BTreeMap.{get, keys, values};
-ghost use Rattle.sup_tables.specs.Stored.{first_value, triple, pair, firsts_in, rest_under, dots_under, dots_to, dots_to_in, count_in, rows_in};
+ghost use Rattle.sup_tables.specs.Stored.{first_value, triple, pair, firsts_in, rest_under, dots_under, dots_to, dots_to_in, rows_in};
+ghost use Rattle.sup_dot_store.specs.Index.{count_in};
 
 use crate::row::{Entered, Row};
 use crate::tables::{Names, Table};

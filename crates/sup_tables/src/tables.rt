@@ -1,12 +1,15 @@
 //! The three tables under one context.
-ghost use Rattle.std.specs.Prelude.{◌≡◌, ◌+◌, [], length};
+ghost use Rattle.std.specs.Prelude.{◌≡◌, ◌+◌, [], length, IfSome};
+ghost use Rattle.sup_specs.specs.Values.{text_cmp};
 ghost use Rattle.std.specs.BTreeMap.{values};
-ghost use Rattle.sup_tables.specs.Stored.{AreCovered, state_of, count_in};
+ghost use Rattle.sup_tables.specs.Stored.{AreCovered, state_of};
+ghost use Rattle.sup_dot_store.specs.Index.{count_in, IsIndex};
 ghost use Rattle.sup_tables.specs.States.{StandsFor, IsKept};
 
 use std::alloc::Global;
+use std::collections::BTreeMap;
 use std::marker::Model;
-use sup_causal::CausalContext;
+use sup_causal::{CausalContext, Dot};
 use sup_dot_store::{Both, Causal, DotFun, DotMap};
 use sup_specs::{ChildId, ChildSpec, MemberInfo, Name, NodeName};
 
@@ -28,8 +31,19 @@ pub struct Tables {
     pub(crate) state: Causal<Stores>,
     // How many rows there are, so that nobody has to count them.
     pub(crate) count: usize,
+    // Where the rows' dots stand. None until a join in place wants it.
+    pub(crate) index: Option<Index>,
     pub(crate) alloc: Global,
     pub ghost counted: { count ≡ count_in (values state.store.first.stores) + (count_in (values state.store.second.first.stores) + count_in (values state.store.second.second.stores)) },
+    pub ghost indexed: { IfSome index (λ i. IsIndex text_cmp state.store.first.stores i.members × (IsIndex text_cmp state.store.second.first.stores i.children × IsIndex text_cmp state.store.second.second.stores i.names)) },
+}
+
+/// The key of each dot, table by table.
+#[derive(Drop)]
+pub struct Index {
+    pub(crate) members: BTreeMap<Dot, NodeName>,
+    pub(crate) children: BTreeMap<Dot, ChildId>,
+    pub(crate) names: BTreeMap<Dot, Name>,
 }
 
 impl Model for Tables {
@@ -98,6 +112,7 @@ pub(crate) fn tables_of(
     Tables {
         state: Causal::new(store, context),
         count,
+        index: None,
         alloc,
     }
 }

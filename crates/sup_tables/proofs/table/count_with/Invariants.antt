@@ -1,6 +1,6 @@
 use Rattle.std.proofs.Common.{◌≡◌, ◌+◌}
 use Rattle.std.specs.BTreeMap.{values}
-use Rattle.sup_tables.specs.Stored.{count_in}
+use Rattle.sup_dot_store.specs.Index.{count_in}
 use Rattle.sup_tables.proofs.table.count_with.Given as goal
 
 abbrev pub invariant-loop-entries : goal.invariant-loop-entries

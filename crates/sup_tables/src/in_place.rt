@@ -1,0 +1,139 @@
+//! Tables that are joined in place.
+
+ghost use Rattle.std.specs.Prelude.{◌≡◌, ◌≤◌, ◌||◌, IfOk, OnOk, OnErr};
+ghost use Rattle.sup_causal.specs.declared.dot.Dot.{Dot as DotValue};
+ghost use Rattle.sup_causal.specs.Dots.{has};
+ghost use Rattle.sup_tables.specs.Stored.{AreCovered};
+ghost use Rattle.sup_tables.specs.States.{knowledge, together};
+ghost use Rattle.sup_tables.specs.InPlace.{stored, count_stored, AtAll, Same, StayKnown, AreFresh, AreBrought, AreJoined};
+
+mod opened;
+
+use crate::in_place::opened::Opened;
+use crate::tables::{Stores, Tables};
+use std::alloc::{AllocError, Global};
+use sup_causal::{CausalContext, Lattice};
+use sup_dot_store::{Causal, NotPut};
+
+/// Why tables were not joined in place.
+#[derive(Clone, Copy, Debug, PartialEq, Eq)]
+pub(crate) enum NotJoined {
+    // A dot stands under two keys, or two values under one dot and key: tables that no run makes.
+    ByMerge,
+    OutOfMemory,
+}
+
+impl From<AllocError> for NotJoined {
+    ghost use Rattle.std.specs.Prelude.{◌≡◌};
+    ghost use Rattle.sup_tables.specs.declared.in_place.NotJoined.TheVariants.{OutOfMemory};
+
+    ghost from_gives = { λ _ fault. fault ≡ OutOfMemory };
+
+    fn from(_refused: AllocError) -> NotJoined {
+        NotJoined::OutOfMemory
+    }
+}
+
+impl From<NotPut> for NotJoined {
+    ghost from_gives = { λ _ _. Unit {0} };
+
+    fn from(fault: NotPut) -> NotJoined {
+        match fault {
+            NotPut::TwoKeys => NotJoined::ByMerge,
+            NotPut::OutOfMemory => NotJoined::OutOfMemory,
+        }
+    }
+}
+
+impl Tables {
+    // The tables with what others know, changed in place. An `Err` gives the tables as they were.
+    pub(crate) fn joined_in_place(
+        self,
+        alloc: Global,
+        other: &Tables,
+    ) -> (Tables, Result<(), NotJoined>)
+        ensures knowledge { OnOk result.1 (knowledge result.0 ≡ together (knowledge self) (knowledge other.now)) }
+        ensures err { OnErr result.1 (result.0 ≡ self) }
+    {
+        let Tables {
+            state,
+            count,
+            index,
+            alloc: own,
+        } = self;
+        let (store, mut context) = state.into_parts();
+        let Some(index) = index else {
+            return (
+                Tables {
+                    state: Causal::new(store, context),
+                    count,
+                    index: None,
+                    alloc: own,
+                },
+                Err(NotJoined::ByMerge),
+            );
+        };
+        let mut opened = Opened::of(store, index);
+        let joined = join(
+            alloc,
+            &mut opened,
+            &mut context,
+            other.state.store(),
+            other.state.context(),
+        );
+        (opened.closed(own, context), joined)
+    }
+}
+
+// Takes in the rows and dots of others. An `Err` changes no row and no dot.
+fn join(
+    alloc: Global,
+    opened: &mut Opened,
+    context: &mut CausalContext,
+    theirs: &Stores,
+    known: &CausalContext,
+) -> Result<(), NotJoined>
+    requires mine { AreCovered context.old (stored opened.old.members.stores opened.old.children.stores opened.old.names.stores) }
+    requires theirs { AreCovered known.now (stored theirs.now.first.stores theirs.now.second.first.stores theirs.now.second.second.stores) }
+    requires count { count_stored (stored opened.old.members.stores opened.old.children.stores opened.old.names.stores) ≤ usize.MAX }
+    ensures context { OnOk result ((d : DotValue) → has context.new d ≡ (has context.old d || has known.now d)) }
+    ensures rows { OnOk result (AreJoined context.old (stored opened.old.members.stores opened.old.children.stores opened.old.names.stores) known.now (stored theirs.now.first.stores theirs.now.second.first.stores theirs.now.second.second.stores) (stored opened.new.members.stores opened.new.children.stores opened.new.names.stores)) }
+    ensures err_context { OnErr result (context.new ≡ context.old) }
+    ensures err_rows { OnErr result (AtAll Same (stored opened.old.members.stores opened.old.children.stores opened.old.names.stores) (stored opened.new.members.stores opened.new.children.stores opened.new.names.stores)) }
+    ensures covered { AreCovered context.new (stored opened.new.members.stores opened.new.children.stores opened.new.names.stores) }
+    ensures count { count_stored (stored opened.new.members.stores opened.new.children.stores opened.new.names.stores) ≤ usize.MAX }
+{
+    let fresh = known.beyond(alloc, context)?;
+    let shared = known.shared(alloc, context)?;
+    let gone = opened.gone(alloc, &shared, theirs)?;
+    if let Err(fault) = put_all(alloc, opened, context, theirs, known) {
+        opened.take_dots(&fresh);
+        return Err(fault);
+    }
+    opened.take_gone(&gone);
+    Ok(())
+}
+
+// Puts the fresh rows in, and then the dots. After an `Err` some of the rows are in, and no dot.
+fn put_all(
+    alloc: Global,
+    opened: &mut Opened,
+    context: &mut CausalContext,
+    theirs: &Stores,
+    known: &CausalContext,
+) -> Result<(), NotJoined>
+    requires { AreCovered context.old (stored opened.old.members.stores opened.old.children.stores opened.old.names.stores) }
+    ensures context { OnOk result ((d : DotValue) → has context.new d ≡ (has context.old d || has known.now d)) }
+    ensures err { OnErr result (context.new ≡ context.old) }
+    ensures count { OnOk result (count_stored (stored opened.new.members.stores opened.new.children.stores opened.new.names.stores) ≤ usize.MAX) }
+    ensures known { AtAll (StayKnown (has context.old)) (stored opened.old.members.stores opened.old.children.stores opened.old.names.stores) (stored opened.new.members.stores opened.new.children.stores opened.new.names.stores) }
+    ensures fresh { OnOk result (AtAll (AreFresh (has context.old)) (stored theirs.now.first.stores theirs.now.second.first.stores theirs.now.second.second.stores) (stored opened.new.members.stores opened.new.children.stores opened.new.names.stores)) }
+    ensures brought { AtAll (AreBrought (has context.old)) (stored theirs.now.first.stores theirs.now.second.first.stores theirs.now.second.second.stores) (stored opened.new.members.stores opened.new.children.stores opened.new.names.stores) }
+{
+    opened.put_fresh(alloc, theirs, context)?;
+    if opened.count().is_none() {
+        return Err(NotJoined::OutOfMemory);
+    }
+    context.join_from(alloc, known)?;
+    Ok(())
+}
