@@ -1,5 +1,5 @@
 -- How many values there are after one function of a map is another.
-use Rattle.std.proofs.Common.{◌≡◌, Bool, ℕ, ◌+◌, List, [], ◌∷◌, length, Option, Some, None, refl, sym, ◌∙◌, ap, arith}
+use Rattle.std.proofs.Common.{◌≡◌, Bool, ℕ, ◌+◌, List, length, Some, None, refl, sym, ap, arith}
 use Rattle.std.specs.declared.cmp.Ordering.{Ordering}
 use Rattle.std.specs.Cmp.{IsTotalOrder}
 use Rattle.std.specs.List.{sum_by}
@@ -21,16 +21,16 @@ count_is_sum fs = is_sum_by count_in size refl (λ f fs. refl) fs
 
 module _ {K V : Type 0} where
   -- one function is another now
-  pub count_set : (test : K → Bool) (es : List (K × DotFun V)) (f g : DotFun V) → lookup test es ≡ Some f
+  pub count_set : (test : K → Bool) (es : List (K × DotFun V)) (f g : DotFun V) → Some f ≡ lookup test es
       → count_in (values_of (set_value test es g)) + size f ≡ count_in (values_of es) + size g
-  count_set test es f g found = simp count_is_sum (sum_by-set_value size test es f g found)
+  count_set test es f g found = simp count_is_sum (sum_by-set_value size test es f g (sym found))
 
   -- one function more
-  pub count_insert : {cmp : K → K → Ordering} → IsTotalOrder cmp → (es : List (K × DotFun V)) (k : K) (f : DotFun V) → IsStrictlySortedBy cmp (keys_of es) → lookup (is_at (cmp k)) es ≡ None
+  pub count_insert : {cmp : K → K → Ordering} → IsTotalOrder cmp → (es : List (K × DotFun V)) (k : K) (f : DotFun V) → IsStrictlySortedBy cmp (keys_of es) → None ≡ lookup (is_at (cmp k)) es
       → count_in (values_of (insert_entry cmp es k f)) ≡ count_in (values_of es) + size f
   count_insert {cmp} total es k f sorted none =
       let all = sum_by-insert_entry size total es k f sorted in
-      let gone : unwrap_or (option_map size (lookup (is_at (cmp k)) es)) 0 ≡ 0 = ap (λ o. unwrap_or (option_map size o) 0) none in
+      let gone : unwrap_or (option_map size (lookup (is_at (cmp k)) es)) 0 ≡ 0 = ap (λ o. unwrap_or (option_map size o) 0) (sym none) in
       omega (arith, all, gone, count_is_sum (values_of es), count_is_sum (values_of (insert_entry cmp es k f)))
 
   -- one function less

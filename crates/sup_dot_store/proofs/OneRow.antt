@@ -27,7 +27,7 @@ module _ {V : Type 0} where
   pub has_row : (f : DotFun V) → 0 < size f → HasRow (value_of f)
   has_row f some none = omega (arith, none_everywhere dot_total f.values (λ d. none d tt))
 
-  pub row_size : (f : DotFun V) → HasRow (value_of f) → 0 < size f
+  row_size : (f : DotFun V) → HasRow (value_of f) → 0 < size f
   row_size f row = at (size f) refl
     where
       at : (n : ℕ) → size f ≡ n → 0 < n
@@ -73,10 +73,14 @@ module _ {K V : Type 0} (cmp : K → K → Ordering) where
       at true is = has_row s (subst (λ s. 0 < size s) (some_is is) some)
       at false is = none_empty k s is
 
+  -- the function under a key has a value
+  pub some_under : (old : BTreeMap K (DotFun V)) (key : K) (f : DotFun V) → NoneEmpty value_of cmp old → Some f ≡ get cmp old key → 0 < size f
+  some_under old key f none_empty found = row_size f (none_empty key f (sym found))
+
   -- more than one value under a key, one of which goes
   pub one_left : (old : BTreeMap K (DotFun V)) (key : K) (f g : DotFun V) → NoneEmpty value_of cmp old → Some f ≡ get cmp old key → (HasOneRow (get cmp old key) → ⊥) → size g + 1 ≡ size f → 0 < size g
   one_left old key f g none_empty found several less =
-      let some : 0 < size f = row_size f (none_empty key f (sym found)) in
+      let some : 0 < size f = some_under old key f none_empty found in
       let more : size f ≡ 1 → ⊥ = λ one. several (subst HasOneRow found one) in
       omega (arith, some, more, less)
 
@@ -85,12 +89,12 @@ module _ {K V : Type 0} {cmp : K → K → Ordering} (total : IsTotalOrder cmp) 
   same_under m key k same = lookup_congr (eq_by_cmp cmp) (eq_by_cmp_equiv total).congr m.entries key k same
 
   -- a function of one value under a key that had none
-  pub puts_under_new : (old new : BTreeMap K (DotFun V)) (key : K) (dot : Dot) (value : V) (f : DotFun V) → f.values.entries ≡ (dot, value) ∷ [] → get cmp old key ≡ None
+  pub puts_under_new : (old new : BTreeMap K (DotFun V)) (key : K) (dot : Dot) (value : V) (f : DotFun V) → f.values.entries ≡ (dot, value) ∷ [] → None ≡ get cmp old key
       → ((q : K) → get cmp new q ≡ cond (is_at (cmp key) q) (Some f) (get cmp old q)) → PutsRow cmp key dot value old new
   puts_under_new old new key dot value f one absent now k d = ap (λ o. optional_held value_of o d tt) (now k) ∙ at (eq_by_cmp cmp key k) refl
     where
       at : (b : Bool) → eq_by_cmp cmp key k ≡ b → optional_held value_of (cond b (Some f) (get cmp old k)) d tt ≡ cond (b && dot_eq dot d) (Some value) (value_under cmp old k d)
-      at true same = single_at f dot value one d ∙ ap (λ o. cond (dot_eq dot d) (Some value) (optional_held value_of o d tt)) (sym absent ∙ same_under old key k same)
+      at true same = single_at f dot value one d ∙ ap (λ o. cond (dot_eq dot d) (Some value) (optional_held value_of o d tt)) (absent ∙ same_under old key k same)
       at false same = refl
 
   -- the last value under a key goes with it

@@ -1,5 +1,5 @@
 use mathlib.Core.Bool.{false≢true}
-use Rattle.std.proofs.Common.{arith, refl, sym}
+use Rattle.std.proofs.Common.{arith, refl}
 use Rattle.std.specs.BTreeMap.{get, is_at}
 use Rattle.sup_dot_store.specs.Index.{HasOneRow}
 use Rattle.sup_dot_store.proofs.Counts.{count_set}
@@ -19,7 +19,7 @@ pub returns-in-Some-clause-count : goal.returns-in-Some-clause-count
 returns-in-Some-clause-count g c =
     let test = is_at (g.K.Ord.cmp c.args.key.now) in
     let written = (c.get_mut.follows.holds c.take.new.self).0 in
-    let count = count_set test c.args.stores.now.entries c.in-Some.function.now c.take.new.self (sym c.in-Some.ensures.value) in
+    let count = count_set test c.args.stores.now.entries c.in-Some.function.now c.take.new.self c.in-Some.ensures.value in
     rw written (omega (arith, count, c.take.ensures.count))
 
 pub returns-in-Some-clause-none_empty : goal.returns-in-Some-clause-none_empty
