@@ -5,3 +5,5 @@ pub mod Keys
 pub mod Retains
 pub mod RowListLaws
 pub mod RowRuns
+pub mod Counts
+pub mod OneRow

@@ -64,7 +64,7 @@ impl<V: Plain> DotFun<V> {
         requires { get dot_cmp (values_of self.old) dot ≡ None }
         ensures put { OnOk result ((d : DotValue) → get dot_cmp (values_of self.new) d ≡ (if dot_eq dot d then Some value else get dot_cmp (values_of self.old) d)) }
         ensures count { OnOk result (length (values_of self.new).entries ≡ length (values_of self.old).entries + 1) }
-        ensures err { OnErr result (self.new ≡ self.old) }
+        ensures err { OnErr result ((values_of self.new).entries ≡ (values_of self.old).entries) }
     {
         self.values.insert(dot, value)?;
         Ok(())

@@ -3,7 +3,7 @@
 ghost use Rattle.std.specs.Prelude.{◌≡◌, ◌↔◌, ◌+◌, None, IsTrue, IsSome, OnOk, OnErr};
 ghost use Rattle.std.specs.BTreeMap.{get, values};
 ghost use Rattle.sup_dot_store.specs.Places.{NoneEmpty};
-ghost use Rattle.sup_dot_store.specs.Index.{value_of, value_under, count_in, HasOneRow, PutsRow, TakesRow};
+ghost use Rattle.sup_dot_store.specs.Index.{value_of, value_under, count_in, HasOneRow, HasSameRows, PutsRow, TakesRow};
 
 use crate::dot_fun::DotFun;
 use std::alloc::{AllocError, Global};
@@ -11,7 +11,7 @@ use std::collections::BTreeMap;
 use sup_causal::Dot;
 use sup_specs::Plain;
 
-// Puts a value under a key and a dot that has none there. An `Err` changes nothing.
+// Puts a value under a key and a dot that has none there. An `Err` changes no row.
 pub(crate) fn put_row<K: Plain, V: Plain>(
     alloc: Global,
     stores: &mut BTreeMap<K, DotFun<V>>,
@@ -23,7 +23,8 @@ pub(crate) fn put_row<K: Plain, V: Plain>(
     requires none_empty { NoneEmpty value_of K.cmp stores.old }
     ensures put { OnOk result (PutsRow K.cmp key dot value stores.old stores.new) }
     ensures count { OnOk result (count_in (values stores.new) ≡ count_in (values stores.old) + 1) }
-    ensures err { OnErr result (stores.new ≡ stores.old) }
+    ensures err { OnErr result (HasSameRows K.cmp stores.old stores.new) }
+    ensures err_count { OnErr result (count_in (values stores.new) ≡ count_in (values stores.old)) }
     ensures none_empty { NoneEmpty value_of K.cmp stores.new }
 {
     if let Some(function) = stores.get_mut(&key) {
