@@ -6,3 +6,4 @@ pub mod Retains
 pub mod RowListLaws
 pub mod RowRuns
 pub mod IndexLaws
+pub mod RowValues
