@@ -32,10 +32,10 @@ tie {X} {cmp} total x y e = subst (λ y. eq_by_cmp cmp x y ≡ true) e (ap is_eq
 pub some_is : {X : Type 0} {x y : X} → Some x ≡ Some y → x ≡ y
 some_is e = cc
 
-none_some : {X R : Type 0} {x : X} → None ≡ Some x → R
+pub none_some : {X R : Type 0} {x : X} → None ≡ Some x → R
 none_some e = absurd cc
 
-no_value : {X R : Type 0} (o : Option X) → o ≡ None → IsSome o → R
+pub no_value : {X R : Type 0} (o : Option X) → o ≡ None → IsSome o → R
 no_value o e s = absurd (false≢true (subst IsSome e s))
 
 module _ {K V : Type 0} (key k : K) (x y : Option V) (o n : Option K) where

@@ -6,4 +6,5 @@ pub mod Retains
 pub mod RowListLaws
 pub mod RowRuns
 pub mod IndexLaws
+pub mod IndexMade
 pub mod RowValues
