@@ -20,8 +20,8 @@ use Rattle.sup_causal.specs.Dots.{dot_cmp, dot_eq}
 use Rattle.sup_causal.specs.DotLaws.{dot_exact, dot_total}
 use Rattle.sup_dot_store.specs.declared.dot_fun.DotFun.{DotFun}
 use Rattle.sup_dot_store.specs.Contents.{values_of}
-use Rattle.sup_dot_store.specs.Places.{optional_held, NoneEmpty}
-use Rattle.sup_dot_store.specs.Index.{IsIndex, AddsDots, value_of, count_in}
+use Rattle.sup_dot_store.specs.Places.{optional_held}
+use Rattle.sup_dot_store.specs.Index.{AddsDots, value_of, count_in}
 use Rattle.sup_dot_store.proofs.IndexLaws.{same, tie, some_is, none_some, no_value}
 
 -- some dots of the function have the key, the others are left
@@ -135,15 +135,3 @@ module _ {K V : Type 0} {cmp : K → K → Ordering} (total : IsTotalOrder cmp) 
     distinct = IsDistinct-tail (eq_by_cmp cmp) e.0 (keys_of rest) indexing.distinct;
     size = omega (arith, indexing.size, adds.size);
   }
-
-at_end : {P X : Type 0} (o : Option X) → o ≡ None → P ⊎ IsSome o → P
-at_end o e (inl h) = h
-at_end o e (inr s) = no_value o e s
-
-pub all_indexed : {K V : Type 0} {cmp : K → K → Ordering} (stores : BTreeMap K (DotFun V)) (keys : BTreeMap Dot K) → IsIndexing cmp stores.entries keys [] → NoneEmpty value_of cmp stores → IsIndex cmp stores keys
-all_indexed {V = V} {cmp = cmp} stores keys indexing none_empty = record {
-  found = λ d k s. at_end {X = V} (value_in cmp [] k d) refl (indexing.found d k s);
-  there = indexing.there;
-  size = omega (arith, indexing.size);
-  none_empty = none_empty;
-}
