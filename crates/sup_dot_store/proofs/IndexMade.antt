@@ -1,5 +1,4 @@
 -- The index of functions under keys, made from one key after the other.
-use mathlib.Core.Bool.{false≢true}
 use Rattle.std.specs.Prelude.{◌≡◌, ◌⊎◌, ◌+◌, Bool, true, false, ◌||◌, cond, List, [], ◌∷◌, length, Option, Some, None, IsSome, is_some, refl}
 use Rattle.std.proofs.Common.{sym, ap, ◌∙◌, subst, inl, inr, arith}
 use Rattle.std.specs.declared.cmp.Ordering.{Ordering}
@@ -48,10 +47,6 @@ left_one : (b m : Bool) → (b ≡ true → m ≡ true) → (b || m) ≡ true �
 left_one true m not e = not refl
 left_one false m not e = e
 
-none_if : {X : Type 0} (o : Option X) → (is_some o ≡ true → false ≡ true) → o ≡ None
-none_if None h = refl
-none_if (Some x) h = absurd (false≢true (h refl))
-
 module _ {K V : Type 0} (key : K) (function : DotFun V) (old : BTreeMap Dot K) where
   pub adding_none : (rest : List Dot) → ((d : Dot) → is_some (get dot_cmp (values_of function) d) ≡ is_member dot_eq rest d) → length rest ≡ length (values_of function).entries → IsAdding key function old old rest
   adding_none rest has count = record {
@@ -72,13 +67,6 @@ module _ {K V : Type 0} (key : K) (function : DotFun V) (old : BTreeMap Dot K) w
         (λ e. no_value (get dot_cmp keys d) (ap (get dot_cmp keys) (same dot_exact d dot e) ∙ fresh) (adding.kept d s)) (adding.apart d s h);
     kept = λ d s. kept_one key (dot_eq dot d) (get dot_cmp keys d) (get dot_cmp more d) (adding.kept d s) (put d);
     size = omega (arith, adding.size, longer);
-  }
-
-  pub all_added : (keys : BTreeMap Dot K) → IsAdding key function old keys [] → AddsDots key function old keys
-  all_added keys adding = record {
-    added = adding.added;
-    apart = λ d s. none_if (get dot_cmp (values_of function) d) (adding.apart d s);
-    size = omega (arith, adding.size);
   }
 
 -- what entries have under a key and a dot
