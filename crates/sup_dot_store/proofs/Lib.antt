@@ -7,3 +7,6 @@ pub mod RowListLaws
 pub mod RowRuns
 pub mod Counts
 pub mod OneRow
+pub mod IndexLaws
+pub mod IndexMade
+pub mod RowValues

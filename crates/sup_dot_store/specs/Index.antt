@@ -1,5 +1,5 @@
 -- Where the dots of functions under keys stand (this project).
-use Rattle.std.specs.Prelude.{◌≡◌, ℕ, ◌+◌, Bool, true, ◌&&◌, cond, List, [], ◌∷◌, length, Option, Some, None, IsSome}
+use Rattle.std.specs.Prelude.{◌≡◌, ℕ, ◌+◌, Bool, true, ◌&&◌, cond, List, [], ◌∷◌, length, Option, Some, None, IsSome, is_some}
 use Rattle.std.specs.declared.cmp.Ordering.{Ordering}
 use Rattle.std.specs.Ordering.{eq_by_cmp}
 use Rattle.std.specs.BTreeMap.{BTreeMap, get, values}
@@ -35,6 +35,12 @@ pub record IsIndex {K V : Type 0} (cmp : K → K → Ordering) (stores : BTreeMa
   pub there : (d : Dot) (k : K) → get dot_cmp keys d ≡ Some k → IsSome (value_under cmp stores k d)
   pub size : count_in (values stores) ≡ length keys.entries
   pub none_empty : NoneEmpty value_of cmp stores
+
+-- the dots of a function, which had no key, have this one now
+pub record AddsDots {K V : Type 0} (key : K) (function : DotFun V) (old new : BTreeMap Dot K) : Type 0 where
+  pub added : (d : Dot) → get dot_cmp new d ≡ cond (is_some (get dot_cmp (values_of function) d)) (Some key) (get dot_cmp old d)
+  pub apart : (d : Dot) → IsSome (get dot_cmp old d) → get dot_cmp (values_of function) d ≡ None
+  pub size : length new.entries ≡ length old.entries + length (values_of function).entries
 
 -- what a list of rows has under a key and a dot: the first that stands there
 abbrev pub row_value : {K V : Type 0} → (K → K → Ordering) → List (K × Dot × V) → K → Dot → Option V

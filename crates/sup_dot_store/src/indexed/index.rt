@@ -1,8 +1,8 @@
 //! The index of functions under keys.
 
-ghost use Rattle.std.specs.Prelude.{IfOk, IfSome};
+ghost use Rattle.std.specs.Prelude.{◌≡◌, true, IfOk, IfSome};
 ghost use Rattle.sup_dot_store.specs.Contents.{stores_of};
-ghost use Rattle.sup_dot_store.specs.Index.{IsIndex};
+ghost use Rattle.sup_dot_store.specs.Index.{IsIndex, AddsDots};
 
 use crate::dot_fun::DotFun;
 use crate::dot_map::DotMap;
@@ -33,7 +33,9 @@ fn add_dots<K: Plain, V: Plain>(
     keys: &mut BTreeMap<Dot, K>,
     key: &K,
     function: &DotFun<V>,
-) -> Result<bool, AllocError> {
+) -> Result<bool, AllocError>
+    ensures { IfOk result (λ fresh. fresh ≡ true → AddsDots key.now function.now keys.old keys.new) }
+{
     for dot in function.values().keys() {
         if keys.insert(*dot, key.try_clone(alloc)?)?.is_some() {
             return Ok(false);
