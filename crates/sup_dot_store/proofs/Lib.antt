@@ -5,3 +5,4 @@ pub mod Keys
 pub mod Retains
 pub mod RowListLaws
 pub mod RowRuns
+pub mod JoinedInPlace
