@@ -1,5 +1,5 @@
 -- Rows of others put in, and rows that are gone taken away.
-use Rattle.std.proofs.Common.{◌≡◌, Bool, true, false, ◌&&◌, ◌||◌, cond, List, [], ◌∷◌, Option, Some, None, IsSome, refl, sym, ap, ◌∙◌, subst}
+use Rattle.std.proofs.Common.{◌≡◌, ℕ, ◌+◌, ◌<◌, Bool, true, false, ◌&&◌, ◌||◌, cond, List, [], ◌∷◌, ◌++◌, length, take, get_or, Option, Some, None, IsSome, refl, sym, ap, ◌∙◌, subst}
 use Rattle.std.specs.declared.cmp.Ordering.{Ordering}
 use Rattle.std.specs.declared.cmp.Ordering.TheVariants.{Less, Equal, Greater}
 use Rattle.std.specs.Ordering.{eq_by_cmp, is_eq, is_lt}
@@ -7,6 +7,8 @@ use Rattle.std.specs.Option.{option_or}
 use Rattle.std.specs.Cmp.{IsTotalOrder}
 use Rattle.std.specs.BTreeMap.{BTreeMap, get}
 use Rattle.std.proofs.lemmas.Cmp.{eq_by_cmp_equiv}
+use Rattle.std.proofs.lemmas.List.Folds.{list_any-append, list_any_more}
+use Rattle.sup_specs.specs.Rising.{among}
 use Rattle.sup_causal.specs.declared.dot.Dot.{Dot}
 use Rattle.sup_causal.specs.Dots.{dot_cmp, dot_eq}
 use Rattle.sup_causal.specs.DotLaws.{dot_total, dot_exact}
@@ -45,6 +47,10 @@ and_right_false false b e = refl
 and_right_true : (a b : Bool) → (a && b) ≡ true → b ≡ true
 and_right_true true b e = e
 and_right_true false b e = absurd (false≢true e)
+
+or_false : (b : Bool) → (b || false) ≡ b
+or_false true = refl
+or_false false = refl
 
 or_none : {T : Type 0} (o : Option T) → option_or o None ≡ o
 or_none None = refl
@@ -155,3 +161,82 @@ module _ {V : Type 0} (cmp : V → V → Ordering) where
       at : (b : Bool) → cond b Lesser Stays ≡ Stays → Some (cond b y x) ≡ Some x
       at true e = absurd cc
       at false e = refl
+
+none_either_way : {T : Type 0} (hit : Bool) (o : Option T) → o ≡ None → cond hit None o ≡ None
+none_either_way true o e = refl
+none_either_way false o e = e
+
+still_known : (k g hit e : Bool) → (g ≡ true → k ≡ true) → (g || (hit && e)) ≡ true → (k || e) ≡ true
+still_known true g hit e h t = refl
+still_known false g hit true h t = refl
+still_known false true hit false h t = absurd (false≢true (h refl))
+still_known false false true false h t = t
+still_known false false false false h t = t
+
+judged_more : {T : Type 0} (o v : Option T) (k g hit e : Bool) → (g ≡ true → k ≡ true) → (k ≡ true → cond g None o ≡ v) → (e ≡ true → cond hit None o ≡ v) → (k || e) ≡ true → cond (g || (hit && e)) None o ≡ v
+judged_more o v k true hit e known before here t = before (known refl)
+judged_more o v k false true true known before here t = here refl
+judged_more o v k false false true known before here t = here refl
+judged_more o v true false true false known before here t = before refl
+judged_more o v true false false false known before here t = before refl
+judged_more o v false false hit false known before here t = absurd (false≢true t)
+
+module _ {K V : Type 0} (key_cmp : K → K → Ordering) (cmp : V → V → Ordering) (mine theirs : BTreeMap K (DotFun V)) where
+  -- the point of a dot that both know, joined
+  abbrev joined_at : K → Dot → Option V
+  joined_at k d = value_at (higher (lesser cmp) (standing true (value_under key_cmp mine k d)) (standing true (value_under key_cmp theirs k d)))
+
+  -- whether the value of a dot goes is right at each key
+  abbrev pub IsJudged : Bool → Dot → Type 0
+  IsJudged hit d = (k : K) → cond hit None (value_under key_cmp mine k d) ≡ joined_at k d
+
+  -- a dot that has no key stays away
+  pub judged_no_key : (keys : BTreeMap Dot K) → IsIndex key_cmp mine keys → (d : Dot) → get dot_cmp keys d ≡ None → IsJudged false d
+  judged_no_key keys index d none k = let away = no_key key_cmp mine keys index d none k in away ∙ sym (joined_none cmp _ (value_under key_cmp theirs k d) away)
+
+  -- what is right at the key of a dot is right at each
+  judged_at_key : (keys : BTreeMap Dot K) → IsIndex key_cmp mine keys → (d : Dot) (key : K) → get dot_cmp keys d ≡ Some key → (hit : Bool) → cond hit None (value_under key_cmp mine key d) ≡ joined_at key d → IsJudged hit d
+  judged_at_key keys index d key is hit right k = at (value_under key_cmp mine k d) refl
+    where
+      at : (o : Option V) → value_under key_cmp mine k d ≡ o → cond hit None (value_under key_cmp mine k d) ≡ joined_at k d
+      at None e = none_either_way hit (value_under key_cmp mine k d) e ∙ sym (joined_none cmp (value_under key_cmp mine k d) (value_under key_cmp theirs k d) e)
+      at (Some x) e =
+          let found : get dot_cmp keys d ≡ Some k = index.found d k (subst IsSome (sym e) refl) in
+          let same : key ≡ k = cc in
+          subst (λ q. cond hit None (value_under key_cmp mine q d) ≡ joined_at q d) same right
+
+  pub judged_gone : (keys : BTreeMap Dot K) → IsIndex key_cmp mine keys → (d : Dot) (key : K) → get dot_cmp keys d ≡ Some key → outcome cmp (value_under key_cmp mine key d) (value_under key_cmp theirs key d) ≡ Gone → IsJudged true d
+  judged_gone keys index d key is goes = judged_at_key keys index d key is true (sym (joined_gone cmp (value_under key_cmp mine key d) (value_under key_cmp theirs key d) goes))
+
+  pub judged_stays : (keys : BTreeMap Dot K) → IsIndex key_cmp mine keys → (d : Dot) (key : K) → get dot_cmp keys d ≡ Some key → outcome cmp (value_under key_cmp mine key d) (value_under key_cmp theirs key d) ≡ Stays → IsJudged false d
+  judged_stays keys index d key is stays = judged_at_key keys index d key is false (sym (joined_stays cmp (value_under key_cmp mine key d) (value_under key_cmp theirs key d) stays))
+
+  -- one dot more is known, and judged
+  dot_judged : (known gone known_now gone_now : Dot → Bool) (dot : Dot) (hit : Bool) → AreGone (lesser cmp) key_cmp known gone mine theirs
+      → ((d : Dot) → known_now d ≡ (known d || dot_eq dot d)) → ((d : Dot) → gone_now d ≡ (gone d || (hit && dot_eq dot d))) → IsJudged hit dot
+      → AreGone (lesser cmp) key_cmp known_now gone_now mine theirs
+  dot_judged known gone known_now gone_now dot hit before knows takes judged = record {
+    in_known = λ d t. knows d ∙ still_known (known d) (gone d) hit (dot_eq dot d) (before.in_known d) (sym (takes d) ∙ t);
+    joined = λ k d t.
+        ap (λ b. cond b None (value_under key_cmp mine k d)) (takes d)
+        ∙ judged_more (value_under key_cmp mine k d) (joined_at k d) (known d) (gone d) hit (dot_eq dot d) (before.in_known d) (before.joined k d)
+          (λ e. subst (λ q. cond hit None (value_under key_cmp mine k q) ≡ joined_at k q) (same_dot dot d e) (judged k)) (sym (knows d) ∙ t);
+  }
+
+  known_more : (dots : List Dot) (i : ℕ) (dot d : Dot) → i < length dots → dot ≡ get_or dots i dot → among dot_cmp (take (i + 1) dots) d ≡ (among dot_cmp (take i dots) d || dot_eq dot d)
+  known_more dots i dot d within is =
+      list_any_more (eq_by_cmp dot_cmp d) dots i dot within
+      ∙ ap (λ e. among dot_cmp (take i dots) d || dot_eq d e) (sym is)
+      ∙ ap (λ b. among dot_cmp (take i dots) d || b) (turned d dot)
+
+  pub dot_goes : (dots gone : List Dot) (i : ℕ) (dot : Dot) → AreGone (lesser cmp) key_cmp (among dot_cmp (take i dots)) (among dot_cmp gone) mine theirs
+      → i < length dots → dot ≡ get_or dots i dot → IsJudged true dot → AreGone (lesser cmp) key_cmp (among dot_cmp (take (i + 1) dots)) (among dot_cmp (gone ++ dot ∷ [])) mine theirs
+  dot_goes dots gone i dot before within is judged =
+      dot_judged (among dot_cmp (take i dots)) (among dot_cmp gone) (among dot_cmp (take (i + 1) dots)) (among dot_cmp (gone ++ dot ∷ [])) dot true before (λ d. known_more dots i dot d within is)
+      (λ d. list_any-append (eq_by_cmp dot_cmp d) gone (dot ∷ []) ∙ ap (λ b. among dot_cmp gone d || b) (or_false (dot_eq d dot) ∙ turned d dot)) judged
+
+  pub dot_stays : (dots gone : List Dot) (i : ℕ) (dot : Dot) → AreGone (lesser cmp) key_cmp (among dot_cmp (take i dots)) (among dot_cmp gone) mine theirs
+      → i < length dots → dot ≡ get_or dots i dot → IsJudged false dot → AreGone (lesser cmp) key_cmp (among dot_cmp (take (i + 1) dots)) (among dot_cmp gone) mine theirs
+  dot_stays dots gone i dot before within is judged =
+      dot_judged (among dot_cmp (take i dots)) (among dot_cmp gone) (among dot_cmp (take (i + 1) dots)) (among dot_cmp gone) dot false before (λ d. known_more dots i dot d within is)
+      (λ d. sym (or_false (among dot_cmp gone d))) judged
