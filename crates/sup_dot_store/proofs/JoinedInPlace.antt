@@ -220,7 +220,7 @@ module _ {K V : Type 0} (key_cmp : K → K → Ordering) (cmp : V → V → Orde
     joined = λ k d t.
         ap (λ b. cond b None (value_under key_cmp mine k d)) (takes d)
         ∙ judged_more (value_under key_cmp mine k d) (joined_at k d) (known d) (gone d) hit (dot_eq dot d) (before.in_known d) (before.joined k d)
-          (λ e. subst (λ q. cond hit None (value_under key_cmp mine k q) ≡ joined_at k q) (same_dot dot d e) (judged k)) (sym (knows d) ∙ t);
+        (λ e. subst (λ q. cond hit None (value_under key_cmp mine k q) ≡ joined_at k q) (same_dot dot d e) (judged k)) (sym (knows d) ∙ t);
   }
 
   known_more : (dots : List Dot) (i : ℕ) (dot d : Dot) → i < length dots → dot ≡ get_or dots i dot → among dot_cmp (take (i + 1) dots) d ≡ (among dot_cmp (take i dots) d || dot_eq dot d)

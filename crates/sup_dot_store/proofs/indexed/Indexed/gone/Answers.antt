@@ -23,18 +23,18 @@ loop-dot-preserved g c =
     let gone = c.loop-dot.gone.items in
     let AreListed = λ (listed : List Dot). AreGone (lesser cmp) key_cmp (among dot_cmp (take (at + 1) known)) (among dot_cmp listed) self.stores theirs in
     elim c.match-get.branch [
-      in-Some+in-Gone+in_ok-push-in-Gone w ↦
-        let key : get dot_cmp self.keys dot ≡ Some w.in-Some.key.now = search rules in
-        let goes = ap (λ s. outcome cmp (value_under key_cmp self.stores w.in-Some.key.now dot) (value_under key_cmp s w.in-Some.key.now dot)) (sym w.stores.ensures) ∙ sym w.in-Gone.ensures in
-        subst AreListed (sym (ap (λ v. v.items) w.gone-is ∙ w.in_ok-push-in-Gone.ensures.items))
-        (dot_goes key_cmp cmp self.stores theirs known gone at dot c.loop-dot.invariant c.loop-dot-test.true c.dot-item.is (judged_gone key_cmp cmp self.stores theirs self.keys self.indexed dot w.in-Some.key.now key goes))
+      | in-Some+in-Gone+in_ok-push-in-Gone w ↦
+          let key : get dot_cmp self.keys dot ≡ Some w.in-Some.key.now = search rules in
+          let goes = ap (λ s. outcome cmp (value_under key_cmp self.stores w.in-Some.key.now dot) (value_under key_cmp s w.in-Some.key.now dot)) (sym w.stores.ensures) ∙ sym w.in-Gone.ensures in
+          subst AreListed (sym (ap (λ v. v.items) w.gone-is ∙ w.in_ok-push-in-Gone.ensures.items))
+          (dot_goes key_cmp cmp self.stores theirs known gone at dot c.loop-dot.invariant c.loop-dot-test.true c.dot-item.is (judged_gone key_cmp cmp self.stores theirs self.keys self.indexed dot w.in-Some.key.now key goes))
       | in-Some+in-Stays w ↦
-        let key : get dot_cmp self.keys dot ≡ Some w.in-Some.key.now = search rules in
-        let stays = ap (λ s. outcome cmp (value_under key_cmp self.stores w.in-Some.key.now dot) (value_under key_cmp s w.in-Some.key.now dot)) (sym w.stores.ensures) ∙ sym w.in-Stays.ensures in
-        subst AreListed (sym (ap (λ v. v.items) w.gone-is))
-        (dot_stays key_cmp cmp self.stores theirs known gone at dot c.loop-dot.invariant c.loop-dot-test.true c.dot-item.is (judged_stays key_cmp cmp self.stores theirs self.keys self.indexed dot w.in-Some.key.now key stays))
+          let key : get dot_cmp self.keys dot ≡ Some w.in-Some.key.now = search rules in
+          let stays = ap (λ s. outcome cmp (value_under key_cmp self.stores w.in-Some.key.now dot) (value_under key_cmp s w.in-Some.key.now dot)) (sym w.stores.ensures) ∙ sym w.in-Stays.ensures in
+          subst AreListed (sym (ap (λ v. v.items) w.gone-is))
+          (dot_stays key_cmp cmp self.stores theirs known gone at dot c.loop-dot.invariant c.loop-dot-test.true c.dot-item.is (judged_stays key_cmp cmp self.stores theirs self.keys self.indexed dot w.in-Some.key.now key stays))
       | in_default w ↦
-        let none : get dot_cmp self.keys dot ≡ None = search rules in
-        subst AreListed (sym (ap (λ v. v.items) w.gone-is))
-        (dot_stays key_cmp cmp self.stores theirs known gone at dot c.loop-dot.invariant c.loop-dot-test.true c.dot-item.is (judged_no_key key_cmp cmp self.stores theirs self.keys self.indexed dot none))
+          let none : get dot_cmp self.keys dot ≡ None = search rules in
+          subst AreListed (sym (ap (λ v. v.items) w.gone-is))
+          (dot_stays key_cmp cmp self.stores theirs known gone at dot c.loop-dot.invariant c.loop-dot-test.true c.dot-item.is (judged_no_key key_cmp cmp self.stores theirs self.keys self.indexed dot none))
     ]

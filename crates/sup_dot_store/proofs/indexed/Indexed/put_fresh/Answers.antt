@@ -14,13 +14,13 @@ loop-key-preserved-then-contains g c =
     let known : mine c.in-Some.dot ≡ true = search rules in
     let steps : into_iter_items c.loop-key.key-iterator ≡ row ∷ left = c.in-Some.ensures.steps.0 in record {
       put =
-        row_passed g.met.K.Ord.total mine c.args.rows.items c.args.self.now.stores c.loop-key.self.stores row left
-        (subst (λ rows. IsPutSoFar g.K.Ord.cmp mine c.args.rows.items rows c.args.self.now.stores c.loop-key.self.stores) steps c.loop-key.invariant.put) known;
+          row_passed g.met.K.Ord.total mine c.args.rows.items c.args.self.now.stores c.loop-key.self.stores row left
+          (subst (λ rows. IsPutSoFar g.K.Ord.cmp mine c.args.rows.items rows c.args.self.now.stores c.loop-key.self.stores) steps c.loop-key.invariant.put) known;
       counted =
-        let was = c.loop-key.invariant.counted in
-        let one = c.in-Some.ensures.steps.1 in
-        let short = ap length steps in
-        omega arith;
+          let was = c.loop-key.invariant.counted in
+          let one = c.in-Some.ensures.steps.1 in
+          let short = ap length steps in
+          omega arith;
     }
 
 pub loop-key-preserved : goal.loop-key-preserved
@@ -33,12 +33,12 @@ loop-key-preserved g c =
     let none : get dot_cmp now.keys c.in-Some.dot ≡ None = search rules in
     let steps : into_iter_items c.loop-key.key-iterator ≡ row ∷ left = c.in-Some.ensures.steps.0 in record {
       put =
-        row_put g.met.K.Ord.total mine c.args.rows.items c.args.self.now.stores now.stores c.put.new.self.stores row left
-        (subst (λ rows. IsPutSoFar g.K.Ord.cmp mine c.args.rows.items rows c.args.self.now.stores now.stores) steps c.loop-key.invariant.put) fresh
-        (no_key g.K.Ord.cmp now.stores now.keys now.indexed c.in-Some.dot none) c.in_ok-put.ensures.put;
+          row_put g.met.K.Ord.total mine c.args.rows.items c.args.self.now.stores now.stores c.put.new.self.stores row left
+          (subst (λ rows. IsPutSoFar g.K.Ord.cmp mine c.args.rows.items rows c.args.self.now.stores now.stores) steps c.loop-key.invariant.put) fresh
+          (no_key g.K.Ord.cmp now.stores now.keys now.indexed c.in-Some.dot none) c.in_ok-put.ensures.put;
       counted =
-        let was = c.loop-key.invariant.counted in
-        let one = c.in-Some.ensures.steps.1 in
-        let short = ap length steps in
-        omega arith;
+          let was = c.loop-key.invariant.counted in
+          let one = c.in-Some.ensures.steps.1 in
+          let short = ap length steps in
+          omega arith;
     }
