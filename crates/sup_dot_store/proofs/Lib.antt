@@ -10,3 +10,4 @@ pub mod OneRow
 pub mod IndexLaws
 pub mod IndexMade
 pub mod RowValues
+pub mod JoinedInPlace

@@ -3,3 +3,4 @@ pub mod Places
 pub mod Contents
 pub mod RowLists
 pub mod Index
+pub mod Outcomes

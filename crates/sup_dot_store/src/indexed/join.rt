@@ -9,6 +9,7 @@ ghost use Rattle.sup_causal.specs.Join.{lesser};
 ghost use Rattle.sup_causal.specs.Dots.{has, dot_cmp};
 ghost use Rattle.sup_dot_store.specs.Contents.{stores_of};
 ghost use Rattle.sup_dot_store.specs.Index.{AreGone, TakesDots, count_in, row_value, value_under};
+ghost use Rattle.sup_dot_store.specs.Outcomes.{outcome};
 
 use crate::dot_fun::DotFun;
 use crate::dot_map::DotMap;
@@ -112,7 +113,9 @@ fn outcome_of<K: Plain, V: Plain>(
     theirs: &BTreeMap<K, DotFun<V>>,
     key: &K,
     dot: &Dot,
-) -> Outcome {
+) -> Outcome
+    ensures { result ≡ outcome V.cmp (value_under K.cmp mine.now key.now dot.now) (value_under K.cmp theirs.now key.now dot.now) }
+{
     let Some(other) = value_in(theirs, key, dot) else {
         return Outcome::Gone;
     };
