@@ -14,7 +14,7 @@ use Rattle.sup_causal.specs.Dots.{dot_cmp, dot_eq}
 use Rattle.sup_causal.specs.DotLaws.{dot_exact}
 use Rattle.sup_dot_store.specs.declared.dot_fun.DotFun.{DotFun}
 use Rattle.sup_dot_store.specs.Places.{NoneEmpty}
-use Rattle.sup_dot_store.specs.Index.{IsIndex, PutsRow, TakesRow, value_of, value_under, count_in}
+use Rattle.sup_dot_store.specs.Index.{IsIndex, HasSameRows, PutsRow, TakesRow, value_of, value_under, count_in}
 
 tied : (r : Ordering) → is_eq r ≡ true → r ≡ Equal
 tied Less e = absurd (false≢true e)
@@ -94,14 +94,14 @@ module _ {K V : Type 0} {cmp : K → K → Ordering} (total : IsTotalOrder cmp) 
     none_empty = none_empty;
   }
 
-  pub index_undone : (old new : BTreeMap K (DotFun V)) (keys more again : BTreeMap Dot K) → IsIndex cmp old keys → get dot_cmp keys dot ≡ None → new ≡ old
+  pub index_undone : (old new : BTreeMap K (DotFun V)) (keys more again : BTreeMap Dot K) → IsIndex cmp old keys → get dot_cmp keys dot ≡ None → HasSameRows cmp old new → count_in (values new) ≡ count_in (values old) → NoneEmpty value_of cmp new
       → ((d : Dot) → get dot_cmp more d ≡ cond (dot_eq dot d) (Some key) (get dot_cmp keys d)) → ((d : Dot) → get dot_cmp again d ≡ cond (dot_eq dot d) None (get dot_cmp more d)) → length again.entries ≡ length keys.entries
       → IsIndex cmp new again
-  index_undone old new keys more again index fresh unchanged put taken as_long =
+  index_undone old new keys more again index fresh same_rows count none_empty put taken as_long =
       let is : (d : Dot) → get dot_cmp again d ≡ get dot_cmp keys d = λ d. undone key (dot_eq dot d) (get dot_cmp keys d) (get dot_cmp more d) (get dot_cmp again d) (at_dot keys dot None fresh d) (put d) (taken d) in
-      subst (λ stores. IsIndex cmp stores again) (sym unchanged) (record {
-        found = λ d k s. is d ∙ index.found d k s;
-        there = λ d k h. index.there d k (sym (is d) ∙ h);
-        size = index.size ∙ sym as_long;
-        none_empty = index.none_empty;
-      })
+      record {
+        found = λ d k s. is d ∙ index.found d k (subst IsSome (same_rows k d) s);
+        there = λ d k h. subst IsSome (sym (same_rows k d)) (index.there d k (sym (is d) ∙ h));
+        size = count ∙ index.size ∙ sym as_long;
+        none_empty = none_empty;
+      }

@@ -64,6 +64,7 @@ impl<K: Plain, S: DotStore> DotMap<K, S> {
     /// The stores, by key, each with a row.
     pub fn into_stores(self) -> BTreeMap<K, S>
         ensures stores { result ≡ stores_of self }
+        ensures ordered { IsOrdered K.cmp result }
         ensures none_empty { NoneEmpty S.held K.cmp result }
     {
         self.stores

@@ -1,7 +1,8 @@
 //! Functions under keys whose rows are found by their dots.
 
 ghost use Rattle.std.specs.Prelude.{◌≡◌, ◌≤◌, None, OnOk, OnErr};
-ghost use Rattle.std.specs.BTreeMap.{get, values};
+ghost use Rattle.std.proofs.Props.{props};
+ghost use Rattle.std.specs.BTreeMap.{get, values, IsOrdered};
 ghost use Rattle.sup_causal.specs.Dots.{dot_cmp, dot_eq};
 ghost use Rattle.sup_dot_store.specs.Index.{IsIndex, HasSameRows, count_in, PutsRow, TakesDots};
 
@@ -13,7 +14,7 @@ use crate::dot_fun::DotFun;
 use crate::indexed::rows::{put_row, take_row};
 use std::alloc::{AllocError, Global};
 use std::collections::BTreeMap;
-use sup_causal::Dot;
+use sup_causal::{Dot, keys_rise};
 use sup_specs::Plain;
 
 /// Functions under keys, and beside them the key of each dot: a row is found by its dot without a walk. No dot has
@@ -22,6 +23,8 @@ use sup_specs::Plain;
 pub struct Indexed<K: Plain, V: Plain> {
     pub stores: BTreeMap<K, DotFun<V>>,
     pub keys: BTreeMap<Dot, K>,
+    // The keys rise. Every map's keys do; here it is said, so that a proof knows it of a map inside other values.
+    pub ghost ordered: { IsOrdered K.cmp stores } by { Prim.hlevel props },
     pub ghost indexed: { IsIndex K.cmp stores keys },
 }
 
@@ -40,7 +43,9 @@ impl<K: Plain, V: Plain> Indexed<K, V> {
         ensures err { OnErr result (HasSameRows K.cmp self.old.stores self.new.stores) }
     {
         self.keys.insert(dot, key.try_clone(alloc)?)?;
-        if let Err(refused) = put_row(alloc, &mut self.stores, key, dot, value) {
+        let put = put_row(alloc, &mut self.stores, key, dot, value);
+        keys_rise(&self.stores);
+        if let Err(refused) = put {
             self.keys.remove(&dot);
             return Err(refused);
         }

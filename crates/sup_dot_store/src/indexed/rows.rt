@@ -1,7 +1,7 @@
 //! One row more, or one less.
 
 ghost use Rattle.std.specs.Prelude.{◌≡◌, ◌↔◌, ◌+◌, None, IsTrue, IsSome, OnOk, OnErr};
-ghost use Rattle.std.specs.BTreeMap.{get, values};
+ghost use Rattle.std.specs.BTreeMap.{get, values, IsOrdered};
 ghost use Rattle.sup_dot_store.specs.Places.{NoneEmpty};
 ghost use Rattle.sup_dot_store.specs.Index.{value_of, value_under, count_in, HasOneRow, HasSameRows, PutsRow, TakesRow};
 
@@ -42,6 +42,7 @@ pub(crate) fn take_row<K: Plain, V: Plain>(stores: &mut BTreeMap<K, DotFun<V>>, 
     ensures taken { TakesRow K.cmp key.now dot.now stores.old stores.new }
     ensures count { count_in (values stores.new) + 1 ≡ count_in (values stores.old) }
     ensures none_empty { NoneEmpty value_of K.cmp stores.new }
+    ensures ordered { IsOrdered K.cmp stores.new }
 {
     if has_one_row_under(stores, key) {
         stores.remove(key);
