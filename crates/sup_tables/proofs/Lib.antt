@@ -15,3 +15,5 @@ pub mod WinnerLaws
 pub mod GreatestLaws
 pub mod WorkedRows
 pub mod PlacedRows
+pub mod InPlaceLaws
+pub mod OpenedLaws

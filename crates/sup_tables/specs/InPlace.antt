@@ -25,30 +25,30 @@ abbrev pub count_stored : Stored → ℕ
 count_stored s = count_in (values_of s.member_values) + (count_in (values_of s.child_values) + count_in (values_of s.name_values))
 
 -- R holds of the values at each point of the three tables
-pub record AtAll (R : {V : Type 0} → Values V → Values V → Type 0) (old new : Stored) : Type 0 where
-  pub at_members : R old.member_values new.member_values
-  pub at_children : R old.child_values new.child_values
-  pub at_names : R old.name_values new.name_values
+pub record AtAll (R : (V : Type 0) → Values V → Values V → Type 0) (old new : Stored) : Type 0 where
+  pub at_members : R _ old.member_values new.member_values
+  pub at_children : R _ old.child_values new.child_values
+  pub at_names : R _ old.name_values new.name_values
 
 -- the same values
-abbrev pub Same : {V : Type 0} → Values V → Values V → Type 0
-Same old new = (d : Dot) (k : Bytes) → value_in new d k ≡ value_in old d k
+abbrev pub Same : (V : Type 0) → Values V → Values V → Type 0
+Same V old new = (d : Dot) (k : Bytes) → value_in new d k ≡ value_in old d k
 
 -- the values of known dots stay
-abbrev pub StayKnown : (Dot → Bool) → {V : Type 0} → Values V → Values V → Type 0
-StayKnown mine old new = (d : Dot) (k : Bytes) → mine d ≡ true → value_in new d k ≡ value_in old d k
+abbrev pub StayKnown : (Dot → Bool) → (V : Type 0) → Values V → Values V → Type 0
+StayKnown mine V old new = (d : Dot) (k : Bytes) → mine d ≡ true → value_in new d k ≡ value_in old d k
 
 -- under unknown dots stand the values of others
-abbrev pub AreFresh : (Dot → Bool) → {V : Type 0} → Values V → Values V → Type 0
-AreFresh mine theirs new = (d : Dot) (k : Bytes) → mine d ≡ false → value_in new d k ≡ value_in theirs d k
+abbrev pub AreFresh : (Dot → Bool) → (V : Type 0) → Values V → Values V → Type 0
+AreFresh mine V theirs new = (d : Dot) (k : Bytes) → mine d ≡ false → value_in new d k ≡ value_in theirs d k
 
 -- where there is a value under an unknown dot, others have one
-abbrev pub AreBrought : (Dot → Bool) → {V : Type 0} → Values V → Values V → Type 0
-AreBrought mine theirs new = (d : Dot) (k : Bytes) → mine d ≡ false → IsSome (value_in new d k) → IsSome (value_in theirs d k)
+abbrev pub AreBrought : (Dot → Bool) → (V : Type 0) → Values V → Values V → Type 0
+AreBrought mine V theirs new = (d : Dot) (k : Bytes) → mine d ≡ false → IsSome (value_in new d k) → IsSome (value_in theirs d k)
 
 -- the values of the listed dots are gone
-abbrev pub AreTaken : (Dot → Bool) → {V : Type 0} → Values V → Values V → Type 0
-AreTaken listed old new = (d : Dot) (k : Bytes) → value_in new d k ≡ cond (listed d) None (value_in old d k)
+abbrev pub AreTaken : (Dot → Bool) → (V : Type 0) → Values V → Values V → Type 0
+AreTaken listed V old new = (d : Dot) (k : Bytes) → value_in new d k ≡ cond (listed d) None (value_in old d k)
 
 -- at each point of a table one store holds the higher value of what two hold
 abbrev pub IsJoined : {V : Type 0} → (V → V → Ordering) → Context → Values V → Context → Values V → Values V → Type 0

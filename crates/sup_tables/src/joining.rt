@@ -4,17 +4,16 @@ ghost use Rattle.std.specs.BTreeMap.{values};
 ghost use Rattle.sup_causal.specs.declared.dot.Dot.{Dot as DotValue};
 ghost use Rattle.sup_causal.specs.Dots.{has};
 ghost use Rattle.sup_tables.specs.Operations.{Operation, Covers, NoClash};
-ghost use Rattle.sup_dot_store.specs.Index.{count_in, IsIndex};
-ghost use Rattle.sup_specs.specs.Values.{text_cmp};
+ghost use Rattle.sup_dot_store.specs.Index.{count_in};
 ghost use Rattle.sup_tables.specs.States.{StandsFor, Knowledge, knowledge, together, together_laws};
 
 use crate::in_place::NotJoined;
+use crate::index::found_index;
 use crate::table::count_with;
-use crate::tables::{Index, Stores, Tables};
+use crate::tables::{Stores, Tables};
 use std::alloc::{AllocError, Global};
 use std::mem::replace;
 use sup_causal::Lattice;
-use sup_dot_store::index_of;
 
 impl Lattice for Tables {
     ghost Meaning = { Knowledge };
@@ -125,23 +124,4 @@ fn count_of(store: &Stores) -> Option<usize>
     let names = count_with(0, &store.second.second)?;
     let children = count_with(names, &store.second.first)?;
     count_with(children, &store.first)
-}
-
-// The key of each dot. None where a dot stands under two keys of one table.
-fn found_index(alloc: Global, store: &Stores) -> Result<Option<Index>, AllocError>
-    ensures members { IfOk result (λ found. IfSome found (λ i. IsIndex text_cmp store.now.first.stores i.members)) }
-    ensures children { IfOk result (λ found. IfSome found (λ i. IsIndex text_cmp store.now.second.first.stores i.children)) }
-    ensures names { IfOk result (λ found. IfSome found (λ i. IsIndex text_cmp store.now.second.second.stores i.names)) }
-{
-    let members = index_of(alloc, &store.first)?;
-    let children = index_of(alloc, &store.second.first)?;
-    let names = index_of(alloc, &store.second.second)?;
-    match (members, children, names) {
-        (Some(members), Some(children), Some(names)) => Ok(Some(Index {
-            members,
-            children,
-            names,
-        })),
-        _ => Ok(None),
-    }
 }

@@ -6,6 +6,7 @@ mod delta;
 pub mod fault;
 mod from_rows;
 mod in_place;
+mod index;
 mod joining;
 pub mod laws;
 mod readers;

@@ -1,15 +1,16 @@
 //! The three tables under one context.
 ghost use Rattle.std.specs.Prelude.{◌≡◌, ◌+◌, [], length, IfSome};
 ghost use Rattle.sup_specs.specs.Values.{text_cmp};
+ghost use Rattle.std.proofs.Props.{props};
 ghost use Rattle.std.specs.BTreeMap.{values};
 ghost use Rattle.sup_tables.specs.Stored.{AreCovered, state_of};
 ghost use Rattle.sup_dot_store.specs.Index.{count_in, IsIndex};
 ghost use Rattle.sup_tables.specs.States.{StandsFor, IsKept};
 
+use crate::index::Index;
 use std::alloc::Global;
-use std::collections::BTreeMap;
 use std::marker::Model;
-use sup_causal::{CausalContext, Dot};
+use sup_causal::CausalContext;
 use sup_dot_store::{Both, Causal, DotFun, DotMap};
 use sup_specs::{ChildId, ChildSpec, MemberInfo, Name, NodeName};
 
@@ -35,15 +36,7 @@ pub struct Tables {
     pub(crate) index: Option<Index>,
     pub(crate) alloc: Global,
     pub ghost counted: { count ≡ count_in (values state.store.first.stores) + (count_in (values state.store.second.first.stores) + count_in (values state.store.second.second.stores)) },
-    pub ghost indexed: { IfSome index (λ i. IsIndex text_cmp state.store.first.stores i.members × (IsIndex text_cmp state.store.second.first.stores i.children × IsIndex text_cmp state.store.second.second.stores i.names)) },
-}
-
-/// The key of each dot, table by table.
-#[derive(Drop)]
-pub struct Index {
-    pub(crate) members: BTreeMap<Dot, NodeName>,
-    pub(crate) children: BTreeMap<Dot, ChildId>,
-    pub(crate) names: BTreeMap<Dot, Name>,
+    pub ghost indexed: { IfSome index (λ i. IsIndex text_cmp state.store.first.stores i.members × (IsIndex text_cmp state.store.second.first.stores i.children × IsIndex text_cmp state.store.second.second.stores i.names)) } by { Prim.hlevel props },
 }
 
 impl Model for Tables {

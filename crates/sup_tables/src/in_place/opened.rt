@@ -10,7 +10,8 @@ ghost use Rattle.sup_tables.specs.Stored.{AreCovered, state_of};
 ghost use Rattle.sup_tables.specs.InPlace.{stored, count_stored, AtAll, StayKnown, AreFresh, AreBrought, AreTaken};
 
 use crate::in_place::NotJoined;
-use crate::tables::{Index, Stores, Tables};
+use crate::index::Index;
+use crate::tables::{Stores, Tables};
 use std::alloc::Global;
 use sup_causal::{CausalContext, Dot};
 use sup_dot_store::{Both, Causal, DotMap, Indexed};
@@ -138,9 +139,9 @@ impl Opened {
 
     // Takes the rows away that are gone.
     pub(crate) fn take_gone(&mut self, gone: &Gone)
-        ensures members { AreTaken (among dot_cmp gone.now.members.items) self.old.members.stores.entries self.new.members.stores.entries }
-        ensures children { AreTaken (among dot_cmp gone.now.children.items) self.old.children.stores.entries self.new.children.stores.entries }
-        ensures names { AreTaken (among dot_cmp gone.now.names.items) self.old.names.stores.entries self.new.names.stores.entries }
+        ensures members { AreTaken (among dot_cmp gone.now.members.items) _ self.old.members.stores.entries self.new.members.stores.entries }
+        ensures children { AreTaken (among dot_cmp gone.now.children.items) _ self.old.children.stores.entries self.new.children.stores.entries }
+        ensures names { AreTaken (among dot_cmp gone.now.names.items) _ self.old.names.stores.entries self.new.names.stores.entries }
         ensures no_more { count_stored (stored self.new.members.stores self.new.children.stores self.new.names.stores) ≤ count_stored (stored self.old.members.stores self.old.children.stores self.old.names.stores) }
     {
         self.members.take_dots(&gone.members);

@@ -1,0 +1,13 @@
+-- A table that is changed in place.
+use Rattle.std.specs.Prelude.{◌≡◌, true, IsSome}
+use Rattle.std.proofs.Common.{sym, ◌∙◌}
+use mathlib.Core.Bool.{true≢false}
+use Rattle.sup_specs.specs.Values.{Bytes}
+use Rattle.sup_causal.specs.declared.dot.Dot.{Dot}
+use Rattle.sup_causal.specs.Dots.{Context, has}
+use Rattle.sup_tables.specs.Stored.{Values, value_in}
+use Rattle.sup_tables.specs.InPlace.{AreBrought}
+
+-- under a dot that the context lacks there is no value
+pub none_unknown : {V : Type 0} (mine : Context) (old theirs : Values V) → ((d : Dot) (k : Bytes) → IsSome (value_in old d k) → has mine d ≡ true) → AreBrought (has mine) V theirs old
+none_unknown mine old theirs covered d k unknown some = absurd (true≢false (sym (covered d k some) ∙ unknown))
