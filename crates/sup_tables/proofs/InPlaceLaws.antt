@@ -1,21 +1,27 @@
 -- Stored values that are joined in place, point by point.
-use Rattle.std.specs.Prelude.{◌≡◌, ◌≤◌, ℕ, Bool, true, false, not, ◌&&◌, cond, length, Option, Some, None, IsSome, refl}
+use Rattle.std.specs.Prelude.{◌≡◌, ◌≤◌, ℕ, Bool, true, false, not, ◌||◌, ◌&&◌, cond, OnOk, OnErr, length, Option, Some, None, IsSome, refl}
 use Rattle.std.specs.Option.{option_map}
+use Rattle.std.specs.declared.cmp.Ordering.{Ordering}
+use Rattle.std.specs.declared.result.Result.{Result}
+use Rattle.std.specs.declared.result.Result.TheVariants.{Ok, Err}
 use Rattle.std.proofs.Common.{sym, ap, ◌∙◌, subst}
 use mathlib.Core.Bool.{true≢false, false≢true}
 use mathlib.Core.Path.{fun_ext}
-use Rattle.sup_specs.specs.Values.{Bytes}
+use Rattle.sup_specs.specs.Values.{Bytes, text_cmp}
+use Rattle.sup_specs.specs.contracts.child.ChildSpecOrd.TheImpl as child_spec_ord
+use Rattle.sup_specs.specs.contracts.child.MemberInfoOrd.TheImpl as member_info_ord
+use Rattle.sup_causal.specs.Join.{lesser}
 use Rattle.sup_causal.specs.declared.dot.Dot.{Dot}
 use Rattle.sup_causal.specs.Dots.{Context, has}
-use Rattle.sup_dot_store.specs.Points.{standing, higher, value_at}
+use Rattle.sup_dot_store.specs.Points.{standing, standing_higher, higher, value_at}
 use Rattle.sup_tables.specs.declared.row.Row.{Row}
 use Rattle.sup_tables.specs.Rows.{Table, members, children, names}
-use Rattle.sup_tables.specs.States.{State, knowledge, point}
+use Rattle.sup_tables.specs.States.{State, knowledge, point, together}
 use Rattle.sup_tables.specs.Stored.{Values, Stored, value_in, member_row, child_row, name_row, stored_rows, stored_row, state_of, AreCovered}
-use Rattle.sup_tables.specs.InPlace.{AtAll, Same, StayKnown, AreFresh, AreBrought, AreTaken, count_stored}
+use Rattle.sup_tables.specs.InPlace.{AtAll, Same, IsJoined, AreJoined, count_stored}
 use Rattle.sup_tables.proofs.CountLaws.{stored_count}
 use Rattle.sup_tables.proofs.KnowledgeLaws.{same_knowledge}
-use Rattle.sup_tables.proofs.MappedLaws.{point_is, kept_is}
+use Rattle.sup_tables.proofs.MappedLaws.{IsHigher, AreHigher, point_is, kept_is, knows_together}
 use Rattle.sup_tables.proofs.OrderedRows.{stored_is}
 use Rattle.sup_tables.proofs.StoredLaws.{IsOrderedStored}
 
@@ -104,3 +110,28 @@ same_covered context a b covered same = record {
   at_children = λ d k h. covered.at_children d k (subst IsSome (same.at_children d k) h);
   at_names = λ d k h. covered.at_names d k (subst IsSome (same.at_names d k) h);
 }
+
+module _ (ca cb cc : Context) (contexts : (d : Dot) → has cc d ≡ (has ca d || has cb d)) where
+  joined_higher : {V : Type 0} (cmp : V → V → Ordering) (a b c : Values V) → IsJoined cmp ca a cb b c → IsHigher cmp ca a cb b cc c
+  joined_higher cmp a b c joined d k =
+      (λ i. standing (contexts d i) (joined d k i)) ∙ standing_higher (lesser cmp) (has ca d) (has cb d) (value_in a d k) (value_in b d k)
+
+  -- stores joined at each point know what both know together
+  pub joined_knowledge : (a b c : Stored) → IsOrderedStored a → IsOrderedStored b → IsOrderedStored c → AreJoined ca a cb b c
+      → knowledge (state_of cc c) ≡ together (knowledge (state_of ca a)) (knowledge (state_of cb b))
+  joined_knowledge a b c oa ob oc joined =
+      knows_together ca cb cc a b c oa ob oc (fun_ext contexts) (record {
+        at_members = joined_higher (member_info_ord.ghosts).cmp a.member_values b.member_values c.member_values joined.at_members;
+        at_children = joined_higher (child_spec_ord.ghosts).cmp a.child_values b.child_values c.child_values joined.at_children;
+        at_names = joined_higher text_cmp a.name_values b.name_values c.name_values joined.at_names;
+      })
+
+-- what follows from two facts of a result that is fine
+pub both_on_ok : {T E A B C : Type 0} (r : Result T E) → OnOk r A → OnOk r B → (A → B → C) → OnOk r C
+both_on_ok (Ok x) a b f = f a b
+both_on_ok (Err e) a b f = tt
+
+-- what follows from two facts of a refusal
+pub both_on_err : {T E A B C : Type 0} (r : Result T E) → OnErr r A → OnErr r B → (A → B → C) → OnErr r C
+both_on_err (Ok x) a b f = tt
+both_on_err (Err e) a b f = f a b

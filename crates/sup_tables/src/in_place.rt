@@ -3,13 +3,16 @@
 ghost use Rattle.std.specs.Prelude.{◌≡◌, ◌≤◌, ◌||◌, IfOk, OnOk, OnErr};
 ghost use Rattle.sup_causal.specs.declared.dot.Dot.{Dot as DotValue};
 ghost use Rattle.sup_causal.specs.Dots.{has};
-ghost use Rattle.sup_tables.specs.Stored.{AreCovered};
+ghost use Rattle.sup_specs.specs.Values.{text_cmp};
+ghost use Rattle.sup_dot_store.specs.Index.{IsIndex};
+ghost use Rattle.sup_tables.specs.Stored.{AreCovered, state_of};
 ghost use Rattle.sup_tables.specs.States.{knowledge, together};
 ghost use Rattle.sup_tables.specs.InPlace.{stored, count_stored, AtAll, Same, StayKnown, AreFresh, AreBrought, AreJoined};
 
 mod opened;
 
 use crate::in_place::opened::Opened;
+use crate::index::Index;
 use crate::tables::{Stores, Tables};
 use std::alloc::{AllocError, Global};
 use sup_causal::{CausalContext, Lattice};
@@ -61,28 +64,53 @@ impl Tables {
             index,
             alloc: own,
         } = self;
-        let (store, mut context) = state.into_parts();
-        let Some(index) = index else {
-            return (
-                Tables {
-                    state: Causal::new(store, context),
-                    count,
-                    index: None,
-                    alloc: own,
-                },
-                Err(NotJoined::ByMerge),
-            );
-        };
-        let mut opened = Opened::of(store, index);
-        let joined = join(
-            alloc,
-            &mut opened,
-            &mut context,
-            other.state.store(),
-            other.state.context(),
-        );
-        (opened.closed(own, context), joined)
+        match index {
+            Some(index) => joined_with(alloc, own, state, count, index, other),
+            None => (unindexed(own, state, count), Err(NotJoined::ByMerge)),
+        }
     }
+}
+
+// The tables of a state, without an index.
+fn unindexed(alloc: Global, state: Causal<Stores>, count: usize) -> Tables
+    requires { count ≡ count_stored (stored state.store.first.stores state.store.second.first.stores state.store.second.second.stores) }
+    ensures { result ≡ state_of state.context (stored state.store.first.stores state.store.second.first.stores state.store.second.second.stores) }
+{
+    Tables {
+        state,
+        count,
+        index: None,
+        alloc,
+    }
+}
+
+// The tables of a state and its index with what others know. An `Err` gives the tables of the state. The count is asked
+// for because it says that the rows can be counted.
+fn joined_with(
+    alloc: Global,
+    own: Global,
+    state: Causal<Stores>,
+    _count: usize,
+    index: Index,
+    other: &Tables,
+) -> (Tables, Result<(), NotJoined>)
+    requires members { IsIndex text_cmp state.store.first.stores index.members }
+    requires children { IsIndex text_cmp state.store.second.first.stores index.children }
+    requires names { IsIndex text_cmp state.store.second.second.stores index.names }
+    requires count { _count ≡ count_stored (stored state.store.first.stores state.store.second.first.stores state.store.second.second.stores) }
+    ensures knowledge { OnOk result.1 (knowledge result.0 ≡ together (knowledge (state_of state.context (stored state.store.first.stores state.store.second.first.stores state.store.second.second.stores))) (knowledge other.now)) }
+    ensures err { OnErr result.1 (result.0 ≡ state_of state.context (stored state.store.first.stores state.store.second.first.stores state.store.second.second.stores)) }
+{
+    let (store, mut context) = state.into_parts();
+    let mut opened = Opened::of(store, index);
+    let joined = join(
+        alloc,
+        &mut opened,
+        &mut context,
+        other.state.store(),
+        other.state.context(),
+    );
+    (opened.closed(own, context), joined)
 }
 
 // Takes in the rows and dots of others. An `Err` changes no row and no dot.

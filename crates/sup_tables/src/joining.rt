@@ -59,6 +59,26 @@ impl Lattice for Tables {
         ensures stands { OnOk result ((ops others : List Operation) → StandsFor self.old ops → StandsFor other.now others → NoClash (ops ++ others) → StandsFor self.new (ops ++ others)) }
         ensures err { OnErr result (self.new ≡ self.old) }
     {
+        self.take_in(alloc, other)?;
+        self.context();
+        Ok(())
+    }
+}
+
+// A join is made in place where the other tables know at most an eighth as many dots.
+const SMALL: usize = 8;
+
+impl Tables {
+    // Whether a join with the other tables costs less in place than by a merge, which copies all rows.
+    fn is_small_beside(&self, other: &Tables) -> bool {
+        self.context().len() <= other.context().len() / SMALL
+    }
+
+    // Becomes the join of both, in place where that costs less.
+    fn take_in(&mut self, alloc: Global, other: &Tables) -> Result<(), AllocError>
+        ensures knowledge { OnOk result (knowledge self.new ≡ together (knowledge self.old) (knowledge other.now)) }
+        ensures err { OnErr result (self.new ≡ self.old) }
+    {
         if !other.is_small_beside(self) {
             return self.join_by_merge(alloc, other);
         }
@@ -71,16 +91,6 @@ impl Lattice for Tables {
             Err(NotJoined::OutOfMemory) => Err(AllocError),
             Err(NotJoined::ByMerge) => self.join_by_merge(alloc, other),
         }
-    }
-}
-
-// A join is made in place where the other tables know at most an eighth as many dots.
-const SMALL: usize = 8;
-
-impl Tables {
-    // Whether a join with the other tables costs less in place than by a merge, which copies all rows.
-    fn is_small_beside(&self, other: &Tables) -> bool {
-        self.context().len() <= other.context().len() / SMALL
     }
 
     // Becomes the merge of both: a new state. An `Err` changes nothing.
