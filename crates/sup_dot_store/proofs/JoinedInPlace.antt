@@ -14,7 +14,6 @@ use Rattle.sup_causal.specs.Dots.{dot_cmp, dot_eq}
 use Rattle.sup_causal.specs.DotLaws.{dot_total, dot_exact}
 use Rattle.sup_causal.specs.Join.{lesser}
 use Rattle.sup_dot_store.specs.declared.dot_fun.DotFun.{DotFun}
-use Rattle.sup_dot_store.specs.declared.indexed.join.Outcome.{Outcome}
 use Rattle.sup_dot_store.specs.declared.indexed.join.Outcome.TheVariants.{Gone, Stays, Lesser}
 use Rattle.sup_dot_store.specs.Points.{standing, higher, value_at}
 use Rattle.sup_dot_store.specs.Index.{IsIndex, AreGone, PutsRow, HasSameRows, row_value, value_under}

@@ -14,14 +14,13 @@ use Rattle.sup_causal.specs.Join.{lesser}
 use Rattle.sup_causal.specs.declared.dot.Dot.{Dot}
 use Rattle.sup_causal.specs.Dots.{Context, has}
 use Rattle.sup_dot_store.specs.Points.{standing, standing_higher, higher, value_at}
-use Rattle.sup_tables.specs.declared.row.Row.{Row}
 use Rattle.sup_tables.specs.Rows.{Table, members, children, names}
-use Rattle.sup_tables.specs.States.{State, knowledge, point, together}
-use Rattle.sup_tables.specs.Stored.{Values, Stored, value_in, member_row, child_row, name_row, stored_rows, stored_row, state_of, AreCovered}
+use Rattle.sup_tables.specs.States.{knowledge, point, together}
+use Rattle.sup_tables.specs.Stored.{Values, Stored, value_in, member_row, child_row, name_row, stored_row, state_of, AreCovered}
 use Rattle.sup_tables.specs.InPlace.{AtAll, Same, IsJoined, AreJoined, count_stored}
 use Rattle.sup_tables.proofs.CountLaws.{stored_count}
 use Rattle.sup_tables.proofs.KnowledgeLaws.{same_knowledge}
-use Rattle.sup_tables.proofs.MappedLaws.{IsHigher, AreHigher, point_is, kept_is, knows_together}
+use Rattle.sup_tables.proofs.MappedLaws.{IsHigher, point_is, kept_is, knows_together}
 use Rattle.sup_tables.proofs.OrderedRows.{stored_is}
 use Rattle.sup_tables.proofs.StoredLaws.{IsOrderedStored}
 

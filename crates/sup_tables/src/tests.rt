@@ -1,4 +1,5 @@
 //! Stories of nodes that join, start, register and remove, at values that were worked out by hand.
+mod in_place;
 mod node;
 mod read;
 mod seen;
