@@ -50,7 +50,7 @@ fn agree_after(rt: &(impl Abort + AllocGlobal), story: u32) -> bool {
     let mut b = Node::new(rt, "b");
     let empty = Tables::empty(rt.alloc());
     let mut digits = story;
-    for _ in 0..4 {
+    for _ in 0..3 {
         act(rt, &mut a, &mut b, digits % 8);
         digits /= 8;
     }
@@ -62,7 +62,7 @@ fn agree_after(rt: &(impl Abort + AllocGlobal), story: u32) -> bool {
 
 #[test]
 fn in_place_and_by_a_merge_all_short_stories_end_alike(rt: HostRuntime) {
-    for story in 0..4096 {
+    for story in 0..512 {
         assert!(rt; agree_after(&rt, story));
     }
 }
