@@ -18,10 +18,10 @@ pub record Job (A : Type 0) : Type 1 where
   -- the writer has got a front of it
   pub PrintsFront : A → Bytes → Bytes → Type 0
 
--- The run was stopped: nothing was written, or a front of what the input asks for.
+-- The run was stopped: nothing was written, or a front of what an input asks for that isn't too long.
 abbrev pub StopsAt : {A : Type 0} → Job A → List ℕ → Bytes → Bytes → Type 0
 StopsAt {A} job input before written = Keeps before written
-    ⊎ ((asked : A) × (job.read input ≡ Ok asked) × job.PrintsFront asked before written)
+    ⊎ ((length input ≤ 1048576) × (asked : A) × (job.read input ≡ Ok asked) × job.PrintsFront asked before written)
 
 -- How a run over this input ends, and what the writer has got then.
 abbrev pub EndsAt : {A X : Type 0} → Job A → List ℕ → Bytes → Bytes → Result X Fault → Type 0

@@ -31,7 +31,8 @@ AddsStay =
     (a : Site) (r : Row) → Contains (added a.operations) r → named a.operations r.dot ≡ false
     → Contains (entries (live a.operations) (table_of r.entry) (key_of r.entry)) r
 
--- no two operations of one run add the same dot, whatever weighs members for children
+-- no two operations of one run add the same dot, whatever weighs members for children: an answer tells the dot that its
+-- operation adds
 abbrev pub NoDotTwice : Type 0
 NoDotTwice =
     (weight : Weigher) (names : List Bytes) (steps : List Step) (answers : List Answer) (w : World)

@@ -34,7 +34,8 @@ pub record MessageStandsFor (real : Held) (m : Message) : Type 0 where
 abbrev pub OutboxStandsFor : Outbox → Site → Type 0
 OutboxStandsFor real site = AllZip MessageStandsFor real site.sent
 
--- the nodes and what they sent, one by one, in a world that a run can reach
+-- the nodes and what they sent, one by one, in a world that a run can reach: a join of states stands for both lists of
+-- operations only where no dot has two adds, which runs keep (Sound)
 pub record AllStand (nodes : List Node) (outboxes : List Outbox) (model : World) : Type 0 where
   pub nodes_stand : AllZip NodeStandsFor nodes model.sites
   pub outboxes_stand : AllZip OutboxStandsFor outboxes model.sites
