@@ -1,9 +1,9 @@
 -- Rising lists of dots: those of one that pass a test, and dots that are put into one in place.
-use Rattle.std.proofs.Common.{◌≡◌, ℕ, zero, suc, ◌+◌, ◌<◌, Bool, true, false, not, ◌||◌, ◌&&◌, List, [], ◌∷◌, ◌++◌, length, get_or, take, drop, length-drop, get_or-drop, Ok, Err, refl, sym, ap, ◌∙◌, subst, arith, inl, inr}
-use Rattle.std.specs.declared.cmp.Ordering.TheVariants.{Less}
+use Rattle.std.proofs.Common.{◌≡◌, ℕ, zero, suc, ◌+◌, ◌<◌, ◌≤◌, Bool, true, false, not, ◌||◌, ◌&&◌, List, [], ◌∷◌, ◌++◌, length, get_or, take, drop, length-drop, get_or-drop, Ok, Err, refl, sym, ap, ◌∙◌, subst, arith, inl, inr}
+use Rattle.std.specs.declared.cmp.Ordering.TheVariants.{Less, Equal, Greater}
 use Rattle.std.specs.List.{AllByRecursion, filter}
 use Rattle.std.specs.List.Sorted.{IsSearchInRange, IsBinarySearchResult}
-use Rattle.std.proofs.lemmas.Bool.{or_cases}
+use Rattle.std.proofs.lemmas.Bool.{or_cases, cases_lt}
 use Rattle.std.proofs.lemmas.List.{take-append-drop, get_or_default}
 use Rattle.std.proofs.lemmas.List.Kept.{IsStrictlySortedBy-filter}
 use Rattle.sup_specs.specs.Rising.{IsRising}
@@ -47,6 +47,20 @@ below_found xs rises q i within equal k d lt = subst (λ z. dot_cmp (get_or xs k
 pub below_gap : (xs : List Dot) → IsRising dot_cmp xs → (q : Dot) (i : ℕ) → IsSearchInRange (Err i) (length xs) → IsBinarySearchResult (λ y. dot_cmp y q) xs (Err i)
     → (k : ℕ) (d : Dot) → k < i → dot_cmp (get_or xs k d) q ≡ Less
 below_gap xs rises q i within parted k d lt = let gap = searched dot_total xs rises q (Err i) within parted in gap.1 k d lt
+
+pub no_more_found : (xs : List Dot) → IsRising dot_cmp xs → (q : Dot) (i : ℕ) → IsBinarySearchResult (λ y. dot_cmp y q) xs (Ok i)
+    → (k : ℕ) (d : Dot) → i ≤ k → k < length xs → ¬ (dot_cmp (get_or xs k d) q ≡ Less)
+no_more_found xs rises q i equal k d le within less =
+    elim (cases_lt i k) [
+      | inl lt ↦ let tie : Less ≡ Equal = sym (dot_total.trans (get_or xs i d) (get_or xs k d) q (rising_at dot_total xs rises i k d lt within) less) ∙ equal d in cc
+      | inr ge ↦ let same : i ≡ k = omega (arith, le, ge) in let tie : Less ≡ Equal = sym (subst (λ j. dot_cmp (get_or xs j d) q ≡ Less) (sym same) less) ∙ equal d in cc
+    ]
+
+pub no_more_gap : (xs : List Dot) → IsRising dot_cmp xs → (q : Dot) (i : ℕ) → IsSearchInRange (Err i) (length xs) → IsBinarySearchResult (λ y. dot_cmp y q) xs (Err i)
+    → (k : ℕ) (d : Dot) → i ≤ k → k < length xs → ¬ (dot_cmp (get_or xs k d) q ≡ Less)
+no_more_gap xs rises q i within parted k d le lt less =
+    let gap = searched dot_total xs rises q (Err i) within parted in
+    let tie : Less ≡ Greater = sym less ∙ gap.2 k d le lt in cc
 
 -- ---- a new tail
 each_joint : (P : Dot → Type 0) (xs both : List Dot) (at : ℕ) → AllByRecursion P xs → AllByRecursion P both → AllByRecursion P (take at xs ++ both)

@@ -1,6 +1,6 @@
 //! Causal contexts: which dots a node has seen.
 
-ghost use Rattle.std.specs.Prelude.{◌≡◌, ◌≤◌, ◌||◌, ◌&&◌, ◌↔◌, not, Bool, false, true, IsTrue, IfOk, IfErr, OnOk, OnErr, IfSome, IsNone};
+ghost use Rattle.std.specs.Prelude.{◌≡◌, ◌≤◌, ◌||◌, ◌&&◌, ◌↔◌, not, Bool, false, true, IsTrue, Err, IfOk, IfErr, OnOk, OnErr, IfSome, IsNone};
 ghost use Rattle.std.specs.Prelude.{All};
 ghost use Rattle.sup_specs.specs.Rising.{among, IsRising};
 ghost use Rattle.sup_causal.specs.Cut.{IsVector, IsCloud, IsCanonical, in_parts};
@@ -66,6 +66,7 @@ impl CausalContext {
         ensures vector { IfOk result (λ context. IsVector (has context) vector.now) }
         ensures cloud { IfOk result (λ context. IsCloud (has context) cloud.now) }
         ensures not_canonical { IfErr result (λ fault. fault ≡ NotCanonical → ¬ IsCanonical vector.now cloud.now) }
+        ensures refused { ¬ IsCanonical vector.now cloud.now → result ≡ Err NotCanonical }
         ensures no_cut { IfErr result (λ fault. fault ≡ NotCanonical → (holds : Dot → Bool) → ((d : Dot) → holds d ≡ true → IsCounted d) → IsVector holds vector.now → ¬ IsCloud holds cloud.now) }
     {
         if !is_canonical(vector, cloud) {

@@ -130,6 +130,7 @@ fn place_of(dot: &Dot, dots: &[Dot]) -> usize
     requires { IsRising dot_cmp dots.now }
     ensures bound { result ≤ length dots.now }
     ensures below { (k : ℕ) (d : Dot) → k < result → dot_cmp (slice_index_or dots.now k d) dot.now ≡ Less }
+    ensures no_more { (k : ℕ) (d : Dot) → result ≤ k → k < length dots.now → ¬ (dot_cmp (slice_index_or dots.now k d) dot.now ≡ Less) }
 {
     match dots.binary_search(dot) {
         Ok(at) | Err(at) => at,

@@ -40,6 +40,11 @@ fn the_last_counter_spends_a_node(rt: HostRuntime) {
 }
 
 #[test]
+fn the_last_counter_is_one_below_2_to_the_53(rt: HostRuntime) {
+    assert!(rt; MAX == (1u64 << 53) - 1);
+}
+
+#[test]
 fn canonical_parts_make_a_context(rt: HostRuntime) {
     let a = node(&rt, "a");
     let known = Known::of_parts(&rt, &[(a, 1)], &[dot(a, 3)]);

@@ -241,6 +241,8 @@ fn an_id_is_shown_as_it_was_read(rt: HostRuntime) -> Result<(), Fail> {
 fn a_fault_says_what_is_wrong_and_where(rt: HostRuntime) -> Result<(), Fail> {
     for (fault, text) in [
         (TextFault::Empty, "the text is empty"),
+        (TextFault::TooLong, "the text is too long"),
+        (TextFault::OutOfMemory, "out of memory"),
         (TextFault::BadByte(3), "the byte at place 3 is not allowed"),
     ] {
         let shown = format!(in rt.alloc(); "{fault}")?;

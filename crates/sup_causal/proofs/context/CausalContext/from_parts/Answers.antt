@@ -8,6 +8,9 @@ pub returns-then-not-is_canonical-clause-no_cut : goal.returns-then-not-is_canon
 returns-then-not-is_canonical-clause-no_cut c is holds counted vector cloud =
     false≢true (sym c.if-not-is_canonical.true ∙ c.is_canonical.ensures.1 (cut_canonical holds counted c.args.vector.now c.args.cloud.now vector cloud))
 
+pub returns-clause-refused : goal.returns-clause-refused
+returns-clause-refused c wrong = absurd (wrong (c.is_canonical.ensures.0 c.if-not-is_canonical.false))
+
 pub returns-clause-dots : goal.returns-clause-dots
 unfolding has
 returns-clause-dots c = c.in_ok-dots.ensures.dots
