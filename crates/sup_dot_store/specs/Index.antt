@@ -28,7 +28,8 @@ abbrev pub HasOneRow : {V : Type 0} → Option (DotFun V) → Type 0
 HasOneRow None = ⊥
 HasOneRow (Some f) = length (values_of f).entries ≡ 1
 
--- the keys tell of each dot under which key it has a value; no dot has values under two keys
+-- the keys tell of each dot under which key it has a value; no dot has values under two keys, there are as many keys as
+-- values, and no function is empty
 pub record IsIndex {K V : Type 0} (cmp : K → K → Ordering) (stores : BTreeMap K (DotFun V)) (keys : BTreeMap Dot K) : Type 0 where
   pub found : (d : Dot) (k : K) → IsSome (value_under cmp stores k d) → get dot_cmp keys d ≡ Some k
   pub there : (d : Dot) (k : K) → get dot_cmp keys d ≡ Some k → IsSome (value_under cmp stores k d)
@@ -62,7 +63,7 @@ TakesDots {K} cmp listed old new = (k : K) (d : Dot) → value_under cmp new k d
 abbrev pub HasSameRows : {K V : Type 0} → (K → K → Ordering) → BTreeMap K (DotFun V) → BTreeMap K (DotFun V) → Type 0
 HasSameRows {K} cmp old new = (k : K) (d : Dot) → value_under cmp new k d ≡ value_under cmp old k d
 
--- of the dots that two states know, those are gone that have a value at one and none under the same key at the other
+-- taking the gone dots away here leaves at each dot that both states know what a join gives
 pub record AreGone {K V : Type 0} (lesser : V → V → V) (cmp : K → K → Ordering) (known gone : Dot → Bool) (mine theirs : BTreeMap K (DotFun V)) : Type 0 where
   pub in_known : (d : Dot) → gone d ≡ true → known d ≡ true
   pub joined : (k : K) (d : Dot) → known d ≡ true → cond (gone d) None (value_under cmp mine k d) ≡ value_at (higher lesser (standing true (value_under cmp mine k d)) (standing true (value_under cmp theirs k d)))

@@ -73,7 +73,7 @@ AreInOrder rows = IsRising place_cmp rows
 abbrev pub value_cmp : Entry → Entry → Ordering
 value_cmp = then_cmp (on info_of info_cmp) (then_cmp (on spec_of spec_cmp) (on target_of text_cmp))
 
--- by table, key and dot. (Two rows of one dot and place, which no run among, go by value.)
+-- by table, key and dot. (Two rows of one dot and place, which no run makes, go by value.)
 abbrev pub row_cmp : Row → Row → Ordering
 row_cmp =
     then_cmp (on (λ r. table_place (table_of r.entry)) nat_cmp)
