@@ -38,7 +38,11 @@ impl From<AllocError> for NotJoined {
 }
 
 impl From<NotPut> for NotJoined {
-    ghost from_gives = { λ _ _. Unit {0} };
+    ghost use Rattle.std.specs.Prelude.{◌≡◌};
+    ghost use Rattle.sup_tables.specs.declared.in_place.NotJoined.TheVariants.{ByMerge, OutOfMemory};
+    ghost use Rattle.sup_dot_store.specs.declared.indexed.join.NotPut.TheVariants.{TwoKeys, OutOfMemory as NoMemory};
+
+    ghost from_gives = { λ fault given. (fault ≡ TwoKeys → given ≡ ByMerge) × (fault ≡ NoMemory → given ≡ OutOfMemory) };
 
     fn from(fault: NotPut) -> NotJoined {
         match fault {

@@ -1,6 +1,6 @@
 //! The rows of tables, open to change.
 
-ghost use Rattle.std.specs.Prelude.{◌≡◌, ◌≤◌, ◌<◌, IfOk, OnOk, IfSome, Some};
+ghost use Rattle.std.specs.Prelude.{◌≡◌, ◌≤◌, ◌<◌, IfOk, OnOk, IfSome, IfNone, IsErrOf, Some};
 ghost use Rattle.sup_specs.specs.Rising.{among};
 ghost use Rattle.sup_specs.specs.Values.{text_cmp};
 ghost use Rattle.sup_causal.specs.Dots.{has, dot_cmp};
@@ -172,7 +172,8 @@ impl Opened {
 }
 
 fn found(gone: Option<Vec<Dot>>) -> Result<Vec<Dot>, NotJoined>
-    ensures { IfOk result (λ dots. gone ≡ Some dots) }
+    ensures some { IfOk result (λ dots. gone ≡ Some dots) }
+    ensures none { IfNone gone (IsErrOf result NotJoined.ByMerge) }
 {
     gone.ok_or(NotJoined::ByMerge)
 }
