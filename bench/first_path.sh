@@ -8,6 +8,7 @@ rounds=${2:-3}
 top=$(cd "$(dirname "$0")/.." && pwd)
 work=$(mktemp -d)
 trap 'rm -rf "$work"' EXIT
+. "$top/bench/timing.bash"
 
 script() {
   local count=$1
@@ -23,28 +24,14 @@ script() {
   echo "show b"
 }
 
-# The least of some rounds, in milliseconds.
-least() {
-  local best=
-  for _ in $(seq "$rounds"); do
-    local begin end took
-    begin=$(date +%s%N)
-    "$@" <"$work/script" >"$work/output"
-    end=$(date +%s%N)
-    took=$(((end - begin) / 1000))
-    if [ -z "$best" ] || [ "$took" -lt "$best" ]; then best=$took; fi
-  done
-  echo "$best"
-}
-
 "$top/supctl" simulate <<<'nodes a' >"$work/output"
 previous_own=
 previous_other=
 for count in 1000 9995; do
   script "$count" >"$work/script"
-  other_took=$(least "$other")
+  other_took=$(least "$rounds" "$work/script" "$other")
   cp "$work/output" "$work/expected"
-  own_took=$(least "$top/supctl" simulate)
+  own_took=$(least "$rounds" "$work/script" "$top/supctl" simulate)
   cmp -s "$work/output" "$work/expected" && same="same output" || same="OTHER OUTPUT"
   awk -v n="$count" -v own="$own_took" -v other="$other_took" -v same="$same" \
     'BEGIN { printf "%d starts: supctl %.1f ms, other %.1f ms, ratio %.1f, %s\n", n, own / 1000, other / 1000, own / other, same }'

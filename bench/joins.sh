@@ -9,6 +9,7 @@ rounds=${2:-3}
 top=$(cd "$(dirname "$0")/.." && pwd)
 work=$(mktemp -d)
 trap 'rm -rf "$work"' EXIT
+. "$top/bench/timing.bash"
 operations=2000
 
 starts() { seq -f "start $1 $2%05.0f arg=x" 1 "$3"; }
@@ -28,25 +29,11 @@ equal() {
   printf 'deliver b 1\nship a b\ndeliver a 1\nship a b\n'
 }
 
-# The least of some rounds over a script, in microseconds.
-least() {
-  local script=$1 best= begin end took
-  shift
-  for _ in $(seq "$rounds"); do
-    begin=$(date +%s%N)
-    "$@" <"$script" >"$work/output"
-    end=$(date +%s%N)
-    took=$(((end - begin) / 1000))
-    if [ -z "$best" ] || [ "$took" -lt "$best" ]; then best=$took; fi
-  done
-  echo "$best"
-}
-
 # What the script `more` takes longer than the script `base`, by so many.
 report() {
   local what=$1 by=$2 unit=$3
   shift 3
-  awk -v what="$what" -v more="$(least "$work/more" "$@")" -v base="$(least "$work/base" "$@")" -v by="$by" -v unit="$unit" \
+  awk -v what="$what" -v more="$(least "$rounds" "$work/more" "$@")" -v base="$(least "$rounds" "$work/base" "$@")" -v by="$by" -v unit="$unit" \
     'BEGIN { printf "%s: %.2f microseconds %s\n", what, (more - base) / by, unit }'
 }
 
