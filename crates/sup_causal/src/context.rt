@@ -81,6 +81,7 @@ impl CausalContext {
     pub fn counted(&self)
         ensures { (d : Dot) → has self.now d ≡ true → IsCounted d }
     {
+        // The read alone shows the prover how the dots are kept.
         let _dots = &self.dots;
     }
 
