@@ -12,7 +12,8 @@ use Rattle.sup_specs.specs.Rising.{IsRising, among}
 use Rattle.sup_causal.specs.declared.dot.Dot.{Dot}
 use Rattle.sup_causal.specs.declared.dot.TheConstants.{MAX}
 use Rattle.sup_causal.specs.Dots.{dot_cmp, dot_eq, list_has, IsCounted}
-use Rattle.sup_causal.specs.Cut.{name_cmp, entry, IsRun, IsVector, IsCloud, IsCanonical, in_parts}
+use Rattle.sup_specs.specs.Values.{text_cmp}
+use Rattle.sup_causal.specs.Cut.{entry, IsRun, IsVector, IsCloud, IsCanonical, in_parts}
 use Rattle.sup_causal.proofs.DotLemmas.{dot_eq-true, among_is, each_has, each_from_has}
 use Rattle.sup_causal.proofs.Sorted.{rising_from_sorted, sorted_from_rising, pairs_rise}
 use Rattle.sup_causal.proofs.CutLemmas.{run_is_one, entry_found}
@@ -27,9 +28,9 @@ positive : (n : ℕ) → (n ≡ 0 → ⊥) → 1 ≤ n
 positive zero none = absurd (none refl)
 positive (suc n) none = omega arith
 
-pub vector_is : (holds : Dot → Bool) (m : BTreeMap (List ℕ) ℕ) → IsOrdered name_cmp m → ((node : List ℕ) → IsRun holds node (entry m.entries node)) → ((node : List ℕ) → ¬ (get name_cmp m node ≡ Some 0)) → IsVector holds m.entries
+pub vector_is : (holds : Dot → Bool) (m : BTreeMap (List ℕ) ℕ) → IsOrdered text_cmp m → ((node : List ℕ) → IsRun holds node (entry m.entries node)) → ((node : List ℕ) → ¬ (get text_cmp m node ≡ Some 0)) → IsVector holds m.entries
 vector_is holds m ordered runs none_zero = record {
-  by_name = rising_from_sorted name_cmp (keys_of m.entries) ordered;
+  by_name = rising_from_sorted text_cmp (keys_of m.entries) ordered;
   runs = runs;
   left_out = recursion_from_All (λ (e : List ℕ × ℕ). 1 ≤ e.1) m.entries (λ k d within. positive _ (λ none. none_zero (get_or m.entries k d).0 (
       btree_map_get_place nat_list_cmp_total m k (get_or m.entries k d).0 (get_or m.entries k d).1 ordered (get_slice m.entries k d within) ∙ ap Some none)));
@@ -113,7 +114,7 @@ module _ (holds : Dot → Bool) (counted : (d : Dot) → holds d ≡ true → Is
     by_name = is_vector.by_name;
     entries = recursion_from_All (λ (e : List ℕ × ℕ). (1 ≤ e.1) × (e.1 ≤ MAX)) vector (λ k d within.
         let low : 1 ≤ (get_or vector k d).1 = All-from_recursion (λ (e : List ℕ × ℕ). 1 ≤ e.1) vector is_vector.left_out k d within in
-        let is : entry vector (get_or vector k d).0 ≡ (get_or vector k d).1 = entry_found vector (pairs_rise name_cmp vector is_vector.by_name) k (get_or vector k d).0 d within (tied_itself nat_list_cmp_total (get_or vector k d).0) in
+        let is : entry vector (get_or vector k d).0 ≡ (get_or vector k d).1 = entry_found vector (pairs_rise text_cmp vector is_vector.by_name) k (get_or vector k d).0 d within (tied_itself nat_list_cmp_total (get_or vector k d).0) in
         let last : IsCounted (record { counter = (get_or vector k d).1; node = (get_or vector k d).0 }) = counted (record { counter = (get_or vector k d).1; node = (get_or vector k d).0 }) ((is_vector.runs (get_or vector k d).0).all_there (get_or vector k d).1 low (omega (arith, is))) in
         (low, last.1));
     in_order = is_cloud.in_order;

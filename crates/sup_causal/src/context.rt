@@ -5,7 +5,7 @@ ghost use Rattle.std.specs.Prelude.{All};
 ghost use Rattle.sup_specs.specs.Rising.{among, IsRising};
 ghost use Rattle.sup_causal.specs.Cut.{IsVector, IsCloud, IsCanonical, in_parts};
 ghost use Rattle.sup_causal.specs.declared.parts.PartsFault.TheVariants.{NotCanonical};
-ghost use Rattle.sup_causal.specs.Dots.{has, size, dot_cmp, dot_eq, IsCounted, IsGreatest, IsNext};
+ghost use Rattle.sup_causal.specs.Dots.{has, dot_cmp, dot_eq, IsCounted, IsCountOf, IsGreatest, IsNext};
 
 use crate::cut::{cloud_of, runs_of, vector_of};
 use crate::dot::{Dot, MAX};
@@ -43,7 +43,8 @@ impl CausalContext {
         }
     }
 
-    /// The context with the dots of a list, in whatever order they stand and however often. Refused only for memory.
+    /// The context with the dots of a list, in whatever order they stand and however often. Each passes
+    /// [`Dot::is_counted`]. Refused only for memory.
     pub fn of_dots(alloc: Global, dots: &[Dot]) -> Result<CausalContext, AllocError>
         requires { All IsCounted dots.now }
         ensures { IfOk result (λ context. (d : Dot) → has context d ≡ among dot_cmp dots.now d) }
@@ -80,6 +81,7 @@ impl CausalContext {
     pub fn counted(&self)
         ensures { (d : Dot) → has self.now d ≡ true → IsCounted d }
     {
+        // The read alone shows the prover how the dots are kept.
         let _dots = &self.dots;
     }
 
@@ -93,12 +95,12 @@ impl CausalContext {
 
     /// How many dots there are.
     pub fn len(&self) -> usize
-        ensures { result ≡ size self.now }
+        ensures { IsCountOf (has self.now) result }
     {
         self.dots.len()
     }
 
-    /// Adds a dot. Where memory is refused the context stays as it was.
+    /// Adds a dot, which passes [`Dot::is_counted`]. Where memory is refused the context stays as it was.
     pub fn insert(&mut self, dot: Dot) -> Result<(), AllocError>
         requires { IsCounted dot }
         ensures ok { OnOk result ((d : Dot) → has self.new d ≡ (dot_eq dot d || has self.old d)) }

@@ -3,7 +3,8 @@
 ghost use Rattle.std.specs.Prelude.{◌≡◌, ℕ, List, nat_lt, Some, IfOk};
 ghost use Rattle.std.specs.List.{filter};
 ghost use Rattle.std.specs.BTreeMap.{IsOrdered, get};
-ghost use Rattle.sup_causal.specs.Cut.{name_cmp, entry, IsRun};
+ghost use Rattle.sup_specs.specs.Values.{text_cmp};
+ghost use Rattle.sup_causal.specs.Cut.{entry, IsRun};
 ghost use Rattle.sup_causal.specs.Dots.{list_has, IsKept};
 
 use crate::dot::Dot;
@@ -15,9 +16,9 @@ use sup_specs::NodeName;
 // Counters rise along the list, so a run goes on exactly at the dot that is one above it.
 pub(crate) fn runs_of(alloc: Global, dots: &[Dot]) -> Result<BTreeMap<NodeName, u64>, AllocError>
     requires { IsKept dots.now }
-    ensures ordered { IfOk result (IsOrdered name_cmp) }
+    ensures ordered { IfOk result (IsOrdered text_cmp) }
     ensures runs { IfOk result (λ runs. (node : List ℕ) → IsRun (list_has dots.now) node (entry runs.entries node)) }
-    ensures none_zero { IfOk result (λ runs. (node : List ℕ) → ¬ (get name_cmp runs node ≡ Some 0)) }
+    ensures none_zero { IfOk result (λ runs. (node : List ℕ) → ¬ (get text_cmp runs node ≡ Some 0)) }
 {
     let mut runs = BTreeMap::new(alloc);
     for dot in dots {

@@ -1,5 +1,8 @@
 //! Dots: the events of nodes, counted node by node.
 
+ghost use Rattle.std.specs.Prelude.{◌↔◌, IsTrue};
+ghost use Rattle.sup_causal.specs.Dots.{IsCounted};
+
 use std::alloc::{AllocError, Global};
 use sup_specs::{NodeName, Plain};
 
@@ -13,6 +16,15 @@ pub const MAX: u64 = 9_007_199_254_740_991;
 pub struct Dot {
     pub counter: u64,
     pub node: NodeName,
+}
+
+impl Dot {
+    /// Whether the counter is in its limits, from 1 to [`MAX`].
+    pub fn is_counted(&self) -> bool
+        ensures { IsTrue result ↔ IsCounted self.now }
+    {
+        1 <= self.counter && self.counter <= MAX
+    }
 }
 
 impl Plain for Dot {

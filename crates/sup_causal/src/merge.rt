@@ -49,6 +49,7 @@ pub fn merge_maps<K: Plain, V: Drop, M: Merge<K, V>>(
         let merged = by.merge(alloc, key, left_value, right_value)?;
         put_merge(alloc, &mut out, key, merged)?;
     }
+    // For its clause alone, as a map is not told to be in order by its puts.
     keys_rise(&out);
     Ok(out)
 }

@@ -4,7 +4,8 @@ ghost use Rattle.std.specs.Prelude.{◌≡◌, ◌+◌, ◌≤◌, ◌||◌, ◌
 ghost use Rattle.std.specs.List.{AllByRecursion};
 ghost use Rattle.std.specs.Map.{keys_of};
 ghost use Rattle.sup_specs.specs.Rising.{IsRising};
-ghost use Rattle.sup_causal.specs.Cut.{name_cmp, entry, IsCanonical, in_run, in_runs, in_parts};
+ghost use Rattle.sup_specs.specs.Values.{text_cmp};
+ghost use Rattle.sup_causal.specs.Cut.{entry, IsCanonical, in_run, in_runs, in_parts};
 ghost use Rattle.sup_causal.specs.Dots.{list_has, dot_cmp, IsCounted, IsKept};
 
 use crate::dot::{Dot, MAX};
@@ -56,7 +57,7 @@ pub(crate) fn dots_of(
 }
 
 fn names_rise(vector: &[(NodeName, u64)]) -> bool
-    ensures { IsTrue result ↔ IsRising name_cmp (keys_of vector.now) }
+    ensures { IsTrue result ↔ IsRising text_cmp (keys_of vector.now) }
 {
     vector.is_sorted_by(|left, right| left.0 < right.0)
 }
@@ -74,7 +75,7 @@ fn all_counted(vector: &[(NodeName, u64)]) -> bool
 }
 
 fn all_apart(vector: &[(NodeName, u64)], cloud: &[Dot]) -> bool
-    requires { IsRising name_cmp (keys_of vector.now) }
+    requires { IsRising text_cmp (keys_of vector.now) }
     ensures { IsTrue result ↔ All (λ d. (entry vector.now d.node + 2 ≤ d.counter) × (d.counter ≤ MAX)) cloud.now }
 {
     for dot in cloud {
@@ -87,7 +88,7 @@ fn all_apart(vector: &[(NodeName, u64)], cloud: &[Dot]) -> bool
 
 // Whether the dot's counter is in its limits and at least 2 above its node's entry.
 fn is_apart(vector: &[(NodeName, u64)], dot: &Dot) -> bool
-    requires { IsRising name_cmp (keys_of vector.now) }
+    requires { IsRising text_cmp (keys_of vector.now) }
     ensures { IsTrue result ↔ (entry vector.now dot.now.node + 2 ≤ dot.now.counter) × (dot.now.counter ≤ MAX) }
 {
     dot.counter <= MAX && entry_in(vector, &dot.node).saturating_add(2) <= dot.counter
@@ -95,7 +96,7 @@ fn is_apart(vector: &[(NodeName, u64)], dot: &Dot) -> bool
 
 // A node's entry, 0 where it has none.
 fn entry_in(vector: &[(NodeName, u64)], node: &NodeName) -> u64
-    requires { IsRising name_cmp (keys_of vector.now) }
+    requires { IsRising text_cmp (keys_of vector.now) }
     ensures { result ≡ entry vector.now node.now }
 {
     match vector.binary_search_by(|entry| entry.0.cmp(node)) {

@@ -11,3 +11,4 @@ pub mod IndexLaws
 pub mod IndexMade
 pub mod RowValues
 pub mod JoinedInPlace
+pub mod FreshRows

@@ -1,4 +1,4 @@
--- What a contract sees of the stores and of a state.
+-- What a contract sees of the stores and of a state (Almeida, Shoker, Baquero 2018).
 use Rattle.std.specs.declared.cmp.PartialEq.{Ghosts as EqGhosts}
 use Rattle.std.specs.declared.cmp.PartialOrd.{Ghosts as PartialOrdGhosts}
 use Rattle.std.specs.declared.cmp.Ord.{Ghosts as OrdGhosts}

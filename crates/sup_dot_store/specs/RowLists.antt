@@ -1,4 +1,4 @@
--- The rows of functions under keys as a list: by key, and under one key by dot.
+-- The rows of functions under keys as a list, by key, and under one key by dot (this project).
 use Rattle.std.specs.Prelude.{◌≡◌, false, List, [], ◌∷◌, ◌++◌, map}
 use Rattle.std.specs.declared.cmp.Ordering.{Ordering}
 use Rattle.std.specs.declared.cmp.Ordering.TheVariants.{Less}

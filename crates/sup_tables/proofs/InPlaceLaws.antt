@@ -13,7 +13,8 @@ use Rattle.sup_specs.specs.contracts.child.MemberInfoOrd.TheImpl as member_info_
 use Rattle.sup_causal.specs.Join.{lesser}
 use Rattle.sup_causal.specs.declared.dot.Dot.{Dot}
 use Rattle.sup_causal.specs.Dots.{Context, has}
-use Rattle.sup_dot_store.specs.Points.{standing, standing_higher, higher, value_at}
+use Rattle.sup_dot_store.proofs.Causals.{standing_higher}
+use Rattle.sup_dot_store.specs.Points.{standing, higher, value_at}
 use Rattle.sup_tables.specs.Rows.{Table, members, children, names}
 use Rattle.sup_tables.specs.States.{knowledge, point, together}
 use Rattle.sup_tables.specs.Stored.{Values, Stored, value_in, member_row, child_row, name_row, stored_row, state_of, AreCovered}

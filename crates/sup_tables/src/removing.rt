@@ -43,7 +43,7 @@ impl Tables {
     }
 
     /// The tables of the one operation that removes the child that ran under the dot, and no other entry of its id.
-    /// An `Err` where a growth was refused.
+    /// The dot passes [`Dot::is_counted`]. An `Err` where a growth was refused.
     pub fn finish_child(&self, dot: Dot) -> Result<Tables, AllocError>
         requires { IsCounted dot }
         ensures { IfOk result (λ t. StandsFor t (finish_child dot ∷ [])) }

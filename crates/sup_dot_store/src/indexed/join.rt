@@ -1,6 +1,6 @@
 //! The rows of others, taken in where they are new, and rows taken away where others know that they are gone.
 
-ghost use Rattle.std.specs.Prelude.{◌≡◌, ◌≤◌, true, false, IsSome, IfOk, IfSome, OnOk};
+ghost use Rattle.std.specs.Prelude.{◌≡◌, ◌≤◌, true, false, IsSome, IfOk, IfErr, IfSome, OnOk};
 ghost use Rattle.std.specs.Option.{option_copied};
 ghost use Rattle.std.specs.BTreeMap.{values};
 ghost use Rattle.sup_specs.specs.Rising.{among};
@@ -8,7 +8,8 @@ ghost use Rattle.sup_causal.specs.declared.dot.Dot.{Dot as DotValue};
 ghost use Rattle.sup_causal.specs.Join.{lesser};
 ghost use Rattle.sup_causal.specs.Dots.{has, dot_cmp};
 ghost use Rattle.sup_dot_store.specs.Contents.{stores_of};
-ghost use Rattle.sup_dot_store.specs.Index.{AreGone, TakesDots, count_in, row_value, value_under};
+ghost use Rattle.sup_dot_store.specs.Index.{AreGone, StopsAt, TakesDots, count_in, row_value, value_under};
+ghost use Rattle.sup_dot_store.specs.declared.indexed.join.NotPut.TheVariants.{TwoKeys, OutOfMemory};
 ghost use Rattle.sup_dot_store.specs.Outcomes.{outcome};
 
 use crate::dot_fun::DotFun;
@@ -39,8 +40,8 @@ impl From<AllocError> for NotPut {
 }
 
 impl<K: Plain, V: Plain> Indexed<K, V> {
-    /// Puts in those of the rows whose dots the context lacks. After an `Err` some of them are in. `TwoKeys` where
-    /// such a dot would have values under two keys, else `OutOfMemory`.
+    /// Puts in those of the rows whose dots the context lacks. After an `Err` those before some row are in, whose dot
+    /// the context lacks: `TwoKeys` where that dot stands in a row before it too, `OutOfMemory` only where it doesn't.
     pub fn put_fresh(
         &mut self,
         alloc: Global,
@@ -51,6 +52,8 @@ impl<K: Plain, V: Plain> Indexed<K, V> {
         ensures known { (k : K) (d : DotValue) → has mine.now d ≡ true → value_under K.cmp self.new.stores k d ≡ value_under K.cmp self.old.stores k d }
         ensures fresh { OnOk result ((k : K) (d : DotValue) → has mine.now d ≡ false → value_under K.cmp self.new.stores k d ≡ row_value K.cmp rows.items k d) }
         ensures brought { (k : K) (d : DotValue) → has mine.now d ≡ false → IsSome (value_under K.cmp self.new.stores k d) → IsSome (row_value K.cmp rows.items k d) }
+        ensures two_keys { IfErr result (λ fault. fault ≡ TwoKeys → StopsAt K.cmp (has mine.now) rows.items true self.new.stores) }
+        ensures no_memory { IfErr result (λ fault. fault ≡ OutOfMemory → StopsAt K.cmp (has mine.now) rows.items false self.new.stores) }
     {
         for (key, dot, value) in rows {
             if mine.contains(&dot) {

@@ -1,7 +1,13 @@
-use Rattle.std.proofs.Common.{length, ap, arith}
-use Rattle.sup_causal.specs.Dots.{size}
+use Rattle.std.proofs.Common.{sym, ap, ◌∙◌, arith}
+use Rattle.sup_causal.specs.Dots.{has, list_has}
+use Rattle.sup_causal.proofs.DotLemmas.{among_is}
 use Rattle.sup_causal.proofs.context.CausalContext.len.Goals as goal
 
 pub returns : goal.returns
-unfolding size
-returns c = omega (arith, ap length c.self.view_is)
+unfolding has
+returns c = record {
+  dots = c.self.inside.dots.items;
+  once = c.self.invariant.rising;
+  each = λ d. sym (among_is c.self.inside.dots.items d) ∙ ap (λ dots. list_has dots d) c.self.view_is;
+  as_many = omega arith;
+}
