@@ -22,7 +22,7 @@ use Rattle.sup_tables.proofs.OperationLaws.{both_ways}
 use Rattle.sup_tables.proofs.AddLaws.{same_row, or-left, or-right, and-first, and-second, has_live, known_of_added, known_of_named, added_of_known, among-added-append}
 
 -- of a list that all pass and one passes, one that passes both
-one_of_all : {X : Type 0} (p q : X → Bool) (xs : List X) → list_all p xs ≡ true → list_any q xs ≡ true → (x : X) × (p x ≡ true) × (q x ≡ true)
+pub one_of_all : {X : Type 0} (p q : X → Bool) (xs : List X) → list_all p xs ≡ true → list_any q xs ≡ true → (x : X) × (p x ≡ true) × (q x ≡ true)
 one_of_all p q [] all one = absurd (true≢false (sym one))
 one_of_all p q (x ∷ xs) all one =
     elim (p x) as (λ a. p x ≡ a → (a && list_all p xs) ≡ true → (q x || list_any q xs) ≡ true → (x : _) × (p x ≡ true) × (q x ≡ true)) [
@@ -87,7 +87,7 @@ below-from_Covers ops others c =
           ∙ live-from (ops ++ others) r (named-append ops others r.dot ∙ (λ i. n i || (live-parts others r l).0 i)) (among-added-append ops others r ∙ or-right (among row_cmp (added ops) r) (among row_cmp (added others) r) (live-parts others r l).1))).1;
     }
 
-absorbed-true : (x y : Bool) → (y ≡ true → x ≡ true) → (x || y) ≡ x
+pub absorbed-true : (x y : Bool) → (y ≡ true → x ≡ true) → (x || y) ≡ x
 absorbed-true true y f = refl
 absorbed-true false true f = sym (f refl)
 absorbed-true false false f = refl

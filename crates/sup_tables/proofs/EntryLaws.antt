@@ -78,13 +78,13 @@ module _ {V : Type 0} (make : Bytes → Dot → V → Row) (table : Table) (at_m
       (entries_in k es s.1) (is_key (text_cmp k) e.0) refl
 
 pub no_members : (t : Table) (k : Bytes) → ((l : Bytes) (d : Dot) (v : MemberInfo) → is_at t k (member_row l d v) ≡ false) → (es : Values MemberInfo) → filter (is_at t k) (rows_in member_row es) ≡ []
-no_members t k h es = filter_none (is_at t k) (rows_in member_row es) (all_rows member_row (λ k d v. refl) (λ k d v. refl) 0 (λ k d v. refl) refl (λ r. is_at t k r ≡ false) h es)
+no_members t k h es = filter_none (is_at t k) (rows_in member_row es) (all_rows member_row (λ r. is_at t k r ≡ false) h es)
 
 no_children : (t : Table) (k : Bytes) → ((l : Bytes) (d : Dot) (v : ChildSpec) → is_at t k (child_row l d v) ≡ false) → (es : Values ChildSpec) → filter (is_at t k) (rows_in child_row es) ≡ []
-no_children t k h es = filter_none (is_at t k) (rows_in child_row es) (all_rows child_row (λ k d v. refl) (λ k d v. refl) 1 (λ k d v. refl) refl (λ r. is_at t k r ≡ false) h es)
+no_children t k h es = filter_none (is_at t k) (rows_in child_row es) (all_rows child_row (λ r. is_at t k r ≡ false) h es)
 
 no_names : (t : Table) (k : Bytes) → ((l : Bytes) (d : Dot) (v : Bytes) → is_at t k (name_row l d v) ≡ false) → (es : Values Bytes) → filter (is_at t k) (rows_in name_row es) ≡ []
-no_names t k h es = filter_none (is_at t k) (rows_in name_row es) (all_rows name_row (λ k d v. refl) (λ k d v. refl) 2 (λ k d v. refl) refl (λ r. is_at t k r ≡ false) h es)
+no_names t k h es = filter_none (is_at t k) (rows_in name_row es) (all_rows name_row (λ r. is_at t k r ≡ false) h es)
 
 module _ (context : Context) (s : Stored) (o : IsOrderedStored s) (k : Bytes) where
   parts : (t : Table) → entries (state_of context s).rows t k ≡ filter (is_at t k) (rows_in member_row s.member_values) ++ (filter (is_at t k) (rows_in child_row s.child_values) ++ filter (is_at t k) (rows_in name_row s.name_values))

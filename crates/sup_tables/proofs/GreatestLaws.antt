@@ -21,7 +21,7 @@ of_one None removes d = refl
 of_one (Some r) removes d = refl
 
 -- the dots that are known are those of the operations
-known_among : (ops : List Operation) (d : Dot) → known ops d ≡ among dot_cmp (flat_map dots_of ops) d
+pub known_among : (ops : List Operation) (d : Dot) → known ops d ≡ among dot_cmp (flat_map dots_of ops) d
 known_among [] d = refl
 known_among (op ∷ ops) d = (λ i. of_one op.add op.removes d i || known_among ops d i) ∙ sym (list_any-append (eq_by_cmp dot_cmp d) (dots_of op) (flat_map dots_of ops))
 
@@ -86,7 +86,8 @@ module _ (node : Bytes) where
   reached [] pos = absurd (omega arith)
   reached (x ∷ xs) pos = reached_at x xs (own xs) (reached xs) (eq_by_cmp text_cmp node x.node) refl pos
 
-greatest_is : (ops : List Operation) (node : Bytes) → IsGreatest (known ops) node (greatest ops node)
+-- the greatest counter by its definition is the greatest of the known dots
+pub greatest_is : (ops : List Operation) (node : Bytes) → IsGreatest (known ops) node (greatest ops node)
 greatest_is ops node = record {
   bound = λ d mine k. bound node (flat_map dots_of ops) d mine (sym (known_among ops d) ∙ k);
   reached = λ pos. known_among ops (record { counter = greatest ops node; node = node }) ∙ reached node (flat_map dots_of ops) pos;
@@ -96,7 +97,8 @@ at_most : (holds : Dot → Bool) (node : Bytes) (n m : ℕ) → IsGreatest holds
 at_most holds node zero m a b = omega arith
 at_most holds node (suc n) m a b = b.bound (record { counter = suc n; node = node }) refl (a.reached (omega arith))
 
-one_greatest : (holds : Dot → Bool) (node : Bytes) (n m : ℕ) → IsGreatest holds node n → IsGreatest holds node m → n ≡ m
+-- there is one greatest counter
+pub one_greatest : (holds : Dot → Bool) (node : Bytes) (n m : ℕ) → IsGreatest holds node n → IsGreatest holds node m → n ≡ m
 one_greatest holds node n m a b = let le = at_most holds node n m a b in let ge = at_most holds node m n b a in omega arith
 
 of_same : (holds others : Dot → Bool) → ((d : Dot) → holds d ≡ others d) → (node : Bytes) (n : ℕ) → IsGreatest holds node n → IsGreatest others node n
@@ -107,7 +109,7 @@ greatest_same ops others same node =
     one_greatest (known others) node (greatest ops node) (greatest others node) (of_same (known ops) (known others) (known_same ops others same) node (greatest ops node) (greatest_is ops node)) (greatest_is others node)
 
 module _ (context : Context) (ops : List Operation) (stands : (d : Dot) → has context d ≡ known ops d) where
-  here_greatest : (node : Bytes) → IsGreatest (has context) node (greatest ops node)
+  pub here_greatest : (node : Bytes) → IsGreatest (has context) node (greatest ops node)
   here_greatest node = of_same (known ops) (has context) (λ d. sym (stands d)) node (greatest ops node) (greatest_is ops node)
 
   pub stood_greatest : (node : Bytes) (n : ℕ) → (IsGreatest (has context) node n ↔ (n ≡ greatest ops node))

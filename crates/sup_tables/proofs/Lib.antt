@@ -13,6 +13,7 @@ pub mod KnowledgeLaws
 pub mod RemovalLaws
 pub mod WinnerLaws
 pub mod GreatestLaws
+pub mod CoverTests
 pub mod WorkedRows
 pub mod PlacedRows
 pub mod InPlaceLaws

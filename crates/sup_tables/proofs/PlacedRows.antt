@@ -1,45 +1,29 @@
--- Rows in order of their places: their order, and what they are table by table.
+-- Rows in order of their places are their members, then their children, then their names.
 use Rattle.std.specs.Prelude.{◌≡◌, Bool, true, false, ◌||◌, List, [], ◌∷◌, ◌++◌, map, filter_map, Option, Some, None, IsSome, refl}
 use Rattle.std.specs.Option.{option_map}
 use Rattle.std.specs.List.{AllByRecursion, cons_option}
 use Rattle.std.specs.declared.cmp.Ordering.TheVariants.{Less}
 use Rattle.std.specs.Ordering.{eq_by_cmp}
-use Rattle.std.specs.Cmp.{IsTotalOrder, nat_cmp_total, on_total, then_total}
 use Rattle.std.proofs.Common.{sym, ap, ◌∙◌, subst}
 use Rattle.std.proofs.lemmas.List.{append-nil}
 use Rattle.std.proofs.lemmas.List.Elements.{filter_map-append}
 use mathlib.Core.Bool.{true≢false}
 use Rattle.sup_specs.specs.Values.{Bytes, text_cmp}
-use Rattle.sup_specs.specs.OrderLaws.{text_total}
 use Rattle.sup_specs.specs.Rising.{IsRising, among, rising}
 use Rattle.sup_specs.specs.declared.child.ChildSpec.{ChildSpec}
 use Rattle.sup_specs.specs.declared.child.MemberInfo.{MemberInfo}
 use Rattle.sup_causal.specs.declared.dot.Dot.{Dot}
 use Rattle.sup_causal.specs.Dots.{Context, has}
-use Rattle.sup_causal.specs.DotLaws.{dot_total}
-use Rattle.sup_dot_store.specs.declared.dot_fun.DotFun.{DotFun}
-use Rattle.sup_dot_store.specs.RowLists.{rows_under, rows_of, row_cmp as part_cmp}
+use Rattle.sup_dot_store.specs.RowLists.{rows_of, row_cmp as part_cmp}
 use Rattle.sup_tables.specs.declared.row.Row.{Row}
 use Rattle.sup_tables.specs.declared.row.Entry.{Entry}
 use Rattle.sup_tables.specs.declared.row.Entry.TheVariants.{Member, Child, Name}
-use Rattle.sup_tables.specs.Rows.{table_place, table_of, key_of, row_of, place_cmp, row_cmp}
-use Rattle.sup_tables.specs.Stored.{Stored, rows_in, value_in, stored_rows, member_row, child_row, name_row, member_of, child_of, name_of, as_member, as_child, as_name, AreCovered}
+use Rattle.sup_tables.specs.Rows.{row_of, place_cmp, row_cmp}
+use Rattle.sup_tables.specs.Stored.{Stored, value_in, stored_rows, member_row, child_row, name_row, member_of, child_of, name_of, as_member, as_child, as_name, AreCovered}
 use Rattle.sup_tables.proofs.OperationLaws.{is_row_of}
 use Rattle.sup_tables.proofs.AddLaws.{row_itself, same_row}
 use Rattle.sup_tables.proofs.StoredLaws.{IsOrderedStored, among-stored}
-
-pub place_total : IsTotalOrder place_cmp
-place_total = then_total (then_total (on_total (λ r. table_place (table_of r.entry)) nat_cmp_total) (on_total (λ r. key_of r.entry) text_total)) (on_total (λ r. r.dot) dot_total)
-
--- the rows of a table, listed by key and dot
-listed_under : {K V : Type 0} (make : K → Dot → V → Row) (k : K) (fs : List (Dot × V)) (rest : List (K × Dot × V))
-    → map (λ f. make k f.0 f.1) fs ++ map (λ r. make r.0 r.1 r.2) rest ≡ map (λ r. make r.0 r.1 r.2) (rows_under k fs ++ rest)
-listed_under make k [] rest = refl
-listed_under make k (f ∷ fs) rest = ap (λ rs. make k f.0 f.1 ∷ rs) (listed_under make k fs rest)
-
-listed : {K V : Type 0} (make : K → Dot → V → Row) (es : List (K × DotFun V)) → rows_in make es ≡ map (λ r. make r.0 r.1 r.2) (rows_of es)
-listed make [] = refl
-listed make (e ∷ es) = ap (λ rs. map (λ f. make e.0 f.0 f.1) e.1.values.entries ++ rs) (listed make es) ∙ listed_under make e.0 e.1.values.entries (rows_of es)
+use Rattle.sup_tables.proofs.OrderedRows.{listed}
 
 -- after a row no row of a table before its own comes
 module _ {A : Type 0} (pick : Dot → Entry → Option A) (x : Row) (none : (d : Dot) (e : Entry) → place_cmp x (row_of d e) ≡ Less → pick d e ≡ None) where

@@ -96,9 +96,9 @@ module _ (id : Bytes) where
       ap (λ rs. map (λ r. r.dot) (filter stands_for rs)) (stored_is s o)
       ∙ ap (map (λ r. r.dot))
       (filter_append stands_for (rows_in member_row s.member_values) (rows_in child_row s.child_values ++ rows_in name_row s.name_values)
-      ∙ (λ i. filter_none stands_for (rows_in member_row s.member_values) (all_rows member_row (λ k d v. refl) (λ k d v. refl) 0 (λ k d v. refl) refl (λ r. stands_for r ≡ false) (λ k d v. refl) s.member_values) i
+      ∙ (λ i. filter_none stands_for (rows_in member_row s.member_values) (all_rows member_row (λ r. stands_for r ≡ false) (λ k d v. refl) s.member_values) i
       ++ filter_append stands_for (rows_in child_row s.child_values) (rows_in name_row s.name_values) i)
-      ∙ ap (λ rs. rs ++ filter stands_for (rows_in name_row s.name_values)) (filter_none stands_for (rows_in child_row s.child_values) (all_rows child_row (λ k d v. refl) (λ k d v. refl) 1 (λ k d v. refl) refl (λ r. stands_for r ≡ false) (λ k d v. refl) s.child_values)))
+      ∙ ap (λ rs. rs ++ filter stands_for (rows_in name_row s.name_values)) (filter_none stands_for (rows_in child_row s.child_values) (all_rows child_row (λ r. stands_for r ≡ false) (λ k d v. refl) s.child_values)))
       ∙ names_dots s.name_values
 
 module _ (P : Dot → Type 0) where

@@ -105,13 +105,13 @@ module _ (context : Context) (s : Stored) (o : IsOrderedStored s) where
       ∙ ap (λ rs. filter (is_in t) (rows_in member_row s.member_values) ++ rs) (filter_append (is_in t) (rows_in child_row s.child_values) (rows_in name_row s.name_values))
 
   these_members : (t : Table) (b : Bool) → ((k : Bytes) (d : Dot) (v : _) → is_in t (member_row k d v) ≡ b) → AllByRecursion (λ r. is_in t r ≡ b) (rows_in member_row s.member_values)
-  these_members t b h = all_rows member_row (λ k d v. refl) (λ k d v. refl) 0 (λ k d v. refl) refl (λ r. is_in t r ≡ b) h s.member_values
+  these_members t b h = all_rows member_row (λ r. is_in t r ≡ b) h s.member_values
 
   these_children : (t : Table) (b : Bool) → ((k : Bytes) (d : Dot) (v : _) → is_in t (child_row k d v) ≡ b) → AllByRecursion (λ r. is_in t r ≡ b) (rows_in child_row s.child_values)
-  these_children t b h = all_rows child_row (λ k d v. refl) (λ k d v. refl) 1 (λ k d v. refl) refl (λ r. is_in t r ≡ b) h s.child_values
+  these_children t b h = all_rows child_row (λ r. is_in t r ≡ b) h s.child_values
 
   these_names : (t : Table) (b : Bool) → ((k : Bytes) (d : Dot) (v : _) → is_in t (name_row k d v) ≡ b) → AllByRecursion (λ r. is_in t r ≡ b) (rows_in name_row s.name_values)
-  these_names t b h = all_rows name_row (λ k d v. refl) (λ k d v. refl) 2 (λ k d v. refl) refl (λ r. is_in t r ≡ b) h s.name_values
+  these_names t b h = all_rows name_row (λ r. is_in t r ≡ b) h s.name_values
 
   in_members : filter (is_in members) (state_of context s).rows ≡ rows_in member_row s.member_values
   in_members =

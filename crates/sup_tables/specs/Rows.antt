@@ -73,9 +73,6 @@ AreInOrder rows = IsRising place_cmp rows
 abbrev pub value_cmp : Entry → Entry → Ordering
 value_cmp = then_cmp (on info_of info_cmp) (then_cmp (on spec_of spec_cmp) (on target_of text_cmp))
 
--- by table, key and dot. (Two rows of one dot and place, which no run makes, go by value.)
+-- by place, and then by value, where two rows stand at one place (which no run makes)
 abbrev pub row_cmp : Row → Row → Ordering
-row_cmp =
-    then_cmp (on (λ r. table_place (table_of r.entry)) nat_cmp)
-    (then_cmp (on (λ r. key_of r.entry) text_cmp)
-    (then_cmp (on (λ r. r.dot) dot_cmp) (on (λ r. r.entry) value_cmp)))
+row_cmp = then_cmp place_cmp (on (λ r. r.entry) value_cmp)

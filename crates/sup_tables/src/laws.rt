@@ -1,12 +1,12 @@
 //! Laws of operations, each the contract of a function that does nothing.
-ghost use Rattle.std.specs.Prelude.{◌≡◌, ◌↔◌, ℕ, true, false, List};
+ghost use Rattle.std.specs.Prelude.{◌≡◌, ◌↔◌, ℕ, true, false, List, IsTrue};
 ghost use Rattle.sup_specs.specs.Values.{Bytes};
 ghost use Rattle.sup_specs.specs.Rising.{among};
 ghost use Rattle.sup_causal.specs.declared.dot.Dot.{Dot};
 ghost use Rattle.sup_causal.specs.Dots.{has, IsNext, IsGreatest};
 ghost use Rattle.sup_tables.specs.declared.row.Row.{Row};
 ghost use Rattle.sup_tables.specs.Rows.{row_cmp, table_of, key_of};
-ghost use Rattle.sup_tables.specs.Operations.{Operation, known, named, added, live, greatest, SameOperations, Covers};
+ghost use Rattle.sup_tables.specs.Operations.{Operation, known, named, added, live, greatest, SameOperations, Covers, covers};
 ghost use Rattle.sup_tables.specs.Readers.{entries};
 ghost use Rattle.sup_tables.specs.Makers.{next_dot};
 ghost use Rattle.sup_tables.specs.States.{State, StandsFor};
@@ -22,6 +22,11 @@ pub fn order_and_repeats_are_free()
 pub fn covering_is_a_preorder()
     ensures itself { (ops : List Operation) → Covers ops ops }
     ensures chain { (ops mid others : List Operation) → Covers ops mid → Covers mid others → Covers ops others }
+{}
+
+/// The test of covering passes exactly where there is covering.
+pub fn the_test_of_covering_is_exact()
+    ensures { (ops others : List Operation) → (IsTrue (covers ops others) ↔ Covers ops others) }
 {}
 
 /// An add that no operation of the list removes is a winner or a loser of its key.

@@ -1,8 +1,9 @@
 //! What the tables answer: of the live entries of a key the one with the least dot wins.
 ghost use Rattle.std.specs.Prelude.{◌≡◌, IfOk, map};
 ghost use Rattle.std.specs.Option.{option_map};
-ghost use Rattle.sup_tables.specs.Rows.{members, children, names};
+ghost use Rattle.sup_tables.specs.Rows.{members, children, names, AreInOrder};
 ghost use Rattle.sup_tables.specs.Readers.{winner, winners, losers};
+ghost use Rattle.sup_tables.specs.States.{HasDotsOf};
 ghost use Rattle.sup_tables.specs.Stored.{member_row, child_row, name_row};
 
 use crate::row::Row;
@@ -81,10 +82,12 @@ impl Tables {
         Ok(found)
     }
 
-    /// All rows, losers among them: members, children, names, each by key, then by dot. An `Err` where a growth was
-    /// refused.
+    /// All rows, losers among them: members, children, names, each by key, then by dot. Under the tables' context
+    /// `from_rows` takes them back. An `Err` where a growth was refused.
     pub fn rows(&self) -> Result<Vec<Row>, AllocError>
-        ensures { IfOk result (λ rows. rows.items ≡ self.now.rows) }
+        ensures rows { IfOk result (λ rows. rows.items ≡ self.now.rows) }
+        ensures in_order { IfOk result (λ rows. AreInOrder rows.items) }
+        ensures covered { IfOk result (λ rows. HasDotsOf self.now.context rows.items) }
     {
         let store = self.state.store();
         let mut rows = Vec::with_capacity(self.alloc, self.count)?;
