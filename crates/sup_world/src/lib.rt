@@ -1,0 +1,21 @@
+//! The private world of a script: its nodes, and every message that each of them sent.
+#![tactic(auto)]
+
+mod acts;
+pub mod answer;
+pub mod command;
+pub mod laws;
+pub mod line;
+mod lines;
+mod node;
+mod outbox;
+pub mod refusal;
+pub mod step;
+pub mod world;
+
+pub use answer::{Answer, Dots, Letter, LetterKind};
+pub use command::Command;
+pub use line::{Key, Line, Lines, Place};
+pub use refusal::Refusal;
+pub use step::Step;
+pub use world::World;
