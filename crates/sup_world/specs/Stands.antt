@@ -11,7 +11,7 @@ use Rattle.sup_world.specs.declared.outbox.Outbox.{Outbox}
 use Rattle.sup_world.specs.declared.refusal.Refusal.{Refusal}
 use Rattle.sup_world.specs.declared.refusal.Refusal.TheVariants.{DotsSpent, OutOfMemory}
 use Rattle.sup_world.specs.declared.step.Step.{Step}
-use Rattle.sup_world.specs.declared.world.World.{World as Real}
+use Rattle.sup_world.specs.declared.state.World.{World as Real}
 use Rattle.sup_placement.specs.Place.{Weigher}
 use Rattle.sup_world.specs.Worlds.{Message, Site, World}
 use Rattle.sup_world.specs.Steps.{Outcome, Stepped}

@@ -10,12 +10,13 @@ mod lines;
 mod node;
 mod outbox;
 pub mod refusal;
+pub mod state;
 pub mod step;
-pub mod world;
+mod world;
 
 pub use answer::{Answer, Dots, Letter, LetterKind};
 pub use command::Command;
 pub use line::{Key, Line, Lines, Place};
 pub use refusal::Refusal;
+pub use state::World;
 pub use step::Step;
-pub use world::World;

@@ -1,4 +1,4 @@
-//! A world, and what its steps make of it.
+//! The steps of a world.
 ghost use Rattle.std.specs.Prelude.{◌≡◌, length, map, IfOk, OnErr};
 ghost use Rattle.std.specs.List.{AllZip};
 ghost use Rattle.sup_world.specs.Worlds.{World as Model, new_site, new_world};
@@ -10,18 +10,11 @@ use crate::answer::Answer;
 use crate::node::Node;
 use crate::outbox::Outbox;
 use crate::refusal::Refusal;
+use crate::state::World;
 use crate::step::Step;
 use std::alloc::{AllocError, Global};
 use sup_placement::Weigh;
 use sup_specs::NodeName;
-
-/// The nodes of a script in their order, and what each of them sent.
-#[derive(Drop)]
-pub struct World {
-    nodes: Vec<Node>,
-    outboxes: Vec<Outbox>,
-    ghost paired: { length outboxes.items ≡ length nodes.items },
-}
 
 impl World {
     /// A world of these nodes, none of which has done anything yet.

@@ -5,7 +5,7 @@ use Rattle.std.proofs.Math.Seq.{take-append-add}
 use Rattle.std.specs.Io.KnownBytes.{Appends}
 use Rattle.std.proofs.KnownBytes.{Appends-nil, Appends-trans}
 use Rattle.sup_placement.specs.Place.{Weigher}
-use Rattle.sup_world.specs.declared.world.World.{World as Real}
+use Rattle.sup_world.specs.declared.state.World.{World as Real}
 use Rattle.sup_world.specs.declared.step.Step.{Step}
 use Rattle.sup_world.specs.declared.answer.Answer.{Answer}
 use Rattle.sup_script.specs.Text.{answer_text}

@@ -9,7 +9,7 @@ use Rattle.sup_script.specs.Text.{answer_text}
 use Rattle.sup_world.specs.Worlds.{World, new_world}
 use Rattle.sup_world.specs.Runs.{Allows}
 use Rattle.sup_world.specs.Stands.{Follows, WorldStandsFor}
-use Rattle.sup_world.specs.declared.world.World.{World as Real}
+use Rattle.sup_world.specs.declared.state.World.{World as Real}
 use Rattle.supctl.specs.Faults.{fault_text, status_of}
 use Rattle.sup_world.specs.declared.step.Step.{Step}
 use Rattle.sup_world.specs.declared.answer.Answer.{Answer}

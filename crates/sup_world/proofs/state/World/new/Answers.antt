@@ -3,7 +3,7 @@ use Rattle.sup_world.specs.Worlds.{new_site}
 use Rattle.sup_world.specs.Stands.{NodeStandsFor, OutboxStandsFor}
 use Rattle.sup_world.proofs.PlaceLaws.{same_length}
 use Rattle.sup_world.proofs.RunLaws.{new_sound}
-use Rattle.sup_world.proofs.world.World.new.Goals as goal
+use Rattle.sup_world.proofs.state.World.new.Goals as goal
 
 pub invariant_of-result : goal.invariant_of-result
 invariant_of-result c =

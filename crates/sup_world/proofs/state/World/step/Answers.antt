@@ -4,7 +4,7 @@ use Rattle.sup_world.specs.declared.outbox.Outbox.{Outbox}
 use Rattle.sup_world.specs.Stands.{AllStand}
 use Rattle.sup_world.specs.Steps.{step}
 use Rattle.sup_world.proofs.WorldLaws.{ok_allows, err_allows, made_answer, no_refusal, lent_back, came_back}
-use Rattle.sup_world.proofs.world.World.step.Goals as goal
+use Rattle.sup_world.proofs.state.World.step.Goals as goal
 
 pub returns-in-Ok-clause-follows : goal.returns-in-Ok-clause-follows
 returns-in-Ok-clause-follows g c model stand =
