@@ -5,13 +5,13 @@ use Rattle.std.proofs.Math.Seq.{take-append-add}
 use Rattle.std.specs.Io.KnownBytes.{Appends}
 use Rattle.std.proofs.KnownBytes.{Appends-nil, Appends-trans}
 use Rattle.sup_placement.specs.Place.{Weigher}
-use Rattle.supctl.specs.declared.world.state.World.{World as Real}
-use Rattle.supctl.specs.declared.world.step.Step.{Step}
-use Rattle.supctl.specs.declared.world.answer.Answer.{Answer}
-use Rattle.supctl.specs.Text.{answer_text}
-use Rattle.supctl.specs.Worlds.{World}
-use Rattle.supctl.specs.Runs.{Allows}
-use Rattle.supctl.specs.Stands.{Follows, WorldStandsFor}
+use Rattle.sup_world.specs.declared.state.World.{World as Real}
+use Rattle.sup_world.specs.declared.step.Step.{Step}
+use Rattle.sup_world.specs.declared.answer.Answer.{Answer}
+use Rattle.sup_script.specs.Text.{answer_text}
+use Rattle.sup_world.specs.Worlds.{World}
+use Rattle.sup_world.specs.Runs.{Allows}
+use Rattle.sup_world.specs.Stands.{Follows, WorldStandsFor}
 use Rattle.supctl.specs.Run.{Bytes, Plays, PrintsAll, PrintsFront}
 
 -- steps that were made and written, and the model world that they reach

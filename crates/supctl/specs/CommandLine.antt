@@ -6,7 +6,7 @@ use Rattle.clap.specs.Words.{App, Row, Rule, Text, new_app, new_rule, with_rule,
 use Rattle.clap.specs.declared.builder.action.ArgAction.TheVariants.{Set}
 use Rattle.sup_placement.specs.Place.{Weigher}
 use Rattle.sup_placement.specs.Weights.{sha256_weight, flat_weight}
-use Rattle.supctl.specs.Words.{◌>>=◌}
+use Rattle.sup_script.specs.Words.{◌>>=◌}
 use Rattle.supctl.specs.declared.options.request.Request.{Request}
 use Rattle.supctl.specs.declared.options.request.Task.{Task}
 use Rattle.supctl.specs.declared.options.request.Task.TheVariants.{Simulate, Place}

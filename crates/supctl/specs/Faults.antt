@@ -1,12 +1,12 @@
 -- The faults that end a run, their lines and their statuses (this project's output format).
 use Rattle.std.specs.Prelude.{ℕ, List, [], ◌∷◌, Result, Ok, Err, codes, decimal}
-use Rattle.supctl.specs.Text.{text}
+use Rattle.sup_script.specs.Text.{text}
 use Rattle.supctl.specs.declared.fault.Fault.{Fault}
 use Rattle.supctl.specs.declared.fault.Fault.TheVariants.{BadLine, BadInput, Device, OutOfMemory}
 use Rattle.supctl.specs.declared.input.InputFault.{InputFault}
 use Rattle.supctl.specs.declared.input.InputFault.TheVariants as input
-use Rattle.supctl.specs.declared.script.fault.ScriptFault.{ScriptFault}
-use Rattle.supctl.specs.declared.script.fault.ScriptFault.TheVariants as script
+use Rattle.sup_script.specs.declared.script.fault.ScriptFault.{ScriptFault}
+use Rattle.sup_script.specs.declared.script.fault.ScriptFault.TheVariants as script
 
 -- the line on standard error
 abbrev pub fault_text : Fault → List ℕ

@@ -4,11 +4,11 @@ use Rattle.std.specs.Str.{bytes_eq}
 use Rattle.std.specs.List.{flat_map}
 use Rattle.std.specs.Io.KnownBytes.{Appends}
 use Rattle.sup_placement.specs.Place.{Weigher, place}
-use Rattle.supctl.specs.Words.{Word, Name}
-use Rattle.supctl.specs.Values.{child_id_of}
-use Rattle.supctl.specs.Forms.{distinct_names_of}
-use Rattle.supctl.specs.Script.{is_plain, words_of, numbered_lines, opened}
-use Rattle.supctl.specs.Text.{text}
+use Rattle.sup_script.specs.Words.{Word, Name}
+use Rattle.sup_script.specs.Values.{child_id_of}
+use Rattle.sup_script.specs.Forms.{distinct_names_of}
+use Rattle.sup_script.specs.Script.{is_plain, words_of, numbered_lines, opened}
+use Rattle.sup_script.specs.Text.{text}
 use Rattle.supctl.specs.Ends.{Bytes, Job, Does}
 
 -- members NAME.., 0 to 16 distinct names

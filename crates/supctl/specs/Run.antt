@@ -4,15 +4,15 @@ use Rattle.std.specs.Io.KnownBytes.{Appends}
 use Rattle.sup_placement.specs.Place.{Weigher}
 pub use Rattle.supctl.specs.Ends.{Bytes, TakesAtMost}
 use Rattle.supctl.specs.Ends.{Job, Does, EndsAt, StopsAt}
-use Rattle.supctl.specs.Script.{ScriptText, script_of}
-use Rattle.supctl.specs.Text.{answer_text}
-use Rattle.supctl.specs.Worlds.{World, new_world}
-use Rattle.supctl.specs.Runs.{Allows}
-use Rattle.supctl.specs.Stands.{Follows, WorldStandsFor}
-use Rattle.supctl.specs.declared.world.state.World.{World as Real}
+use Rattle.sup_script.specs.Script.{ScriptText, script_of}
+use Rattle.sup_script.specs.Text.{answer_text}
+use Rattle.sup_world.specs.Worlds.{World, new_world}
+use Rattle.sup_world.specs.Runs.{Allows}
+use Rattle.sup_world.specs.Stands.{Follows, WorldStandsFor}
+use Rattle.sup_world.specs.declared.state.World.{World as Real}
 use Rattle.supctl.specs.Faults.{fault_text, status_of}
-use Rattle.supctl.specs.declared.world.step.Step.{Step}
-use Rattle.supctl.specs.declared.world.answer.Answer.{Answer}
+use Rattle.sup_world.specs.declared.step.Step.{Step}
+use Rattle.sup_world.specs.declared.answer.Answer.{Answer}
 use Rattle.supctl.specs.declared.fault.Fault.{Fault}
 use Rattle.supctl.specs.declared.fault.Fault.TheVariants.{OutOfMemory}
 use Rattle.supctl.specs.declared.run.Ran.{Ran}

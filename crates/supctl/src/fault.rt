@@ -6,10 +6,10 @@ ghost use Rattle.supctl.specs.Faults.{fault_line_at, fault_text, of_input, of_sc
 
 use crate::input::InputFault;
 use crate::output::{DeviceFault, put_all};
-use crate::script::ScriptFault;
 use itoa::Buffer;
 use std::alloc::AllocError;
 use std::io::Write;
+use sup_script::ScriptFault;
 use thiserror::Error;
 
 /// Why a run ended before its time.

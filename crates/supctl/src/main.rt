@@ -7,11 +7,8 @@ mod options;
 mod output;
 mod place;
 mod run;
-mod script;
 #[cfg(test)]
 mod tests;
-mod text;
-mod world;
 
 ghost use Rattle.supctl.specs.Run.{Refuses};
 

@@ -3,8 +3,8 @@
 ghost use Rattle.std.specs.Prelude.{◌≡◌, ◌≢◌, ◌≤◌, ◌+◌, length, OnOk, IfErr, IfSome, map};
 ghost use Rattle.supctl.specs.CommandLine.{AsksFor, IsNoCommand, weight_of};
 ghost use Rattle.supctl.specs.Faults.{IsOutside};
-ghost use Rattle.supctl.specs.Stands.{WorldStandsFor};
-ghost use Rattle.supctl.specs.Worlds.{World as Model};
+ghost use Rattle.sup_world.specs.Stands.{WorldStandsFor};
+ghost use Rattle.sup_world.specs.Worlds.{World as Model};
 ghost use Rattle.supctl.specs.Placing.{Places};
 ghost use Rattle.supctl.specs.Run.{Ends, PlaysOne, PrintsAll, PrintsFront, Refuses, Simulates, TakesAtMost, WantsMemory, status_in};
 
@@ -13,14 +13,13 @@ use crate::input::{LIMIT, read_input};
 use crate::options::{Request, Task, Weighing, is_want_of_memory, read_words};
 use crate::output::put_all;
 use crate::place::place_children;
-use crate::script::{Script, read_script};
-use crate::text::answer_text;
-use crate::world::{Step, World};
 use clap::Error;
 use std::alloc::Global;
 use std::convert::AsStr;
 use std::io::{Read, Write};
 use sup_placement::{FlatWeigh, Sha256Weigh, Weigh};
+use sup_script::{Script, answer_text, read_script};
+use sup_world::{Step, World};
 
 /// The exit status where the words are refused.
 pub const USAGE: u8 = 2;

@@ -1,15 +1,15 @@
 //! What `place` reads: members, and the ids of children.
 
 ghost use Rattle.std.specs.Prelude.{map};
-ghost use Rattle.supctl.specs.Words.{Reads, texts};
-ghost use Rattle.supctl.specs.Script.{ReadsAll, each_of};
+ghost use Rattle.sup_script.specs.Words.{Reads, texts};
+ghost use Rattle.sup_script.specs.Script.{ReadsAll, each_of};
 ghost use Rattle.supctl.specs.Placing.{id_in, members_in, members_of, placing_of};
 
-use crate::script::{
+use std::alloc::Global;
+use sup_script::{
     LineFault, MOST_NODES, NumberedLine, ScriptFault, number_lines, plain_text, read_child_id,
     read_distinct, words_of,
 };
-use std::alloc::Global;
 use sup_specs::{ChildId, NodeName};
 
 /// The members, and the ids of the lines after them.

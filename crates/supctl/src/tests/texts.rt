@@ -1,12 +1,12 @@
 //! What each answer prints.
 
-use crate::text::answer_text;
-use crate::world::{Answer, Dots, Letter, LetterKind, Refusal};
 use std::alloc::Global;
 use std::process::Abort;
 use std::test::Fail;
 use sup_causal::Dot;
+use sup_script::answer_text;
 use sup_specs::NodeName;
+use sup_world::{Answer, Dots, Letter, LetterKind, Refusal};
 
 fn check_text(rt: &impl Abort, alloc: Global, answer: &Answer, wanted: &str) -> Result<(), Fail> {
     let text = answer_text(alloc, answer)?;

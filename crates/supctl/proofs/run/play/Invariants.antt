@@ -1,6 +1,6 @@
 use Rattle.std.proofs.Common.{take}
-use Rattle.supctl.specs.Worlds.{World}
-use Rattle.supctl.specs.Stands.{WorldStandsFor}
+use Rattle.sup_world.specs.Worlds.{World}
+use Rattle.sup_world.specs.Stands.{WorldStandsFor}
 use Rattle.supctl.proofs.Playing.{PlaysTo}
 use Rattle.supctl.proofs.run.play.Given as goal
 

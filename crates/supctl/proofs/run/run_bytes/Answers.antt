@@ -1,5 +1,5 @@
 use Rattle.std.proofs.Common.{inr}
-use Rattle.supctl.specs.Worlds.{new_world}
+use Rattle.sup_world.specs.Worlds.{new_world}
 use Rattle.supctl.proofs.Endings.{stopped}
 use Rattle.supctl.proofs.run.run_bytes.Goals as goal
 

@@ -1,7 +1,7 @@
 use Rattle.std.proofs.Common.{◌≡◌, drop, map}
-use Rattle.supctl.specs.Script.{each_of}
+use Rattle.sup_script.specs.Script.{each_of}
 use Rattle.supctl.specs.Placing.{id_in}
-use Rattle.supctl.proofs.Loops.{after_lines}
+use Rattle.sup_script.proofs.Loops.{after_lines}
 use Rattle.supctl.proofs.place.placing.read_ids.Given as goal
 
 abbrev pub invariant-loop-line : goal.invariant-loop-line

@@ -1,0 +1,10 @@
+use Rattle.std.proofs.Common.{rules, ap}
+use Rattle.sup_tables.specs.Stored.{name_row}
+use Rattle.sup_world.specs.declared.line.Key.TheVariants.{Name}
+use Rattle.sup_world.specs.declared.line.Line.TheVariants.{Loser}
+use Rattle.sup_world.proofs.LineLaws.{with_its_losers}
+use Rattle.sup_world.proofs.lines.push_name.Goals as goal
+
+pub returns : goal.returns
+returns c =
+    with_its_losers (λ l. Loser (Name c.in_ok-try_clone-3.field-0) l.dot.now) (λ l. name_row c.args.winner.now.key.now l.dot.now l.value.now) c.deref.result.now _ _ c.args.lines.now.items c.push.new.self.items c.push_losers.new.lines.items c.push_losers.result (λ l. ap (λ key. Loser (Name key) l.dot.now) c.in_ok-try_clone-3.ensures) (search rules) (rw c.deref.ensures.value c.in_ok-losers.ensures) c.push_losers.ensures

@@ -1,0 +1,10 @@
+pub mod Checks
+pub mod Worlds
+pub mod Commands
+pub mod Shown
+pub mod Steps
+pub mod Runs
+pub mod Sound
+pub mod Headline
+pub mod Stands
+pub mod Issuing

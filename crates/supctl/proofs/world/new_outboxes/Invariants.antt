@@ -1,8 +1,0 @@
-use Rattle.std.proofs.Common.{map, take}
-use Rattle.std.specs.List.{AllZip}
-use Rattle.supctl.specs.Worlds.{new_site}
-use Rattle.supctl.specs.Stands.{OutboxStandsFor}
-use Rattle.supctl.proofs.world.new_outboxes.Given as goal
-
-abbrev pub invariant-loop-name : goal.invariant-loop-name
-invariant-loop-name l = AllZip OutboxStandsFor l.outboxes.items (map new_site (take l.name-index l.names))
