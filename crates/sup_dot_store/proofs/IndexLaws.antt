@@ -6,6 +6,7 @@ use Rattle.std.specs.declared.cmp.Ordering.{Ordering}
 use Rattle.std.specs.declared.cmp.Ordering.TheVariants.{Less, Equal, Greater}
 use Rattle.std.specs.Ordering.{is_eq, eq_by_cmp}
 use Rattle.std.specs.Cmp.{IsTotalOrder}
+use Rattle.std.proofs.lemmas.Option.{same_Some}
 use Rattle.std.proofs.lemmas.Cmp.{tied_itself}
 use Rattle.std.specs.BTreeMap.{BTreeMap, get, values}
 use Rattle.sup_specs.specs.Exact.{IsExact}
@@ -29,9 +30,6 @@ same {X} {cmp} exact x y e = exact x y (tied (cmp x y) e)
 pub tie : {X : Type 0} {cmp : X → X → Ordering} → IsTotalOrder cmp → (x y : X) → x ≡ y → eq_by_cmp cmp x y ≡ true
 tie {X} {cmp} total x y e = subst (λ y. eq_by_cmp cmp x y ≡ true) e (ap is_eq (tied_itself total x))
 
-pub some_is : {X : Type 0} {x y : X} → Some x ≡ Some y → x ≡ y
-some_is e = cc
-
 pub none_some : {X R : Type 0} {x : X} → None ≡ Some x → R
 none_some e = absurd cc
 
@@ -47,13 +45,13 @@ module _ {K V : Type 0} (key k : K) (x y : Option V) (o n : Option K) where
 
   there_put : (value : V) (a b : Bool) → y ≡ cond (a && b) (Some value) x → n ≡ cond b (Some key) o → (key ≡ k → a ≡ true) → (o ≡ Some k → IsSome x) → n ≡ Some k → IsSome y
   there_put value true true e f is there h = subst IsSome (sym e) refl
-  there_put value false true e f is there h = absurd (false≢true (is (some_is (sym f ∙ h))))
+  there_put value false true e f is there h = absurd (false≢true (is (same_Some _ _ (sym f ∙ h))))
   there_put value true false e f is there h = subst IsSome (sym e) (there (sym f ∙ h))
   there_put value false false e f is there h = subst IsSome (sym e) (there (sym f ∙ h))
 
   found_take : (a b : Bool) → y ≡ cond (a && b) None x → n ≡ cond b None o → (b ≡ true → o ≡ Some key) → (key ≡ k → a ≡ true) → (IsSome x → o ≡ Some k) → IsSome y → n ≡ Some k
   found_take true true e f was is found s = no_value y e s
-  found_take false true e f was is found s = absurd (false≢true (is (some_is (sym (was refl) ∙ found (subst IsSome e s)))))
+  found_take false true e f was is found s = absurd (false≢true (is (same_Some _ _ (sym (was refl) ∙ found (subst IsSome e s)))))
   found_take true false e f was is found s = f ∙ found (subst IsSome e s)
   found_take false false e f was is found s = f ∙ found (subst IsSome e s)
 

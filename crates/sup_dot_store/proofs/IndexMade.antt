@@ -9,6 +9,7 @@ use Rattle.std.specs.Set.{is_member}
 use Rattle.std.specs.Map.{keys_of, lookup}
 use Rattle.std.specs.Map as map
 use Rattle.std.specs.BTreeMap.{BTreeMap, get, is_at}
+use Rattle.std.proofs.lemmas.Option.{same_Some}
 use Rattle.std.proofs.lemmas.Cmp.{eq_by_cmp_equiv}
 use Rattle.std.proofs.lemmas.Map.{lookup-none}
 use Rattle.std.proofs.lemmas.Map.Entries.{none_past_head}
@@ -21,7 +22,7 @@ use Rattle.sup_dot_store.specs.declared.dot_fun.DotFun.{DotFun}
 use Rattle.sup_dot_store.specs.Contents.{values_of}
 use Rattle.sup_dot_store.specs.Places.{optional_held}
 use Rattle.sup_dot_store.specs.Index.{AddsDots, value_of, count_in}
-use Rattle.sup_dot_store.proofs.IndexLaws.{same, tie, some_is, none_some, no_value}
+use Rattle.sup_dot_store.proofs.IndexLaws.{same, tie, none_some, no_value}
 
 -- some dots of the function have the key, the others are left
 pub record IsAdding {K V : Type 0} (key : K) (function : DotFun V) (old keys : BTreeMap Dot K) (rest : List Dot) : Type 0 where
@@ -105,7 +106,7 @@ module _ {K V : Type 0} {cmp : K → K → Ordering} (total : IsTotalOrder cmp) 
 
     there_more : IsIndexing cmp all keys (e ∷ rest) → (b : Bool) → is_some (get dot_cmp (values_of e.1) d) ≡ b → get dot_cmp more d ≡ cond b (Some e.0) (get dot_cmp keys d) → get dot_cmp more d ≡ Some k → IsSome (value_in cmp all k d)
     there_more indexing true has added h =
-        let here : eq_by_cmp cmp k e.0 ≡ true = tie total k e.0 (sym (some_is (sym added ∙ h))) in
+        let here : eq_by_cmp cmp k e.0 ≡ true = tie total k e.0 (sym (same_Some _ _ (sym added ∙ h))) in
         indexing.within d k (subst (λ b. IsSome (optional_held value_of (cond b (Some e.1) (lookup (is_at (cmp k)) rest)) d tt)) (sym here) has)
     there_more indexing false has added h = indexing.there d k (sym added ∙ h)
 

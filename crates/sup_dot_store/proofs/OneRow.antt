@@ -7,6 +7,7 @@ use Rattle.std.specs.Cmp.{IsTotalOrder}
 use Rattle.std.specs.Map.{lookup, values_of, remove_entry}
 use Rattle.std.specs.HashMap.Eq.{lookup_congr}
 use Rattle.std.specs.BTreeMap.{BTreeMap, get, is_at}
+use Rattle.std.proofs.lemmas.Option.{same_Some}
 use Rattle.std.proofs.lemmas.Cmp.{eq_by_cmp_equiv}
 use Rattle.sup_causal.specs.declared.dot.Dot.{Dot}
 use Rattle.sup_causal.specs.Dots.{dot_cmp, dot_eq}
@@ -16,9 +17,6 @@ use Rattle.sup_dot_store.specs.Places.{optional_held, HasRow, NoneEmpty}
 use Rattle.sup_dot_store.specs.Index.{value_of, value_under, count_in, HasOneRow, PutsRow, TakesRow}
 use Rattle.sup_dot_store.proofs.Rows.{none_everywhere, nothing_in}
 use Rattle.sup_dot_store.proofs.Counts.{size, count_remove}
-
-some_is : {X : Type 0} {x y : X} → Some x ≡ Some y → x ≡ y
-some_is e = cc
 
 pub is_there : {X : Type 0} {o : Option X} {x : X} → Some x ≡ o → IsSome o
 is_there e = subst IsSome e refl
@@ -70,7 +68,7 @@ module _ {K V : Type 0} (cmp : K → K → Ordering) where
   none_empty_with old new key f none_empty now some k s found = at (is_at (cmp key) k) (sym (now k) ∙ found)
     where
       at : (b : Bool) → cond b (Some f) (get cmp old k) ≡ Some s → HasRow (value_of s)
-      at true is = has_row s (subst (λ s. 0 < size s) (some_is is) some)
+      at true is = has_row s (subst (λ s. 0 < size s) (same_Some _ _ is) some)
       at false is = none_empty k s is
 
   -- the function under a key has a value

@@ -47,6 +47,7 @@ impl<V: Plain> DotFun<V> {
     pub(crate) fn of(values: BTreeMap<Dot, V>) -> Self
         ensures { values_of result ≡ values }
     {
+        // For its clause alone: the dots rise.
         keys_rise(&values);
         DotFun { values }
     }
@@ -145,5 +146,6 @@ fn take_away<V: Drop>(values: &mut BTreeMap<Dot, V>, dots: &[Dot])
     for dot in dots {
         values.remove(dot);
     }
+    // For its clause alone: the dots rise.
     keys_rise(values);
 }

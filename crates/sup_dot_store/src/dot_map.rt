@@ -57,6 +57,7 @@ impl<K: Plain, S: DotStore> DotMap<K, S> {
         requires { NoneEmpty S.held K.cmp stores }
         ensures { stores_of result ≡ stores }
     {
+        // For its clause alone: the keys rise.
         keys_rise(&stores);
         DotMap { alloc, stores }
     }
@@ -99,6 +100,7 @@ impl<K: Plain, V: Plain> DotMap<K, DotFun<V>> {
         ensures { IfOk result (λ m. rows_of (stores_of m).entries ≡ rows.items) }
     {
         let stores = functions_of(alloc, rows)?;
+        // For its clause alone: the keys rise.
         keys_rise(&stores);
         Ok(DotMap { alloc, stores })
     }

@@ -44,6 +44,7 @@ impl<K: Plain, V: Plain> Indexed<K, V> {
     {
         self.keys.insert(dot, key.try_clone(alloc)?)?;
         let put = put_row(alloc, &mut self.stores, key, dot, value);
+        // For its clause alone, which the index asks for: the keys rise.
         keys_rise(&self.stores);
         if let Err(refused) = put {
             self.keys.remove(&dot);

@@ -40,8 +40,8 @@ impl From<AllocError> for NotPut {
 }
 
 impl<K: Plain, V: Plain> Indexed<K, V> {
-    /// Puts in those of the rows whose dots the context lacks. After an `Err` those before some row are in, whose dot
-    /// the context lacks: `TwoKeys` where that dot stands in a row before it too, `OutOfMemory` only where it doesn't.
+    /// Puts in those of the rows whose dots the context lacks. An `Err` stops at such a row, with those before it put
+    /// in: `TwoKeys` where its dot stands among the rows before it, `OutOfMemory` only where it doesn't.
     pub fn put_fresh(
         &mut self,
         alloc: Global,
