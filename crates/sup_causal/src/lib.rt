@@ -12,8 +12,6 @@ pub mod max_count;
 pub mod merge;
 pub mod parts;
 mod sorted_dots;
-#[cfg(test)]
-mod tests;
 
 pub use below::{Below, all_below};
 pub use context::CausalContext;

@@ -20,6 +20,3 @@ pub use dot_store::DotStore;
 pub use indexed::Indexed;
 pub use indexed::index::index_of;
 pub use indexed::join::NotPut;
-
-#[cfg(test)]
-mod tests;

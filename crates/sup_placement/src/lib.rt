@@ -22,6 +22,3 @@ pub mod weighers;
 pub use rendezvous::place;
 pub use weigh::Weigh;
 pub use weighers::{FlatWeigh, Sha256Weigh};
-
-#[cfg(test)]
-mod tests;

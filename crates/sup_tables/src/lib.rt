@@ -21,6 +21,3 @@ pub use fault::{PutFault, RowsFault};
 pub use row::{Entry, Row};
 pub use table::{Loser, Winner};
 pub use tables::Tables;
-
-#[cfg(test)]
-mod tests;

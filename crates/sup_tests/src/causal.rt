@@ -4,8 +4,9 @@ mod joins;
 mod known;
 mod lattices;
 
-use crate::MAX;
-use known::{Known, dot, is_no_cut, node};
+use crate::given::{dot, node};
+use known::{Known, is_no_cut};
+use sup_causal::MAX;
 
 #[test]
 fn a_vector_stops_at_the_first_gap(rt: HostRuntime) {

@@ -1,7 +1,7 @@
 //! Counts under nodes' names, for the tests. Their calls promise nothing, and end the test where one of the map's fails.
-use super::known::node;
-use crate::{Lattice, MapJoin, MaxCount};
+use crate::given::node;
 use std::process::Abort;
+use sup_causal::{Lattice, MapJoin, MaxCount};
 use sup_specs::NodeName;
 
 #[derive(Drop)]

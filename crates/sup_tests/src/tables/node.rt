@@ -1,8 +1,9 @@
 //! A node of the tests, with what it knows. Its calls promise nothing, and end the test where one of the tables' fails.
-use crate::*;
+use crate::given::{child_id, node, registered, spec, text};
 use std::process::Abort;
 use sup_causal::{Dot, Lattice, MAX};
-use sup_specs::{ChildId, ChildSpec, Kind, MemberInfo, Name, NodeName, Restart, Shutdown, Text};
+use sup_specs::{MemberInfo, NodeName};
+use sup_tables::{PutFault, Tables};
 
 #[derive(Drop)]
 pub(crate) struct Node {
@@ -10,31 +11,10 @@ pub(crate) struct Node {
     pub(crate) tables: Tables,
 }
 
-pub(crate) fn child_id(rt: &(impl Abort + AllocGlobal), id: &str) -> ChildId {
-    ChildId::parse(rt.alloc(), id).expect(rt, "an id")
-}
-
-pub(crate) fn registered(rt: &(impl Abort + AllocGlobal), name: &str) -> Name {
-    Name::parse(rt.alloc(), name).expect(rt, "a name")
-}
-
-pub(crate) fn text(rt: &(impl Abort + AllocGlobal), text: &str) -> Text {
-    Text::parse(rt.alloc(), text).expect(rt, "a text")
-}
-
-pub(crate) fn spec(rt: &(impl Abort + AllocGlobal), kind: &str) -> ChildSpec {
-    ChildSpec {
-        kind: Kind::parse(rt.alloc(), kind).expect(rt, "a kind"),
-        arg: text(rt, ""),
-        restart: Restart::Permanent,
-        shutdown: Shutdown::Millis(5000),
-    }
-}
-
 impl Node {
     pub(crate) fn new(rt: &(impl Abort + AllocGlobal), name: &str) -> Node {
         Node {
-            name: NodeName::parse(name).expect(rt, "a node's name"),
+            name: node(rt, name),
             tables: Tables::empty(rt.alloc()),
         }
     }

@@ -1,6 +1,7 @@
 //! Joins in place, and what two contexts share, at values that were worked out by hand. A context takes in up to an
 //! eighth as many dots as it has in place.
-use super::known::{Known, dot, node};
+use super::known::Known;
+use crate::given::{dot, node};
 
 #[test]
 fn a_dot_is_put_in_where_it_belongs(rt: HostRuntime) {

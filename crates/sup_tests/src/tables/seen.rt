@@ -1,8 +1,9 @@
 //! What a node of the tests sees in its tables.
-use super::node::{Node, child_id, registered};
-use crate::*;
+use super::node::Node;
+use crate::given::{child_id, registered};
 use std::process::Abort;
 use sup_causal::Dot;
+use sup_tables::Entry;
 
 impl Node {
     // Whether its own winner as a member has this dot and this label.

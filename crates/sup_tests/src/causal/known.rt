@@ -1,15 +1,8 @@
 //! A context of the tests. Its calls promise nothing, and end the test where one of the context's fails.
-use crate::{CausalContext, Dot, Lattice, MAX, PartsFault};
+use crate::given::context_of;
 use std::process::Abort;
+use sup_causal::{CausalContext, Dot, Lattice, MAX, PartsFault};
 use sup_specs::NodeName;
-
-pub(crate) fn node(rt: &(impl Abort + AllocGlobal), name: &str) -> NodeName {
-    NodeName::parse(name).expect(rt, "a node's name")
-}
-
-pub(crate) fn dot(node: NodeName, counter: u64) -> Dot {
-    Dot { counter, node }
-}
 
 // Whether the vector and the cloud are refused as no context's.
 pub(crate) fn is_no_cut(
@@ -46,12 +39,8 @@ impl Known {
     }
 
     pub(crate) fn of_dots(rt: &(impl Abort + AllocGlobal), dots: &[Dot]) -> Known {
-        assert!(rt;
-            dots.iter()
-                .all(|dot| 1 <= dot.counter && dot.counter <= MAX)
-        );
         Known {
-            context: CausalContext::of_dots(rt.alloc(), dots).expect(rt, "room"),
+            context: context_of(rt, dots),
         }
     }
 

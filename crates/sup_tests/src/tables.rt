@@ -4,11 +4,11 @@ mod node;
 mod read;
 mod seen;
 
-use crate::laws;
 use node::Node;
-use read::{child, dot, is_not_covered, is_out_of_order, member, name, node_with, two};
+use read::{child, dot_of, is_not_covered, is_out_of_order, member, name, node_with, two};
 use std::process::Abort;
 use sup_causal::{Dot, MAX};
+use sup_tables::laws;
 
 // Whether the dots are these, in this order.
 fn are(dots: &[Dot], wanted: &[Dot]) -> bool {
@@ -155,14 +155,14 @@ fn rows_go_by_table_and_then_by_key(rt: HostRuntime) {
 
 #[test]
 fn rows_in_order_are_read_and_come_back(rt: HostRuntime) {
-    let one = dot(&rt, 1, "a");
-    let other = dot(&rt, 1, "b");
-    let late = dot(&rt, 2, "a");
-    let a = member(&rt, one, "a");
-    let cache = child(&rt, one, "cache");
-    let db = child(&rt, one, "db");
-    let loser = child(&rt, other, "db");
-    let www = name(&rt, late, "www", "db");
+    let one = dot_of(&rt, "a", 1);
+    let other = dot_of(&rt, "b", 1);
+    let late = dot_of(&rt, "a", 2);
+    let a = member(&rt, &one, "a");
+    let cache = child(&rt, &one, "cache");
+    let db = child(&rt, &one, "db");
+    let loser = child(&rt, &other, "db");
+    let www = name(&rt, &late, "www", "db");
     let rows = vec![in rt.alloc(); a, cache, db, loser, www].expect(&rt, "rows");
     let read = node_with(&rt, &[one, other, late], rows);
     assert!(rt; read.count() == 5);
@@ -171,40 +171,40 @@ fn rows_in_order_are_read_and_come_back(rt: HostRuntime) {
     assert!(rt; read.row_is(&rt, 2, one, "children", "db"));
     assert!(rt; read.row_is(&rt, 3, other, "children", "db"));
     assert!(rt; read.row_is(&rt, 4, late, "names", "www"));
-    assert!(rt; read.knows(&late) && !read.knows(&dot(&rt, 2, "b")));
+    assert!(rt; read.knows(&late) && !read.knows(&dot_of(&rt, "b", 2)));
 }
 
 #[test]
 fn no_rows_are_read_under_any_dots(rt: HostRuntime) {
-    let one = dot(&rt, 1, "a");
+    let one = dot_of(&rt, "a", 1);
     let read = node_with(&rt, &[one], Vec::new(rt.alloc()));
     assert!(rt; read.count() == 0 && read.knows(&one));
 }
 
 #[test]
 fn rows_out_of_order_are_refused(rt: HostRuntime) {
-    let one = dot(&rt, 1, "a");
-    let late = dot(&rt, 2, "a");
+    let one = dot_of(&rt, "a", 1);
+    let late = dot_of(&rt, "a", 2);
     let known = [one, late];
-    let keys = two(&rt, child(&rt, one, "db"), child(&rt, one, "cache"));
+    let keys = two(&rt, child(&rt, &one, "db"), child(&rt, &one, "cache"));
     let keys = is_out_of_order(&rt, &known, keys);
-    let dots = two(&rt, child(&rt, late, "db"), child(&rt, one, "db"));
+    let dots = two(&rt, child(&rt, &late, "db"), child(&rt, &one, "db"));
     let dots = is_out_of_order(&rt, &known, dots);
-    let tables = two(&rt, child(&rt, one, "db"), member(&rt, one, "z"));
+    let tables = two(&rt, child(&rt, &one, "db"), member(&rt, &one, "z"));
     let tables = is_out_of_order(&rt, &known, tables);
-    let twice = two(&rt, child(&rt, one, "db"), child(&rt, one, "db"));
+    let twice = two(&rt, child(&rt, &one, "db"), child(&rt, &one, "db"));
     let twice = is_out_of_order(&rt, &known, twice);
     assert!(rt; keys && dots && tables && twice);
 }
 
 #[test]
 fn a_row_beyond_the_context_is_refused_after_the_order(rt: HostRuntime) {
-    let one = dot(&rt, 1, "a");
-    let late = dot(&rt, 2, "a");
+    let one = dot_of(&rt, "a", 1);
+    let late = dot_of(&rt, "a", 2);
     let known = [one];
-    let beyond = two(&rt, child(&rt, one, "cache"), child(&rt, late, "db"));
+    let beyond = two(&rt, child(&rt, &one, "cache"), child(&rt, &late, "db"));
     let beyond = is_not_covered(&rt, &known, beyond);
-    let both = two(&rt, child(&rt, late, "db"), child(&rt, one, "cache"));
+    let both = two(&rt, child(&rt, &late, "db"), child(&rt, &one, "cache"));
     let both = is_out_of_order(&rt, &known, both);
     assert!(rt; beyond && both);
 }

@@ -3,10 +3,10 @@
 ghost use Rattle.std.specs.Prelude.{◌≡◌, IfOk};
 
 use super::counts::Counts;
-use super::known::node;
-use crate::{Lattice, Least, MaxCount};
+use crate::given::node;
 use std::alloc::{AllocError, Global};
 use std::process::Abort;
+use sup_causal::{Lattice, Least, MaxCount};
 
 // What two values join to, which is the same in either order.
 fn joined_both_ways<L: Lattice>(alloc: Global, left: &L, right: &L) -> Result<(L, L), AllocError>
