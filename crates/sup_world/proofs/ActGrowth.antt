@@ -7,7 +7,6 @@ use Rattle.sup_causal.specs.declared.dot.Dot.{Dot}
 use Rattle.sup_tables.specs.declared.row.Row.{Row}
 use Rattle.sup_tables.specs.Operations.{Operation}
 use Rattle.sup_world.specs.declared.answer.Answer.{Answer}
-use Rattle.sup_world.specs.declared.answer.Answer.TheVariants.{Refused}
 use Rattle.sup_world.specs.declared.refusal.Refusal.{Refusal}
 use Rattle.sup_world.specs.Worlds.{Message, Site, World, site_of}
 use Rattle.sup_world.specs.Commands.{reading, next}
@@ -24,17 +23,11 @@ abbrev pub dots_in : Option Row → List Dot
 dots_in None = []
 dots_in (Some r) = r.dot ∷ []
 
--- an answer of a step that was made
-abbrev pub IsNoRefusal : Answer → Type 0
-IsNoRefusal (Refused refusal) = ⊥
-IsNoRefusal _ = Unit {0}
-
 -- what one node's act is
 pub record ActsAt (w : World) (s : Site) (o : Outcome) : Type 0 where
   pub new : Option Row
   pub grows : Grows w s o.site new
   pub dots : dots_of o.answer ≡ dots_in new
-  pub made : IsNoRefusal o.answer
 
 module _ (w : World) (s : Site) (found : site_of w s.name ≡ Some s) where
   -- what is the node's is the world's
@@ -42,15 +35,14 @@ module _ (w : World) (s : Site) (found : site_of w s.name ≡ Some s) where
   there r h = row-found w.sites s.name s r found h
 
   -- an operation of its own
-  pub issues : (op : Operation) (answer : Answer) → ((r : Row) → op.add ≡ Some r → r.dot ≡ next (reading s)) → dots_of answer ≡ dots_in op.add → IsNoRefusal answer → After (ActsAt w s) (changes s (op ∷ []) answer)
-  issues op answer fresh dots made =
+  pub issues : (op : Operation) (answer : Answer) → ((r : Row) → op.add ≡ Some r → r.dot ≡ next (reading s)) → dots_of answer ≡ dots_in op.add → After (ActsAt w s) (changes s (op ∷ []) answer)
+  issues op answer fresh dots =
       let after : Outcome = record { answer = answer; site = record s { operations = s.operations ++ op ∷ []; count = s.count + 1 } } in
       let ok : Result Outcome Refusal = Ok after in
       let posted = flat_map (λ (m : Message). m.operations) s.sent in
       after-checked (ActsAt w s) (may_change s.count) ok (record {
         new = op.add;
         dots = dots;
-        made = made;
         grows = record {
           name = refl;
           keeps = λ r h. row-left s.operations (op ∷ []) r h;

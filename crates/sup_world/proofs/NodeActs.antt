@@ -20,7 +20,7 @@ use Rattle.sup_world.specs.Runs.{dots_of}
 use Rattle.sup_world.specs.Sound.{everything, HasRow, IsUnderWay}
 use Rattle.sup_world.proofs.Afters.{After, after-refused_if, after-then_do, after-checked}
 use Rattle.sup_world.proofs.RowSets.{some_same, none_some}
-use Rattle.sup_world.proofs.ActGrowth.{dots_in, IsNoRefusal, ActsAt, there, issues, takes, posts_grow}
+use Rattle.sup_world.proofs.ActGrowth.{dots_in, ActsAt, there, issues, takes, posts_grow}
 
 -- what a command adds has the next dot
 pub adds_next : (r : Reading) (c : Command) (q : Row) → (operation r c).add ≡ Some q → q.dot ≡ next r
@@ -42,22 +42,13 @@ tells_added r (Delete id) = refl
 tells_added r (Register name id) = refl
 tells_added r (Unregister name) = refl
 
-tells_made : (c : Command) (dot : Dot) (dots : List Dot) → IsNoRefusal (reply c dot dots)
-tells_made (Join info) dot dots = tt
-tells_made (Leave member) dot dots = tt
-tells_made (Start id spec) dot dots = tt
-tells_made (Replace id spec) dot dots = tt
-tells_made (Delete id) dot dots = tt
-tells_made (Register name id) dot dots = tt
-tells_made (Unregister name) dot dots = tt
-
 module _ (w : World) (s : Site) (found : site_of w s.name ≡ Some s) where
   pub command_acts : (c : Command) → After (ActsAt w s) (command_at s c)
   command_acts c =
       let r = reading s in
       let op = operation r c in
       let answer = reply c (next r) op.removes in
-      after-checked (ActsAt w s) (may r c) (changes s (op ∷ []) answer) (issues w s found op answer (adds_next r c) (tells_added r c) (tells_made c (next r) op.removes))
+      after-checked (ActsAt w s) (may r c) (changes s (op ∷ []) answer) (issues w s found op answer (adds_next r c) (tells_added r c))
 
   ship_acts : (to : Bytes) → After (ActsAt w s) (ship_at s to)
   ship_acts to =
@@ -68,19 +59,19 @@ module _ (w : World) (s : Site) (found : site_of w s.name ≡ Some s) where
       let goes : Message → Result Outcome Refusal = λ x. Ok (posts s x) in
       after-then_do Is (ActsAt w s) (shipment s to) goes
       (after-refused_if Is (is_named to s.name) UnknownNode rest (after-refused_if Is (s.count == 0) UpToDate ok refl))
-      (λ x e. record { new = None; grows = posts_grow w s found x (ap (λ (y : Message). y.operations) e); dots = refl; made = tt })
+      (λ x e. record { new = None; grows = posts_grow w s found x (ap (λ (y : Message). y.operations) e); dots = refl })
 
   pub ship_in_acts : (to : Bytes) → After (ActsAt w s) (ship_in w to s)
   ship_in_acts to = after-refused_if (ActsAt w s) (not (is_some (site_of w to))) UnknownNode (ship_at s to) (ship_acts to)
 
   pub takes_in_acts : (more : List Operation) → ((r : Row) → HasRow more r → HasRow (everything w.sites) r) → (b : Bool) → After (ActsAt w s) (takes_in s more b)
   takes_in_acts more known true =
-      record { new = None; dots = refl; made = tt; grows = takes w s found more known (record s { operations = s.operations ++ more }) refl refl refl }
+      record { new = None; dots = refl; grows = takes w s found more known (record s { operations = s.operations ++ more }) refl refl refl }
   takes_in_acts more known false =
       let t : Site = changed s more in
       let o : Outcome = record { answer = Absorbed; site = t } in
       let ok : Result Outcome Refusal = Ok o in
-      after-checked (ActsAt w s) (may_change s.count) ok (record { new = None; dots = refl; made = tt; grows = takes w s found more known t refl refl refl })
+      after-checked (ActsAt w s) (may_change s.count) ok (record { new = None; dots = refl; grows = takes w s found more known t refl refl refl })
 
   pub deliver_acts : (m : Message) → IsUnderWay w m → After (ActsAt w s) (deliver_at s m)
   deliver_acts m known = takes_in_acts m.operations known (covers s.operations m.operations)
@@ -89,6 +80,5 @@ module _ (w : World) (s : Site) (found : site_of w s.name ≡ Some s) where
   show_acts weight = record {
     new = None;
     dots = refl;
-    made = tt;
     grows = record { name = refl; keeps = λ r h. h; keeps_own = λ r h. h; from = λ r h. inl (there w s found r h); fresh = λ r e. absurd (none_some r e); there = λ r e. absurd (none_some r e) };
   }

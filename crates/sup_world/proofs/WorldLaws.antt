@@ -15,10 +15,8 @@ use Rattle.sup_world.specs.declared.step.Step.{Step}
 use Rattle.sup_world.specs.Worlds.{Site, World, new_site}
 use Rattle.sup_world.specs.Steps.{Stepped, step}
 use Rattle.sup_world.specs.Runs.{Allows, answer_of, world_after}
+use Rattle.sup_world.specs.Made.{IsNoRefusal}
 use Rattle.sup_world.specs.Stands.{AllStand, WorldBecomes, Gives}
-use Rattle.sup_world.proofs.Afters.{After}
-use Rattle.sup_world.proofs.ActGrowth.{IsNoRefusal}
-use Rattle.sup_world.proofs.StepGrowth.{StepAt, step_acts}
 use Rattle.sup_world.proofs.PostLaws.{zip_push}
 
 map_more : {A B : Type 0} (f : A → B) (xs : List A) (x : A) → map f (xs ++ x ∷ []) ≡ map f xs ++ f x ∷ []
@@ -41,13 +39,6 @@ pub ok_allows : (weight : Weigher) (model : World) (s : Step) (nodes : List Node
     → (after : World) × Allows weight model s answer after × AllStand nodes outboxes after
 ok_allows weight model s nodes outboxes answer (Ok x) is b = (x.world, inl (b.answers ∙ ap answer_of is, ap (world_after model) is), b.stand)
 ok_allows weight model s nodes outboxes answer (Err r) is g = absurd g
-
--- it is none of a refused step
-pub made_answer : (weight : Weigher) (model : World) (s : Step) (nodes : List Node) (outboxes : List Outbox) (answer : Answer) → Gives (WorldBecomes nodes outboxes) (step weight model s) (Ok answer) → IsNoRefusal answer
-made_answer weight model s nodes outboxes answer g = made_by (step weight model s) (step_acts weight model s) g where
-  made_by : (expected : Result Stepped Refusal) → After (StepAt model) expected → Gives (WorldBecomes nodes outboxes) expected (Ok answer) → IsNoRefusal answer
-  made_by (Ok x) a b = subst IsNoRefusal (sym (b.answers ∙ a.answer)) a.acts.made
-  made_by (Err r) a g = absurd g
 
 pub no_refusal : (answer : Answer) (refusal : Refusal) → IsNoRefusal answer → answer ≡ Refused refusal → ⊥
 no_refusal answer refusal made is = subst IsNoRefusal is made

@@ -8,3 +8,4 @@ pub mod Sound
 pub mod Headline
 pub mod Stands
 pub mod Issuing
+pub mod Made

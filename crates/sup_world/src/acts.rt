@@ -7,6 +7,7 @@ ghost use Rattle.sup_placement.specs.Place.{Weigher};
 ghost use Rattle.sup_world.specs.Sound.{IsUnderWay};
 ghost use Rattle.sup_world.specs.Worlds.{Message as Sent, Site, World, is_named};
 ghost use Rattle.sup_world.specs.Steps.{at_node, deliver_at, message_in, ship_at, step};
+ghost use Rattle.sup_world.specs.Made.{IsNoRefusal};
 ghost use Rattle.sup_world.specs.Stands.{NodeStandsFor, MessageStandsFor, OutboxStandsFor, AllStand, PostBecomes, WorldBecomes, Gives, Finds};
 
 use crate::answer::{Answer, Letter, LetterKind};
@@ -39,6 +40,7 @@ pub fn command(
     command: &Command,
 ) -> Result<Answer, Refusal>
     ensures gives { (weight : Weigher) (model : World) (outboxes : List OutboxValue) → AllStand nodes.old outboxes model → Gives (WorldBecomes nodes.new outboxes) (step weight model (Step.Act name.now command.now)) result }
+    ensures made { IfOk result IsNoRefusal }
     ensures refused { OnErr result (nodes.new ≡ nodes.old) }
 {
     let place = place_of(nodes, name)?;
@@ -55,6 +57,7 @@ pub fn ship(
 ) -> Result<Answer, Refusal>
     requires { length outboxes.old ≡ length nodes.now }
     ensures gives { (weight : Weigher) (model : World) → AllStand nodes.now outboxes.old model → Gives (WorldBecomes nodes.now outboxes.new) (step weight model (Step.Ship name.now to.now)) result }
+    ensures made { IfOk result IsNoRefusal }
     ensures refused { OnErr result (outboxes.new ≡ outboxes.old) }
 {
     let place = place_of(nodes, name)?;
@@ -65,6 +68,7 @@ pub fn ship(
 // Sends all that the node knows.
 fn send(alloc: Global, node: &Node, outbox: &mut Outbox, to: &NodeName) -> Result<Answer, Refusal>
     ensures gives { (site : Site) → NodeStandsFor node.now site → OutboxStandsFor outbox.old site → Gives (PostBecomes outbox.new) (ship_at site to.now) result }
+    ensures made { IfOk result IsNoRefusal }
     ensures refused { OnErr result (outbox.new ≡ outbox.old) }
 {
     let message = node.shipment(alloc, to)?;
@@ -89,6 +93,7 @@ pub fn deliver(
 ) -> Result<Answer, Refusal>
     requires { length outboxes.now ≡ length nodes.old }
     ensures gives { (weight : Weigher) (model : World) → AllStand nodes.old outboxes.now model → Gives (WorldBecomes nodes.new outboxes.now) (step weight model (Step.Deliver from.now k)) result }
+    ensures made { IfOk result IsNoRefusal }
     ensures refused { OnErr result (nodes.new ≡ nodes.old) }
 {
     let message = message_from(nodes, outboxes, from, k)?;
@@ -102,7 +107,8 @@ pub fn show<W: Weigh>(
     name: &NodeName,
     weigher: &W,
 ) -> Result<Answer, Refusal>
-    ensures { (model : World) (outboxes : List OutboxValue) → AllStand nodes.now outboxes model → Gives (WorldBecomes nodes.now outboxes) (step W.weight_of model (Step.Show name.now)) result }
+    ensures gives { (model : World) (outboxes : List OutboxValue) → AllStand nodes.now outboxes model → Gives (WorldBecomes nodes.now outboxes) (step W.weight_of model (Step.Show name.now)) result }
+    ensures made { IfOk result IsNoRefusal }
 {
     let place = place_of(nodes, name)?;
     nodes[place].show(alloc, weigher)
@@ -129,6 +135,7 @@ fn message_from<'a>(
 fn arrive(alloc: Global, nodes: &mut [Node], message: &Message) -> Result<Answer, Refusal>
     ensures gives { (model : World) (outboxes : List OutboxValue) (m : Sent) → AllStand nodes.old outboxes model → MessageStandsFor message.now m → IsUnderWay model m
         → Gives (WorldBecomes nodes.new outboxes) (at_node model m.to (λ receiver. deliver_at receiver m)) result }
+    ensures made { IfOk result IsNoRefusal }
     ensures refused { OnErr result (nodes.new ≡ nodes.old) }
 {
     let place = place_of(nodes, &message.to)?;

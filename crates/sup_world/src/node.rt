@@ -1,9 +1,10 @@
 //! A node of a world: what it knows, and how often that changed.
-ghost use Rattle.std.specs.Prelude.{◌≡◌, ◌<◌, ◌++◌, List, OnOk, OnErr};
+ghost use Rattle.std.specs.Prelude.{◌≡◌, ◌<◌, ◌++◌, List, IfOk, OnOk, OnErr};
 ghost use Rattle.sup_tables.specs.Operations.{Operation, NoClash};
 ghost use Rattle.sup_tables.specs.States.{StandsFor};
 ghost use Rattle.sup_world.specs.Worlds.{Message as Sent, Site, new_site};
 ghost use Rattle.sup_world.specs.Steps.{may_change, changed, changes, command_at, deliver_at, show_at, shipment};
+ghost use Rattle.sup_world.specs.Made.{IsNoRefusal};
 ghost use Rattle.sup_world.specs.Stands.{NodeStandsFor, NodeBecomes, MessageStandsFor, Gives};
 
 mod checks;
@@ -51,6 +52,7 @@ impl Node {
     /// Carries out a command.
     pub fn command(&mut self, alloc: Global, command: &Command) -> Result<Answer, Refusal>
         ensures gives { (site : Site) → NodeStandsFor self.old site → NoClash site.operations → Gives (NodeBecomes self.new) (command_at site command.now) result }
+        ensures made { IfOk result IsNoRefusal }
         ensures refused { OnErr result (self.new ≡ self.old) }
     {
         self.may(command)?;
@@ -81,6 +83,7 @@ impl Node {
     /// Takes in what a message brings.
     pub fn deliver(&mut self, alloc: Global, tables: &Tables) -> Result<Answer, Refusal>
         ensures gives { (site : Site) (m : Sent) → NodeStandsFor self.old site → StandsFor tables.now m.operations → NoClash (site.operations ++ m.operations) → Gives (NodeBecomes self.new) (deliver_at site m) result }
+        ensures made { IfOk result IsNoRefusal }
         ensures refused { OnErr result (self.new ≡ self.old) }
     {
         if tables.leq(&self.tables) {
@@ -91,7 +94,8 @@ impl Node {
 
     /// Shows the tables.
     pub fn show<W: Weigh>(&self, alloc: Global, weigher: &W) -> Result<Answer, Refusal>
-        ensures { (site : Site) → NodeStandsFor self.now site → Gives (NodeBecomes self.now) (show_at W.weight_of site) result }
+        ensures gives { (site : Site) → NodeStandsFor self.now site → Gives (NodeBecomes self.now) (show_at W.weight_of site) result }
+        ensures made { IfOk result IsNoRefusal }
     {
         let lines = lines_of(alloc, &self.tables, weigher)?;
         Ok(Answer::Shown {
@@ -104,6 +108,7 @@ impl Node {
     // Takes in what is new to the node.
     fn absorb(&mut self, alloc: Global, tables: &Tables) -> Result<Answer, Refusal>
         ensures gives { (site : Site) (ops : List Operation) → NodeStandsFor self.old site → StandsFor tables.now ops → NoClash (site.operations ++ ops) → Gives (NodeBecomes self.new) (changes site ops Answer.Absorbed) result }
+        ensures made { IfOk result IsNoRefusal }
         ensures refused { OnErr result (self.new ≡ self.old) }
     {
         self.may_change()?;

@@ -3,6 +3,7 @@ ghost use Rattle.std.specs.Prelude.{◌≡◌, length, map, IfOk, OnErr};
 ghost use Rattle.std.specs.List.{AllZip};
 ghost use Rattle.sup_world.specs.Worlds.{World as Model, new_site, new_world};
 ghost use Rattle.sup_world.specs.Steps.{step as model_step};
+ghost use Rattle.sup_world.specs.Made.{IsNoRefusal};
 ghost use Rattle.sup_world.specs.Stands.{NodeStandsFor, OutboxStandsFor, AllStand, WorldStandsFor, WorldBecomes, Gives, Follows, IsAsBefore};
 
 use crate::acts;
@@ -31,7 +32,7 @@ impl World {
     /// `OutOfMemory` comes only where a growth was refused, in place of an answer that is no refusal.
     pub fn step<W: Weigh>(&mut self, alloc: Global, step: &Step, weigher: &W) -> Answer
         ensures follows { (model : Model) → WorldStandsFor self.old model → Follows W.weight_of model step.now result self.new }
-        ensures refused { (model : Model) (refusal : Refusal) → WorldStandsFor self.old model → result ≡ Answer.Refused refusal → IsAsBefore self.old self.new }
+        ensures refused { (refusal : Refusal) → result ≡ Answer.Refused refusal → IsAsBefore self.old self.new }
     {
         match act(alloc, &mut self.nodes, &mut self.outboxes, step, weigher) {
             Ok(answer) => answer,
@@ -56,8 +57,7 @@ fn new_outboxes(alloc: Global, names: &[NodeName]) -> Result<Vec<Outbox>, AllocE
     ensures { IfOk result (λ outboxes. AllZip OutboxStandsFor outboxes.items (map new_site names.now)) }
 {
     let mut outboxes = Vec::new(alloc);
-    for name in names {
-        let _ = name;
+    for _ in names {
         outboxes.push(Outbox::new(alloc))?;
     }
     Ok(outboxes)
@@ -73,6 +73,7 @@ fn act<W: Weigh>(
 ) -> Result<Answer, Refusal>
     requires { length outboxes.old ≡ length nodes.old }
     ensures gives { (model : Model) → AllStand nodes.old outboxes.old model → Gives (WorldBecomes nodes.new outboxes.new) (model_step W.weight_of model step.now) result }
+    ensures made { IfOk result IsNoRefusal }
     ensures nodes { OnErr result (nodes.new ≡ nodes.old) }
     ensures outboxes { OnErr result (outboxes.new ≡ outboxes.old) }
 {

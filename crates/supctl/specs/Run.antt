@@ -3,7 +3,7 @@ use Rattle.std.specs.Prelude.{◌≡◌, ℕ, ◌⊎◌, List, [], ◌∷◌, �
 use Rattle.std.specs.Io.KnownBytes.{Appends}
 use Rattle.sup_placement.specs.Place.{Weigher}
 pub use Rattle.supctl.specs.Ends.{Bytes, TakesAtMost}
-use Rattle.supctl.specs.Ends.{Job, Does, EndsAt, StopsAt}
+use Rattle.supctl.specs.Ends.{Job, Does, EndsAt}
 use Rattle.sup_script.specs.Script.{ScriptText, script_of}
 use Rattle.sup_script.specs.Text.{answer_text}
 use Rattle.sup_world.specs.Worlds.{World, new_world}
@@ -64,9 +64,6 @@ simulation weight = record {
 -- How a run over this input ends, and what the writer has got then.
 abbrev pub Ends : {X : Type 0} → Weigher → List ℕ → Bytes → Bytes → Result X Fault → Type 0
 Ends weight input before written end = EndsAt (simulation weight) input before written end
-
-abbrev pub Stops : Weigher → List ℕ → Bytes → Bytes → Type 0
-Stops weight input before written = StopsAt (simulation weight) input before written
 
 -- The status tells how the run ended, and the error writer has got that end's fault line or a front of it.
 abbrev pub Simulates : Weigher → Bytes → Bytes → Bytes → Bytes → Bytes → ℕ → Type 0

@@ -10,7 +10,9 @@ mod run;
 #[cfg(test)]
 mod tests;
 
-ghost use Rattle.supctl.specs.Run.{Refuses};
+ghost use Rattle.std.specs.Prelude.{◌≡◌, ◌≢◌};
+ghost use Rattle.std.specs.IoError.{error_kind};
+ghost use Rattle.supctl.specs.Run.{TellsUsage, WantsMemory};
 
 use output::put_all;
 use std::env;
@@ -40,7 +42,8 @@ fn words_of(rt: &HostRuntime) -> io::Result<Vec<String>> {
 
 // Words that are no text are refused as words that are no command.
 fn without_words<E: Write>(error: &io::Error, errors: &mut E) -> u8
-    ensures { Refuses (E.contents errors.old) (E.contents errors.new) result }
+    ensures usage { error_kind error.now ≢ ErrorKind.OutOfMemory → TellsUsage (E.contents errors.old) (E.contents errors.new) result }
+    ensures memory { error_kind error.now ≡ ErrorKind.OutOfMemory → WantsMemory (E.contents errors.old) (E.contents errors.new) result }
 {
     if error.kind() == ErrorKind::OutOfMemory {
         return run::want_of_memory(errors);

@@ -47,7 +47,9 @@ fn matches_of<'a, S: AsStr>(alloc: Global, words: &'a [S]) -> Result<ArgMatches<
 }
 
 // `clap` takes any text for a weigher, so that this is told apart.
-fn unknown_weigher(alloc: Global) -> Result<Error, AllocError> {
+fn unknown_weigher(alloc: Global) -> Result<Error, AllocError>
+    ensures { IfOk result (λ e. kind_of e ≡ ErrorKind.InvalidValue) }
+{
     let mut command = supctl(alloc)?;
     command.error(
         ErrorKind::InvalidValue,

@@ -1,5 +1,6 @@
 //! The lines of commands, each by its form.
 
+ghost use Rattle.std.specs.Prelude.{◌≡◌, IfErr};
 ghost use Rattle.sup_script.specs.Words.{Reads, texts};
 ghost use Rattle.sup_script.specs.Forms.{delete_of, info_of, join_of, leave_of, register_of, replace_of, spec_of, start_of, unregister_of};
 
@@ -32,7 +33,8 @@ pub fn read_join(alloc: Global, words: &[&str]) -> Result<Step, LineFault>
 /// A member is taken out.
 #[tactic(auto, unfolding(crate::specs::Forms::leave_of))]
 pub fn read_leave(words: &[&str]) -> Result<Step, LineFault>
-    ensures { Reads (λ step. step) result (leave_of (texts words.now)) }
+    ensures step { Reads (λ step. step) result (leave_of (texts words.now)) }
+    ensures bad { IfErr result (λ e. e ≡ LineFault.Bad) }
 {
     match words {
         [node, member] => {

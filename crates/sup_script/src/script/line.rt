@@ -1,5 +1,6 @@
 //! The lines after `nodes`, each by its form.
 
+ghost use Rattle.std.specs.Prelude.{◌≡◌, IfErr};
 ghost use Rattle.sup_script.specs.Words.{Reads, texts};
 ghost use Rattle.sup_script.specs.Forms.{deliver_of, form_of, ship_of, show_of};
 ghost use Rattle.sup_script.specs.Script.{step_of};
@@ -52,7 +53,8 @@ fn read_form(alloc: Global, words: &[&str]) -> Result<Step, LineFault>
 
 #[tactic(auto, unfolding(crate::specs::Forms::ship_of))]
 fn read_ship(words: &[&str]) -> Result<Step, LineFault>
-    ensures { Reads (λ step. step) result (ship_of (texts words.now)) }
+    ensures step { Reads (λ step. step) result (ship_of (texts words.now)) }
+    ensures bad { IfErr result (λ e. e ≡ LineFault.Bad) }
 {
     match words {
         [node, to] => {
@@ -66,7 +68,8 @@ fn read_ship(words: &[&str]) -> Result<Step, LineFault>
 
 #[tactic(auto, unfolding(crate::specs::Forms::deliver_of))]
 fn read_deliver(words: &[&str]) -> Result<Step, LineFault>
-    ensures { Reads (λ step. step) result (deliver_of (texts words.now)) }
+    ensures step { Reads (λ step. step) result (deliver_of (texts words.now)) }
+    ensures bad { IfErr result (λ e. e ≡ LineFault.Bad) }
 {
     match words {
         [from, number] => {
@@ -80,7 +83,8 @@ fn read_deliver(words: &[&str]) -> Result<Step, LineFault>
 
 #[tactic(auto, unfolding(crate::specs::Forms::show_of))]
 fn read_show(words: &[&str]) -> Result<Step, LineFault>
-    ensures { Reads (λ step. step) result (show_of (texts words.now)) }
+    ensures step { Reads (λ step. step) result (show_of (texts words.now)) }
+    ensures bad { IfErr result (λ e. e ≡ LineFault.Bad) }
 {
     match words {
         [node] => {

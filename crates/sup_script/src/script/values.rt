@@ -1,6 +1,6 @@
 //! The values that words are.
 
-ghost use Rattle.std.specs.Prelude.{◌≡◌, ◌<◌, ◌≤◌, ◌^◌, IfOk};
+ghost use Rattle.std.specs.Prelude.{◌≡◌, ◌<◌, ◌≤◌, ◌^◌, IfOk, IfErr};
 ghost use Rattle.std.specs.List.{list_all};
 ghost use Rattle.std.specs.Char.{is_ascii_digit};
 ghost use Rattle.sup_script.specs.Words.{Reads};
@@ -16,7 +16,8 @@ const MOST_MILLIS: u64 = 4_294_967_295;
 /// The name of a node that a word is.
 #[tactic(auto, unfolding(crate::specs::Values::node_name_of))]
 pub fn read_node_name(word: &str) -> Result<NodeName, LineFault>
-    ensures { Reads (λ name. name) result (node_name_of word.now) }
+    ensures name { Reads (λ name. name) result (node_name_of word.now) }
+    ensures bad { IfErr result (λ e. e ≡ LineFault.Bad) }
 {
     Ok(NodeName::parse(word)?)
 }
@@ -58,6 +59,7 @@ pub fn read_text(alloc: Global, word: &str) -> Result<Text, LineFault>
 pub fn read_number(word: &str, greatest: u64) -> Result<u64, LineFault>
     ensures value { Reads (λ number. number) result (number_of greatest word.now) }
     ensures bound { IfOk result (λ number. number ≤ greatest) }
+    ensures bad { IfErr result (λ e. e ≡ LineFault.Bad) }
 {
     if !is_numeral(word.as_bytes()) {
         return Err(LineFault::Bad);
@@ -83,7 +85,8 @@ fn are_digits(bytes: &[u8]) -> bool
 /// The restart type that a word is.
 #[tactic(auto, unfolding(crate::specs::Values::restart_of))]
 pub fn read_restart(word: &str) -> Result<Restart, LineFault>
-    ensures { Reads (λ restart. restart) result (restart_of word.now) }
+    ensures restart { Reads (λ restart. restart) result (restart_of word.now) }
+    ensures bad { IfErr result (λ e. e ≡ LineFault.Bad) }
 {
     match word {
         "permanent" => Ok(Restart::Permanent),
@@ -96,7 +99,8 @@ pub fn read_restart(word: &str) -> Result<Restart, LineFault>
 /// The shutdown that a word is.
 #[tactic(auto, unfolding(crate::specs::Values::shutdown_of))]
 pub fn read_shutdown(word: &str) -> Result<Shutdown, LineFault>
-    ensures { Reads (λ shutdown. shutdown) result (shutdown_of word.now) }
+    ensures shutdown { Reads (λ shutdown. shutdown) result (shutdown_of word.now) }
+    ensures bad { IfErr result (λ e. e ≡ LineFault.Bad) }
 {
     match word {
         "brutal_kill" => Ok(Shutdown::Brutal),

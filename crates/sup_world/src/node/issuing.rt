@@ -1,6 +1,7 @@
 //! The operations of commands.
 ghost use Rattle.std.specs.Prelude.{IfOk, IfErr};
 ghost use Rattle.sup_world.specs.declared.command.Command.TheVariants.{Join, Leave, Start, Replace, Delete, Register, Unregister};
+ghost use Rattle.sup_world.specs.Made.{IsNoRefusal};
 ghost use Rattle.sup_world.specs.Issuing.{Brings, Replies, LacksMemory};
 
 use crate::answer::{Answer, Dots};
@@ -20,6 +21,7 @@ impl Node {
     ) -> Result<(Tables, Answer), Refusal>
         ensures delta { IfOk result (λ r. Brings self.now command.now r.0) }
         ensures answer { IfOk result (λ r. Replies self.now command.now r.1) }
+        ensures made { IfOk result (λ r. IsNoRefusal r.1) }
         ensures refused { IfErr result (LacksMemory self.now command.now) }
     {
         match command {
@@ -36,6 +38,7 @@ impl Node {
     fn join(&self, alloc: Global, info: &MemberInfo) -> Result<(Tables, Answer), Refusal>
         ensures delta { IfOk result (λ r. Brings self.now (Join info.now) r.0) }
         ensures answer { IfOk result (λ r. Replies self.now (Join info.now) r.1) }
+        ensures made { IfOk result (λ r. IsNoRefusal r.1) }
         ensures refused { IfErr result (LacksMemory self.now (Join info.now)) }
     {
         let info = info.try_clone(alloc)?;
@@ -46,6 +49,7 @@ impl Node {
     fn leave(&self, member: &NodeName) -> Result<(Tables, Answer), Refusal>
         ensures delta { IfOk result (λ r. Brings self.now (Leave member.now) r.0) }
         ensures answer { IfOk result (λ r. Replies self.now (Leave member.now) r.1) }
+        ensures made { IfOk result (λ r. IsNoRefusal r.1) }
         ensures refused { IfErr result (LacksMemory self.now (Leave member.now)) }
     {
         let (delta, dots) = self.tables.drop_member(member)?;
@@ -60,6 +64,7 @@ impl Node {
     ) -> Result<(Tables, Answer), Refusal>
         ensures delta { IfOk result (λ r. Brings self.now (Start id.now spec.now) r.0) }
         ensures answer { IfOk result (λ r. Replies self.now (Start id.now spec.now) r.1) }
+        ensures made { IfOk result (λ r. IsNoRefusal r.1) }
         ensures refused { IfErr result (LacksMemory self.now (Start id.now spec.now)) }
     {
         let id = id.try_clone(alloc)?;
@@ -76,6 +81,7 @@ impl Node {
     ) -> Result<(Tables, Answer), Refusal>
         ensures delta { IfOk result (λ r. Brings self.now (Replace id.now spec.now) r.0) }
         ensures answer { IfOk result (λ r. Replies self.now (Replace id.now spec.now) r.1) }
+        ensures made { IfOk result (λ r. IsNoRefusal r.1) }
         ensures refused { IfErr result (LacksMemory self.now (Replace id.now spec.now)) }
     {
         let id = id.try_clone(alloc)?;
@@ -88,6 +94,7 @@ impl Node {
     fn delete(&self, id: &ChildId) -> Result<(Tables, Answer), Refusal>
         ensures delta { IfOk result (λ r. Brings self.now (Delete id.now) r.0) }
         ensures answer { IfOk result (λ r. Replies self.now (Delete id.now) r.1) }
+        ensures made { IfOk result (λ r. IsNoRefusal r.1) }
         ensures refused { IfErr result (LacksMemory self.now (Delete id.now)) }
     {
         let (delta, dots) = self.tables.drop_child(id)?;
@@ -102,6 +109,7 @@ impl Node {
     ) -> Result<(Tables, Answer), Refusal>
         ensures delta { IfOk result (λ r. Brings self.now (Register name.now id.now) r.0) }
         ensures answer { IfOk result (λ r. Replies self.now (Register name.now id.now) r.1) }
+        ensures made { IfOk result (λ r. IsNoRefusal r.1) }
         ensures refused { IfErr result (LacksMemory self.now (Register name.now id.now)) }
     {
         let name = name.try_clone(alloc)?;
@@ -113,6 +121,7 @@ impl Node {
     fn unregister(&self, name: &Name) -> Result<(Tables, Answer), Refusal>
         ensures delta { IfOk result (λ r. Brings self.now (Unregister name.now) r.0) }
         ensures answer { IfOk result (λ r. Replies self.now (Unregister name.now) r.1) }
+        ensures made { IfOk result (λ r. IsNoRefusal r.1) }
         ensures refused { IfErr result (LacksMemory self.now (Unregister name.now)) }
     {
         let (delta, dots) = self.tables.drop_name(name)?;

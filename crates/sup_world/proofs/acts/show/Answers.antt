@@ -8,18 +8,18 @@ use Rattle.sup_world.proofs.Here.{here}
 use Rattle.sup_world.proofs.Refusals.{refused_gives}
 use Rattle.sup_world.proofs.acts.show.Goals as goal
 
-pub returns-in_err-place : goal.returns-in_err-place
-returns-in_err-place g c model outboxes stand =
+pub returns-in_err-place-clause-gives : goal.returns-in_err-place-clause-gives
+returns-in_err-place-clause-gives g c model outboxes stand =
     let nodes = c.args.nodes.now in
     let act = show_at g.W.Weigh.weight_of in
     refused_gives (WorldBecomes nodes outboxes) (at_node model c.args.name.now act) c.from_residual.result UnknownNode _ c.from_residual.ensures.1 (λ r e. e ∙ c.in_err-place.ensures.refusal)
     (unknown_node model nodes outboxes stand c.args.name.now act nodes outboxes c.in_err-place.ensures.absent)
 
-pub returns : goal.returns
-returns g c model outboxes stand =
+pub returns-clause-gives : goal.returns-clause-gives
+returns-clause-gives g c model outboxes stand =
     let nodes = c.args.nodes.now in
     let name = c.args.name.now in
     let i = c.in_ok-place.place in
     looks model nodes outboxes stand name i (here model nodes outboxes stand name i c.in_ok-place.ensures.place c.in_ok-place.ensures.within)
     g.W.Weigh.weight_of c.index-nodes-place.result c.show.result c.index-nodes-place.result
-    (λ s h. c.show.ensures s (subst (λ (n : Node). NodeStandsFor n s) (sym c.index-nodes-place.is) h))
+    (λ s h. c.show.ensures.gives s (subst (λ (n : Node). NodeStandsFor n s) (sym c.index-nodes-place.is) h))

@@ -3,7 +3,7 @@ use Rattle.sup_world.specs.declared.node.Node.{Node}
 use Rattle.sup_world.specs.declared.outbox.Outbox.{Outbox}
 use Rattle.sup_world.specs.Stands.{AllStand}
 use Rattle.sup_world.specs.Steps.{step}
-use Rattle.sup_world.proofs.WorldLaws.{ok_allows, err_allows, made_answer, no_refusal, lent_back, came_back}
+use Rattle.sup_world.proofs.WorldLaws.{ok_allows, err_allows, no_refusal, lent_back, came_back}
 use Rattle.sup_world.proofs.state.World.step.Goals as goal
 
 pub returns-in-Ok-clause-follows : goal.returns-in-Ok-clause-follows
@@ -36,16 +36,10 @@ returns-in-Err-clause-follows g c model stand =
     c.in-Err.ensures.nodes c.in-Err.ensures.outboxes lent)
 
 pub returns-in-Ok-clause-refused : goal.returns-in-Ok-clause-refused
-returns-in-Ok-clause-refused g c model refusal stand is =
-    let weight = g.W.Weigh.weight_of in
-    let nodes : c.deref_mut.result.now ≡ c.args.self.now.nodes.items = search rules in
-    let outboxes : c.deref_mut-2.result.now ≡ c.args.self.now.outboxes.items = search rules in
-    let lent : AllStand c.deref_mut.result.now c.deref_mut-2.result.now model =
-    subst (λ (n : List Node). AllStand n c.deref_mut-2.result.now model) (sym nodes) (subst (λ (o : List Outbox). AllStand c.args.self.now.nodes.items o model) (sym outboxes) stand) in
-    absurd (no_refusal c.in-Ok.answer refusal (made_answer weight model c.args.step.now c.act.new.nodes c.act.new.outboxes c.in-Ok.answer (c.in-Ok.ensures.gives model lent)) is)
+returns-in-Ok-clause-refused g c refusal is = absurd (no_refusal c.in-Ok.answer refusal c.in-Ok.ensures.made is)
 
 pub returns-in-Err-clause-refused : goal.returns-in-Err-clause-refused
-returns-in-Err-clause-refused g c model refusal stand is =
+returns-in-Err-clause-refused g c refusal is =
     let nodes : c.deref_mut.result.now ≡ c.args.self.now.nodes.items = search rules in
     let outboxes : c.deref_mut-2.result.now ≡ c.args.self.now.outboxes.items = search rules in
     let n : take c.args.self.now.nodes.len (c.act.new.nodes ++ drop (length c.act.new.nodes) c.args.self.now.nodes.items) ≡ c.act.new.nodes =
