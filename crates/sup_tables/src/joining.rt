@@ -40,6 +40,7 @@ impl Lattice for Tables {
             index: None,
             alloc: self.alloc,
         };
+        // For its clause: what was joined is kept as a state is.
         tables.context();
         Ok(tables)
     }
@@ -49,6 +50,7 @@ impl Lattice for Tables {
         ensures below { IsTrue result ↔ (together (knowledge self.now) (knowledge other.now) ≡ knowledge other.now) }
         ensures covers { (ops others : List Operation) → StandsFor self.now ops → StandsFor other.now others → NoClash (others ++ ops) → (IsTrue result ↔ Covers others ops) }
     {
+        // For its clause: the other state is kept as a state is.
         other.context();
         self.state.leq(&other.state)
     }
@@ -60,6 +62,7 @@ impl Lattice for Tables {
         ensures err { OnErr result (self.new ≡ self.old) }
     {
         self.take_in(alloc, other)?;
+        // For its clause, as in `joined`.
         self.context();
         Ok(())
     }
@@ -120,6 +123,7 @@ impl Tables {
     {
         // Joined with nothing, so that each row is copied once and looked up nowhere.
         let nothing = Tables::empty(alloc);
+        // `context` is called for its clause: kept states that know the same have the same rows.
         self.context();
         let copy = self.joined(alloc, &nothing)?;
         copy.context();
