@@ -1,10 +1,9 @@
 //! The tables as a lattice, and their copies.
-ghost use Rattle.std.specs.Prelude.{◌≡◌, ◌↔◌, ◌+◌, ◌++◌, List, IsTrue, IfOk, IfSome, OnOk, OnErr};
-ghost use Rattle.std.specs.BTreeMap.{values};
+ghost use Rattle.std.specs.Prelude.{◌≡◌, ◌↔◌, ◌++◌, List, IsTrue, IfOk, IfSome, OnOk, OnErr};
 ghost use Rattle.sup_causal.specs.declared.dot.Dot.{Dot as DotValue};
 ghost use Rattle.sup_causal.specs.Dots.{has};
 ghost use Rattle.sup_tables.specs.Operations.{Operation, Covers, NoClash};
-ghost use Rattle.sup_dot_store.specs.Index.{count_in};
+ghost use Rattle.sup_tables.specs.Stored.{stored_in, count_stored};
 ghost use Rattle.sup_tables.specs.States.{StandsFor, Knowledge, knowledge, together, together_laws};
 
 use crate::in_place::NotJoined;
@@ -133,7 +132,7 @@ impl Tables {
 
 // How many rows the stores have. None only where there are more than a count can say.
 fn count_of(store: &Stores) -> Option<usize>
-    ensures some { IfSome result (λ n. n ≡ count_in (values store.now.first.stores) + (count_in (values store.now.second.first.stores) + count_in (values store.now.second.second.stores))) }
+    ensures some { IfSome result (λ n. n ≡ count_stored (stored_in store.now)) }
 {
     let names = count_with(0, &store.second.second)?;
     let children = count_with(names, &store.second.first)?;
