@@ -28,7 +28,7 @@ use Rattle.std.proofs.lemmas.List.Elements.{All-from_recursion}
 use Rattle.sup_tables.specs.States.{State, IsKept}
 use Rattle.sup_tables.proofs.AddLaws.{or-left, or-right, row_itself, same_dot}
 use Rattle.sup_tables.specs.Readers.{entries, live_dots}
-use Rattle.sup_tables.specs.Stored.{Values, Stored, rows_in, member_row, child_row, name_row, state_of, first_value, rows_under, dots_under}
+use Rattle.sup_tables.specs.Stored.{Values, Stored, rows_in, member_row, child_row, name_row, state_of, values_under}
 use Rattle.sup_tables.proofs.StoredLaws.{IsOrderedStored}
 use Rattle.sup_tables.proofs.PointLaws.{same_text}
 use Rattle.sup_tables.proofs.OrderedRows.{all_rows, stored_is}
@@ -53,22 +53,26 @@ pub nothing_after : {X : Type 0} (xs : List X) → xs ++ [] ≡ xs
 nothing_after [] = refl
 nothing_after (x ∷ xs) = ap (λ ys. x ∷ ys) (nothing_after xs)
 
+-- the rows of a key, by dot
+abbrev pub key_rows : {V : Type 0} → (Bytes → Dot → V → Row) → Bytes → Option (DotFun V) → List Row
+key_rows make k o = map (λ e. make k e.0 e.1) (values_under o)
+
 module _ {V : Type 0} (make : Bytes → Dot → V → Row) (table : Table) (at_made : (k l : Bytes) (d : Dot) (v : V) → is_at table k (make l d v) ≡ eq_by_cmp text_cmp k l) where
   each_here : (k l : Bytes) (b : Bool) → eq_by_cmp text_cmp k l ≡ b → (fs : List (Dot × V)) → AllByRecursion (λ r. is_at table k r ≡ b) (map (λ f. make l f.0 f.1) fs)
   each_here k l b e [] = tt
   each_here k l b e (f ∷ fs) = (at_made k l f.0 f.1 ∙ e, each_here k l b e fs)
 
   entries_step : (k : Bytes) (e : Bytes × DotFun V) (es : Values V) → (is_key (text_cmp k) e.0 ≡ true → lookup (is_key (text_cmp k)) es ≡ None)
-      → filter (is_at table k) (rows_in make es) ≡ rows_under make k (lookup (is_key (text_cmp k)) es)
+      → filter (is_at table k) (rows_in make es) ≡ key_rows make k (lookup (is_key (text_cmp k)) es)
       → (b : Bool) → is_key (text_cmp k) e.0 ≡ b
-      → filter (is_at table k) (map (λ f. make e.0 f.0 f.1) e.1.values.entries) ++ filter (is_at table k) (rows_in make es) ≡ rows_under make k (cond b (Some e.1) (lookup (is_key (text_cmp k)) es))
+      → filter (is_at table k) (map (λ f. make e.0 f.0 f.1) e.1.values.entries) ++ filter (is_at table k) (rows_in make es) ≡ key_rows make k (cond b (Some e.1) (lookup (is_key (text_cmp k)) es))
   entries_step k e es past rest true h =
-      (λ i. filter_all (is_at table k) (map (λ f. make e.0 f.0 f.1) e.1.values.entries) (each_here k e.0 true h e.1.values.entries) i ++ (rest ∙ ap (rows_under make k) (past h)) i)
+      (λ i. filter_all (is_at table k) (map (λ f. make e.0 f.0 f.1) e.1.values.entries) (each_here k e.0 true h e.1.values.entries) i ++ (rest ∙ ap (key_rows make k) (past h)) i)
       ∙ nothing_after _ ∙ ap (λ l. map (λ f. make l f.0 f.1) e.1.values.entries) (sym (same_text k e.0 h))
   entries_step k e es past rest false h =
       ap (λ rs. rs ++ filter (is_at table k) (rows_in make es)) (filter_none (is_at table k) (map (λ f. make e.0 f.0 f.1) e.1.values.entries) (each_here k e.0 false h e.1.values.entries)) ∙ rest
 
-  pub entries_in : (k : Bytes) (es : Values V) → IsStrictlySortedBy text_cmp (keys_of es) → filter (is_at table k) (rows_in make es) ≡ rows_under make k (lookup (is_key (text_cmp k)) es)
+  pub entries_in : (k : Bytes) (es : Values V) → IsStrictlySortedBy text_cmp (keys_of es) → filter (is_at table k) (rows_in make es) ≡ key_rows make k (lookup (is_key (text_cmp k)) es)
   unfolding IsStrictlySortedBy
   entries_in k [] s = refl
   entries_in k (e ∷ es) s =
@@ -93,19 +97,19 @@ module _ (context : Context) (s : Stored) (o : IsOrderedStored s) (k : Bytes) wh
       ∙ filter_append (is_at t k) (rows_in member_row s.member_values) (rows_in child_row s.child_values ++ rows_in name_row s.name_values)
       ∙ ap (λ rs. filter (is_at t k) (rows_in member_row s.member_values) ++ rs) (filter_append (is_at t k) (rows_in child_row s.child_values) (rows_in name_row s.name_values))
 
-  pub member_entries : entries (state_of context s).rows members k ≡ rows_under member_row k (lookup (is_key (text_cmp k)) s.member_values)
+  pub member_entries : entries (state_of context s).rows members k ≡ key_rows member_row k (lookup (is_key (text_cmp k)) s.member_values)
   member_entries =
       parts members
       ∙ (λ i. entries_in member_row members (λ k l d v. refl) k s.member_values o.member_values i ++ (no_children members k (λ l d v. refl) s.child_values i ++ no_names members k (λ l d v. refl) s.name_values i))
       ∙ nothing_after _
 
-  pub child_entries : entries (state_of context s).rows children k ≡ rows_under child_row k (lookup (is_key (text_cmp k)) s.child_values)
+  pub child_entries : entries (state_of context s).rows children k ≡ key_rows child_row k (lookup (is_key (text_cmp k)) s.child_values)
   child_entries =
       parts children
       ∙ (λ i. no_members children k (λ l d v. refl) s.member_values i ++ (entries_in child_row children (λ k l d v. refl) k s.child_values o.child_values i ++ no_names children k (λ l d v. refl) s.name_values i))
       ∙ nothing_after _
 
-  pub name_entries : entries (state_of context s).rows names k ≡ rows_under name_row k (lookup (is_key (text_cmp k)) s.name_values)
+  pub name_entries : entries (state_of context s).rows names k ≡ key_rows name_row k (lookup (is_key (text_cmp k)) s.name_values)
   name_entries =
       parts names
       ∙ (λ i. no_members names k (λ l d v. refl) s.member_values i ++ (no_children names k (λ l d v. refl) s.child_values i ++ entries_in name_row names (λ k l d v. refl) k s.name_values o.name_values i))
@@ -115,9 +119,8 @@ first_of_map f [] = refl
 first_of_map f (x ∷ xs) = refl
 
 -- the first of a key's rows
-pub first_under : {V : Type 0} (make : Bytes → Dot → V → Row) (k : Bytes) (o : Option (DotFun V)) → slice_get (rows_under make k o) 0 ≡ option_map (λ e. make k e.0 e.1) (first_value o)
-first_under make k None = refl
-first_under make k (Some f) = first_of_map (λ e. make k e.0 e.1) f.values.entries
+pub first_under : {V : Type 0} (make : Bytes → Dot → V → Row) (k : Bytes) (o : Option (DotFun V)) → slice_get (key_rows make k o) 0 ≡ option_map (λ e. make k e.0 e.1) (slice_get (values_under o) 0)
+first_under make k o = first_of_map (λ e. make k e.0 e.1) (values_under o)
 
 -- a lent value's row
 pub shown : {V : Type 0} (make : Bytes → Dot → V → Row) (k : Bytes) (o : Option (Dot × Bor V)) → option_map (λ r. make k r.0 r.1.now) o ≡ option_map (λ e. make k e.0 e.1) (option_map {U = Dot × V} (λ r. (r.0, r.1.now)) o)
@@ -129,9 +132,8 @@ dots_of_map make made [] = refl
 dots_of_map make made (e ∷ es) = λ i. made e.0 e.1 i ∷ dots_of_map make made es i
 
 -- the dots of a key's rows
-pub dots_of_rows : {V : Type 0} (make : Bytes → Dot → V → Row) → ((k : Bytes) (d : Dot) (v : V) → (make k d v).dot ≡ d) → (k : Bytes) (o : Option (DotFun V)) → map (λ r. r.dot) (rows_under make k o) ≡ dots_under o
-dots_of_rows make made k None = refl
-dots_of_rows make made k (Some f) = dots_of_map (make k) (made k) f.values.entries
+pub dots_of_rows : {V : Type 0} (make : Bytes → Dot → V → Row) → ((k : Bytes) (d : Dot) (v : V) → (make k d v).dot ≡ d) → (k : Bytes) (o : Option (DotFun V)) → map (λ r. r.dot) (key_rows make k o) ≡ keys_of (values_under o)
+dots_of_rows make made k o = dots_of_map (make k) (made k) (values_under o)
 
 each_cond : (P : Dot → Type 0) (r : Row) (rs : List Row) (b : Bool) → P r.dot → AllByRecursion P (map (λ q. q.dot) rs) → AllByRecursion P (map (λ q. q.dot) (cond b (r ∷ rs) rs))
 each_cond P r rs true here rest = (here, rest)

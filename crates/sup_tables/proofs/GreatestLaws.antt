@@ -10,10 +10,11 @@ use Rattle.sup_specs.specs.Rising.{among}
 use Rattle.sup_causal.specs.declared.dot.Dot.{Dot}
 use Rattle.sup_causal.specs.Dots.{Context, has, dot_cmp, IsGreatest, IsNext}
 use Rattle.sup_tables.specs.declared.row.Row.{Row}
-use Rattle.sup_tables.specs.Operations.{Operation, known, dots_of, is_dot_of, greatest, greatest_of, SameOperations}
+use Rattle.sup_tables.specs.Rows.{row_cmp}
+use Rattle.sup_tables.specs.Operations.{Operation, known, added, dots_of, is_dot_of, greatest, greatest_of, SameOperations}
 use Rattle.sup_tables.specs.Makers.{next_dot}
 use Rattle.sup_tables.proofs.OperationLaws.{known_same}
-use Rattle.sup_tables.proofs.AddLaws.{or-left, or-right, same_dot, dot_itself}
+use Rattle.sup_tables.proofs.AddLaws.{or-left, or-right, same_dot, dot_itself, known_of_added}
 use Rattle.sup_tables.proofs.PointLaws.{text_itself, same_text}
 
 of_one : (add : Option Row) (removes : List Dot) (d : Dot) → (is_dot_of add d || among dot_cmp removes d) ≡ among dot_cmp (map (λ r. r.dot) (cons_option add []) ++ removes) d
@@ -92,6 +93,10 @@ greatest_is ops node = record {
   bound = λ d mine k. bound node (flat_map dots_of ops) d mine (sym (known_among ops d) ∙ k);
   reached = λ pos. known_among ops (record { counter = greatest ops node; node = node }) ∙ reached node (flat_map dots_of ops) pos;
 }
+
+-- no added row has a greater counter
+pub added_greatest : (ops : List Operation) (r : Row) → among row_cmp (added ops) r ≡ true → r.dot.counter ≤ greatest ops r.dot.node
+added_greatest ops r e = (greatest_is ops r.dot.node).bound r.dot refl (known_of_added ops r e)
 
 at_most : (holds : Dot → Bool) (node : Bytes) (n m : ℕ) → IsGreatest holds node n → IsGreatest holds node m → n ≤ m
 at_most holds node zero m a b = omega arith

@@ -17,13 +17,13 @@ use Rattle.sup_dot_store.proofs.Causals.{standing_higher}
 use Rattle.sup_dot_store.specs.Points.{standing, higher, value_at}
 use Rattle.sup_tables.specs.Rows.{Table, members, children, names}
 use Rattle.sup_tables.specs.States.{knowledge, point, together}
-use Rattle.sup_tables.specs.Stored.{Values, Stored, value_in, member_row, child_row, name_row, stored_row, state_of, AreCovered}
-use Rattle.sup_tables.specs.InPlace.{AtAll, Same, IsJoined, AreJoined, count_stored}
+use Rattle.sup_tables.specs.Stored.{count_stored, Values, Stored, value_in, member_row, child_row, name_row, state_of, AreCovered}
+use Rattle.sup_tables.specs.InPlace.{AtAll, Same, IsJoined, AreJoined}
 use Rattle.sup_tables.proofs.CountLaws.{stored_count}
 use Rattle.sup_tables.proofs.KnowledgeLaws.{same_knowledge}
 use Rattle.sup_tables.proofs.MappedLaws.{IsHigher, point_is, kept_is, knows_together}
 use Rattle.sup_tables.proofs.OrderedRows.{stored_is}
-use Rattle.sup_tables.proofs.StoredLaws.{IsOrderedStored}
+use Rattle.sup_tables.proofs.StoredLaws.{stored_row, IsOrderedStored}
 
 none_unless : {V : Type 0} (o : Option V) (b : Bool) → (IsSome o → b ≡ true) → b ≡ false → o ≡ None
 none_unless None b h e = refl

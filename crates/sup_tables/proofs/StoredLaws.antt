@@ -25,10 +25,16 @@ use Rattle.sup_tables.specs.declared.row.Entry.{Entry}
 use Rattle.sup_tables.specs.declared.row.Entry.TheVariants.{Member, Child, Name}
 use Rattle.sup_tables.specs.Rows.{Table, members, children, names, table_place, table_of, key_of, row_cmp}
 use Rattle.sup_tables.specs.States.{is_point}
-use Rattle.sup_tables.specs.Stored.{Values, Stored, rows_in, value_in, member_row, child_row, name_row, stored_rows, stored_row}
+use Rattle.sup_tables.specs.Stored.{Values, Stored, rows_in, value_in, member_row, child_row, name_row, stored_rows}
 use Rattle.sup_tables.proofs.OperationLaws.{is_row_of}
 use Rattle.sup_tables.proofs.AddLaws.{same_row, same_dot, dot_itself}
 use Rattle.sup_tables.proofs.PointLaws.{text_itself, same_text}
+
+-- the row of a dot under a table and a key
+abbrev pub stored_row : Stored → Dot → Table → Bytes → Option Row
+stored_row s d members k = option_map (member_row k d) (value_in s.member_values d k)
+stored_row s d children k = option_map (child_row k d) (value_in s.child_values d k)
+stored_row s d names k = option_map (name_row k d) (value_in s.name_values d k)
 
 or-false : (b : Bool) → (b || false) ≡ b
 or-false true = refl

@@ -23,10 +23,10 @@ use Rattle.sup_dot_store.specs.declared.dot_fun.DotFun.{DotFun}
 use Rattle.sup_tables.specs.declared.row.Row.{Row}
 use Rattle.sup_tables.specs.Rows.{Table, members, children, names, is_in, key_of}
 use Rattle.sup_tables.specs.Readers.{winner, winners}
-use Rattle.sup_tables.specs.Stored.{Values, Stored, rows_in, member_row, child_row, name_row, state_of, firsts_in, triple, rows_under, rest_under}
+use Rattle.sup_tables.specs.Stored.{Values, Stored, rows_in, member_row, child_row, name_row, state_of, firsts_in, triple, values_under}
 use Rattle.sup_tables.proofs.StoredLaws.{IsOrderedStored}
 use Rattle.sup_tables.proofs.OrderedRows.{all_rows, stored_is, rising_already}
-use Rattle.sup_tables.proofs.EntryLaws.{filter_all, filter_none, filter_append, nothing_after, member_entries, child_entries, name_entries, first_under}
+use Rattle.sup_tables.proofs.EntryLaws.{key_rows, filter_all, filter_none, filter_append, nothing_after, member_entries, child_entries, name_entries, first_under}
 
 keys_rise : (ks : List Bytes) → IsStrictlySortedBy text_cmp ks → IsRising text_cmp ks
 unfolding IsStrictlySortedBy
@@ -91,11 +91,11 @@ module _ {V : Type 0} (make : Bytes → Dot → V → Row) (made_key : (k : Byte
   keys_in es s full =
       rising_same text_cmp text_total text_tie _ (keys_of es) (same_keys es (all_full es es full (all_found es s))) ∙ rising_already text_cmp (keys_of es) (keys_rise (keys_of es) s)
 
-  firsts_at : (h : Bytes → Option Row) (all es : Values V) → ((k : Bytes) → h k ≡ slice_get (rows_under make k (lookup (is_key (text_cmp k)) all)) 0) → AllByRecursion (λ e. lookup (is_key (text_cmp e.0)) all ≡ Some e.1) es
+  firsts_at : (h : Bytes → Option Row) (all es : Values V) → ((k : Bytes) → h k ≡ slice_get (key_rows make k (lookup (is_key (text_cmp k)) all)) 0) → AllByRecursion (λ e. lookup (is_key (text_cmp e.0)) all ≡ Some e.1) es
       → filter_map h (keys_of es) ≡ firsts_in make es
   firsts_at h all [] is found = refl
   firsts_at h all (e ∷ es) is found =
-      λ i. cons_option ((is e.0 ∙ ap (λ o. slice_get (rows_under make e.0 o) 0) found.0 ∙ first_under make e.0 (Some e.1)) i) (firsts_at h all es is found.1 i)
+      λ i. cons_option ((is e.0 ∙ ap (λ o. slice_get (key_rows make e.0 o) 0) found.0 ∙ first_under make e.0 (Some e.1)) i) (firsts_at h all es is found.1 i)
 
 module _ (context : Context) (s : Stored) (o : IsOrderedStored s) where
   in_table : (t : Table) → filter (is_in t) (state_of context s).rows ≡ filter (is_in t) (rows_in member_row s.member_values) ++ (filter (is_in t) (rows_in child_row s.child_values) ++ filter (is_in t) (rows_in name_row s.name_values))
@@ -146,9 +146,8 @@ module _ (context : Context) (s : Stored) (o : IsOrderedStored s) where
       ap (filter_map (winner (state_of context s).rows names)) (ap (λ rs. rising text_cmp (map (λ r. key_of r.entry) rs)) in_names ∙ keys_in name_row (λ k d v. refl) s.name_values o.name_values full)
       ∙ firsts_at name_row (λ k d v. refl) (winner (state_of context s).rows names) s.name_values s.name_values (λ k. ap (λ rs. slice_get rs 0) (name_entries context s o k)) (all_found s.name_values o.name_values)
 
-pub rest_of_rows : {V : Type 0} (make : Bytes → Dot → V → Row) (k : Bytes) (f : Option (DotFun V)) → drop 1 (rows_under make k f) ≡ map (λ e. make k e.0 e.1) (rest_under f)
-rest_of_rows make k None = refl
-rest_of_rows make k (Some f) = drop-map (λ e. make k e.0 e.1) 1 f.values.entries
+pub rest_of_rows : {V : Type 0} (make : Bytes → Dot → V → Row) (k : Bytes) (o : Option (DotFun V)) → drop 1 (key_rows make k o) ≡ map (λ e. make k e.0 e.1) (drop 1 (values_under o))
+rest_of_rows make k o = drop-map (λ e. make k e.0 e.1) 1 (values_under o)
 
 map_map : {A B C : Type 0} (h : B → C) (g : A → B) (xs : List A) → map (λ x. h (g x)) xs ≡ map h (map g xs)
 map_map h g [] = refl

@@ -1,28 +1,19 @@
 -- What becomes of stored values while a join changes them in place (this project).
-use Rattle.std.specs.Prelude.{◌≡◌, ℕ, ◌+◌, Bool, true, false, cond, None, IsSome}
+use Rattle.std.specs.Prelude.{◌≡◌, Bool, true, false, cond, None, IsSome}
 use Rattle.std.specs.declared.cmp.Ordering.{Ordering}
-use Rattle.std.specs.BTreeMap.{BTreeMap}
-use Rattle.std.specs.Map.{values_of}
 use Rattle.sup_specs.specs.Values.{Bytes, text_cmp}
-use Rattle.sup_specs.specs.declared.child.ChildSpec.{ChildSpec}
-use Rattle.sup_specs.specs.declared.child.MemberInfo.{MemberInfo}
 use Rattle.sup_specs.specs.contracts.child.ChildSpecOrd.TheImpl as child_spec_ord
 use Rattle.sup_specs.specs.contracts.child.MemberInfoOrd.TheImpl as member_info_ord
 use Rattle.sup_causal.specs.declared.dot.Dot.{Dot}
 use Rattle.sup_causal.specs.Dots.{Context, has}
 use Rattle.sup_causal.specs.Join.{lesser}
 use Rattle.sup_dot_store.specs.Points.{standing, higher, value_at}
-use Rattle.sup_dot_store.specs.declared.dot_fun.DotFun.{DotFun}
-use Rattle.sup_dot_store.specs.Index.{count_in}
-use Rattle.sup_tables.specs.Stored.{Values, Stored, value_in}
+use Rattle.sup_tables.specs.declared.in_place.opened.Opened.{Opened}
+use Rattle.sup_tables.specs.Stored.{Values, Stored, stored, value_in}
 
--- the values of three tables
-abbrev pub stored : BTreeMap Bytes (DotFun MemberInfo) → BTreeMap Bytes (DotFun ChildSpec) → BTreeMap Bytes (DotFun Bytes) → Stored
-stored members children names = record { member_values = members.entries; child_values = children.entries; name_values = names.entries }
-
--- how many values the three tables have
-abbrev pub count_stored : Stored → ℕ
-count_stored s = count_in (values_of s.member_values) + (count_in (values_of s.child_values) + count_in (values_of s.name_values))
+-- the values of rows that are open to change
+abbrev pub stored_open : Opened → Stored
+stored_open o = stored o.members.stores o.children.stores o.names.stores
 
 -- R holds of the values at each point of the three tables
 pub record AtAll (R : (V : Type 0) → Values V → Values V → Type 0) (old new : Stored) : Type 0 where

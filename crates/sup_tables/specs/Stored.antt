@@ -1,21 +1,29 @@
--- How the stores keep the rows of the tables.
-use Rattle.std.specs.Prelude.{◌≡◌, true, IsSome, List, [], ◌∷◌, ◌++◌, map, filter, filter_map, slice_get, drop, Option, Some, None}
+-- How the stores keep the rows of the tables (this project).
+use Rattle.std.specs.Prelude.{◌≡◌, ℕ, ◌+◌, true, IsSome, List, [], ◌∷◌, ◌++◌, map, filter, filter_map, flat_map, slice_get, Option, Some, None}
 use Rattle.std.specs.Option.{option_map}
 use Rattle.std.specs.Ordering.{eq_by_cmp}
-use Rattle.std.specs.Map.{lookup, keys_of}
-use Rattle.std.specs.BTreeMap.{get, is_at}
+use Rattle.std.specs.declared.cmp.PartialEq.{Ghosts as EqGhosts}
+use Rattle.std.specs.declared.cmp.PartialOrd.{Ghosts as PartialOrdGhosts}
+use Rattle.std.specs.declared.cmp.Ord.{Ghosts as OrdGhosts}
+use Rattle.std.specs.Map.{lookup, keys_of, values_of}
+use Rattle.std.specs.BTreeMap.{BTreeMap, get, is_at}
 use Rattle.sup_specs.specs.Values.{Bytes, text_cmp}
 use Rattle.sup_specs.specs.declared.child.ChildSpec.{ChildSpec}
 use Rattle.sup_specs.specs.declared.child.MemberInfo.{MemberInfo}
 use Rattle.sup_causal.specs.declared.dot.Dot.{Dot}
 use Rattle.sup_causal.specs.Dots.{Context, has, dot_cmp}
+use Rattle.sup_dot_store.specs.declared.dot_store.DotStore.{Ghosts as StoreGhosts}
 use Rattle.sup_dot_store.specs.declared.dot_fun.DotFun.{DotFun}
+use Rattle.sup_dot_store.specs.declared.dot_map.DotMap.{DotMap}
+use Rattle.sup_dot_store.specs.declared.both.Both.{Both}
+use Rattle.sup_dot_store.specs.Contents.{stores_of}
+use Rattle.sup_dot_store.specs.Index.{count_in}
 use Rattle.sup_dot_store.specs.Places.{optional_held}
 use Rattle.sup_tables.specs.declared.row.Entry.{Entry}
 use Rattle.sup_tables.specs.declared.row.Entry.TheVariants.{Member, Child, Name}
 use Rattle.sup_tables.specs.declared.row.Row.{Row}
 use Rattle.sup_specs.specs.Rising.{rising}
-use Rattle.sup_tables.specs.Rows.{Table, members, children, names, row_cmp}
+use Rattle.sup_tables.specs.Rows.{row_cmp}
 use Rattle.sup_tables.specs.States.{State}
 
 -- the values of a table under their keys and dots
@@ -71,15 +79,22 @@ pub record Stored : Type 0 where
   pub child_values : Values ChildSpec
   pub name_values : Values Bytes
 
+-- the values of three tables
+abbrev pub stored : BTreeMap Bytes (DotFun MemberInfo) → BTreeMap Bytes (DotFun ChildSpec) → BTreeMap Bytes (DotFun Bytes) → Stored
+stored members children names = record { member_values = members.entries; child_values = children.entries; name_values = names.entries }
+
+-- the values that stores keep
+abbrev pub stored_in : {me ce ne : EqGhosts Bytes} {mo co no : OrdGhosts Bytes} {mp cp np : PartialOrdGhosts Bytes} {ms : StoreGhosts (DotFun MemberInfo)} {cs : StoreGhosts (DotFun ChildSpec)} {ns : StoreGhosts (DotFun Bytes)}
+    → Both (DotMap Bytes (DotFun MemberInfo) me mo mp ms) (Both (DotMap Bytes (DotFun ChildSpec) ce co cp cs) (DotMap Bytes (DotFun Bytes) ne no np ns)) → Stored
+stored_in s = stored (stores_of s.first) (stores_of s.second.first) (stores_of s.second.second)
+
+-- how many values the three tables have
+abbrev pub count_stored : Stored → ℕ
+count_stored s = count_in (values_of s.member_values) + (count_in (values_of s.child_values) + count_in (values_of s.name_values))
+
 -- all rows, by table, key and dot
 abbrev pub stored_rows : Stored → List Row
 stored_rows s = rows_in member_row s.member_values ++ (rows_in child_row s.child_values ++ rows_in name_row s.name_values)
-
--- the row of a dot under a table and a key
-abbrev pub stored_row : Stored → Dot → Table → Bytes → Option Row
-stored_row s d members k = option_map (member_row k d) (value_in s.member_values d k)
-stored_row s d children k = option_map (child_row k d) (value_in s.child_values d k)
-stored_row s d names k = option_map (name_row k d) (value_in s.name_values d k)
 
 -- the state that a context and stores are
 abbrev pub state_of : Context → Stored → State
@@ -97,28 +112,17 @@ pub record IsOneRow {K V : Type 0} (es : List (K × DotFun V)) (key : K) (dot : 
   pub entry : es ≡ (key, values) ∷ []
   pub row : values.values.entries ≡ (dot, value) ∷ []
 
--- the first value of a key, by dot
-abbrev pub first_value : {V : Type 0} → Option (DotFun V) → Option (Dot × V)
-first_value None = None
-first_value (Some f) = slice_get f.values.entries 0
-
--- the rows of a key, by dot
-abbrev pub rows_under : {V : Type 0} → (Bytes → Dot → V → Row) → Bytes → Option (DotFun V) → List Row
-rows_under make k None = []
-rows_under make k (Some f) = map (λ e. make k e.0 e.1) f.values.entries
-
--- the dots of a key
-abbrev pub dots_under : {V : Type 0} → Option (DotFun V) → List Dot
-dots_under None = []
-dots_under (Some f) = keys_of f.values.entries
+-- the values of a key, by dot, and none where there is no such key
+abbrev pub values_under : {V : Type 0} → Option (DotFun V) → List (Dot × V)
+values_under None = []
+values_under (Some f) = f.values.entries
 
 -- the dots of the names whose value is the child
 abbrev pub dots_to : Bytes → List (Dot × Bytes) → List Dot
 dots_to id es = keys_of (filter (λ e. eq_by_cmp text_cmp id e.1) es)
 
 abbrev pub dots_to_in : Bytes → List (DotFun Bytes) → List Dot
-dots_to_in id [] = []
-dots_to_in id (f ∷ fs) = dots_to id f.values.entries ++ dots_to_in id fs
+dots_to_in id fs = flat_map (λ f. dots_to id f.values.entries) fs
 
 -- what is lent of a row
 abbrev pub triple : {K V : Type 0} → K → Dot → V → K × Dot × V
@@ -130,8 +134,3 @@ pair d v = (d, v)
 -- the first value of each key
 abbrev pub firsts_in : {K V R : Type 0} → (K → Dot → V → R) → List (K × DotFun V) → List R
 firsts_in make es = filter_map (λ e. option_map (λ f. make e.0 f.0 f.1) (slice_get e.1.values.entries 0)) es
-
--- the values of a key but the first
-abbrev pub rest_under : {V : Type 0} → Option (DotFun V) → List (Dot × V)
-rest_under None = []
-rest_under (Some f) = drop 1 f.values.entries

@@ -5,9 +5,9 @@ ghost use Rattle.sup_causal.specs.declared.dot.Dot.{Dot as DotValue};
 ghost use Rattle.sup_causal.specs.Dots.{has};
 ghost use Rattle.sup_specs.specs.Values.{text_cmp};
 ghost use Rattle.sup_dot_store.specs.Index.{IsIndex};
-ghost use Rattle.sup_tables.specs.Stored.{AreCovered, state_of};
+ghost use Rattle.sup_tables.specs.Stored.{AreCovered, stored_in, count_stored, state_of};
 ghost use Rattle.sup_tables.specs.States.{knowledge, together};
-ghost use Rattle.sup_tables.specs.InPlace.{stored, count_stored, AtAll, Same, StayKnown, AreFresh, AreBrought, AreJoined};
+ghost use Rattle.sup_tables.specs.InPlace.{stored_open, AtAll, Same, StayKnown, AreFresh, AreBrought, AreJoined};
 
 mod opened;
 
@@ -77,8 +77,8 @@ impl Tables {
 
 // The tables of a state, without an index.
 fn unindexed(alloc: Global, state: Causal<Stores>, count: usize) -> Tables
-    requires { count ≡ count_stored (stored state.store.first.stores state.store.second.first.stores state.store.second.second.stores) }
-    ensures { result ≡ state_of state.context (stored state.store.first.stores state.store.second.first.stores state.store.second.second.stores) }
+    requires { count ≡ count_stored (stored_in state.store) }
+    ensures { result ≡ state_of state.context (stored_in state.store) }
 {
     Tables {
         state,
@@ -101,9 +101,9 @@ fn joined_with(
     requires members { IsIndex text_cmp state.store.first.stores index.members }
     requires children { IsIndex text_cmp state.store.second.first.stores index.children }
     requires names { IsIndex text_cmp state.store.second.second.stores index.names }
-    requires count { _count ≡ count_stored (stored state.store.first.stores state.store.second.first.stores state.store.second.second.stores) }
-    ensures knowledge { OnOk result.1 (knowledge result.0 ≡ together (knowledge (state_of state.context (stored state.store.first.stores state.store.second.first.stores state.store.second.second.stores))) (knowledge other.now)) }
-    ensures err { OnErr result.1 (result.0 ≡ state_of state.context (stored state.store.first.stores state.store.second.first.stores state.store.second.second.stores)) }
+    requires count { _count ≡ count_stored (stored_in state.store) }
+    ensures knowledge { OnOk result.1 (knowledge result.0 ≡ together (knowledge (state_of state.context (stored_in state.store))) (knowledge other.now)) }
+    ensures err { OnErr result.1 (result.0 ≡ state_of state.context (stored_in state.store)) }
 {
     let (store, mut context) = state.into_parts();
     let mut opened = Opened::of(store, index);
@@ -125,15 +125,15 @@ fn join(
     theirs: &Stores,
     known: &CausalContext,
 ) -> Result<(), NotJoined>
-    requires mine { AreCovered context.old (stored opened.old.members.stores opened.old.children.stores opened.old.names.stores) }
-    requires theirs { AreCovered known.now (stored theirs.now.first.stores theirs.now.second.first.stores theirs.now.second.second.stores) }
-    requires count { count_stored (stored opened.old.members.stores opened.old.children.stores opened.old.names.stores) ≤ usize.MAX }
+    requires mine { AreCovered context.old (stored_open opened.old) }
+    requires theirs { AreCovered known.now (stored_in theirs.now) }
+    requires count { count_stored (stored_open opened.old) ≤ usize.MAX }
     ensures context { OnOk result ((d : DotValue) → has context.new d ≡ (has context.old d || has known.now d)) }
-    ensures rows { OnOk result (AreJoined context.old (stored opened.old.members.stores opened.old.children.stores opened.old.names.stores) known.now (stored theirs.now.first.stores theirs.now.second.first.stores theirs.now.second.second.stores) (stored opened.new.members.stores opened.new.children.stores opened.new.names.stores)) }
+    ensures rows { OnOk result (AreJoined context.old (stored_open opened.old) known.now (stored_in theirs.now) (stored_open opened.new)) }
     ensures err_context { OnErr result (context.new ≡ context.old) }
-    ensures err_rows { OnErr result (AtAll Same (stored opened.old.members.stores opened.old.children.stores opened.old.names.stores) (stored opened.new.members.stores opened.new.children.stores opened.new.names.stores)) }
-    ensures covered { AreCovered context.new (stored opened.new.members.stores opened.new.children.stores opened.new.names.stores) }
-    ensures count { count_stored (stored opened.new.members.stores opened.new.children.stores opened.new.names.stores) ≤ usize.MAX }
+    ensures err_rows { OnErr result (AtAll Same (stored_open opened.old) (stored_open opened.new)) }
+    ensures covered { AreCovered context.new (stored_open opened.new) }
+    ensures count { count_stored (stored_open opened.new) ≤ usize.MAX }
 {
     let fresh = known.beyond(alloc, context)?;
     let shared = known.shared(alloc, context)?;
@@ -154,13 +154,13 @@ fn put_all(
     theirs: &Stores,
     known: &CausalContext,
 ) -> Result<(), NotJoined>
-    requires { AreCovered context.old (stored opened.old.members.stores opened.old.children.stores opened.old.names.stores) }
+    requires { AreCovered context.old (stored_open opened.old) }
     ensures context { OnOk result ((d : DotValue) → has context.new d ≡ (has context.old d || has known.now d)) }
     ensures err { OnErr result (context.new ≡ context.old) }
-    ensures count { OnOk result (count_stored (stored opened.new.members.stores opened.new.children.stores opened.new.names.stores) ≤ usize.MAX) }
-    ensures known { AtAll (StayKnown (has context.old)) (stored opened.old.members.stores opened.old.children.stores opened.old.names.stores) (stored opened.new.members.stores opened.new.children.stores opened.new.names.stores) }
-    ensures fresh { OnOk result (AtAll (AreFresh (has context.old)) (stored theirs.now.first.stores theirs.now.second.first.stores theirs.now.second.second.stores) (stored opened.new.members.stores opened.new.children.stores opened.new.names.stores)) }
-    ensures brought { AtAll (AreBrought (has context.old)) (stored theirs.now.first.stores theirs.now.second.first.stores theirs.now.second.second.stores) (stored opened.new.members.stores opened.new.children.stores opened.new.names.stores) }
+    ensures count { OnOk result (count_stored (stored_open opened.new) ≤ usize.MAX) }
+    ensures known { AtAll (StayKnown (has context.old)) (stored_open opened.old) (stored_open opened.new) }
+    ensures fresh { OnOk result (AtAll (AreFresh (has context.old)) (stored_in theirs.now) (stored_open opened.new)) }
+    ensures brought { AtAll (AreBrought (has context.old)) (stored_in theirs.now) (stored_open opened.new) }
 {
     opened.put_fresh(alloc, theirs, context)?;
     if opened.count().is_none() {

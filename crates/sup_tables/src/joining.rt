@@ -1,10 +1,9 @@
 //! The tables as a lattice, and their copies.
-ghost use Rattle.std.specs.Prelude.{◌≡◌, ◌↔◌, ◌+◌, ◌++◌, List, IsTrue, IfOk, IfSome, OnOk, OnErr};
-ghost use Rattle.std.specs.BTreeMap.{values};
+ghost use Rattle.std.specs.Prelude.{◌≡◌, ◌↔◌, ◌++◌, List, IsTrue, IfOk, IfSome, OnOk, OnErr};
 ghost use Rattle.sup_causal.specs.declared.dot.Dot.{Dot as DotValue};
 ghost use Rattle.sup_causal.specs.Dots.{has};
 ghost use Rattle.sup_tables.specs.Operations.{Operation, Covers, NoClash};
-ghost use Rattle.sup_dot_store.specs.Index.{count_in};
+ghost use Rattle.sup_tables.specs.Stored.{stored_in, count_stored};
 ghost use Rattle.sup_tables.specs.States.{StandsFor, Knowledge, knowledge, together, together_laws};
 
 use crate::in_place::NotJoined;
@@ -40,6 +39,7 @@ impl Lattice for Tables {
             index: None,
             alloc: self.alloc,
         };
+        // For its clause: what was joined is kept as a state is.
         tables.context();
         Ok(tables)
     }
@@ -49,6 +49,7 @@ impl Lattice for Tables {
         ensures below { IsTrue result ↔ (together (knowledge self.now) (knowledge other.now) ≡ knowledge other.now) }
         ensures covers { (ops others : List Operation) → StandsFor self.now ops → StandsFor other.now others → NoClash (others ++ ops) → (IsTrue result ↔ Covers others ops) }
     {
+        // For its clause: the other state is kept as a state is.
         other.context();
         self.state.leq(&other.state)
     }
@@ -60,6 +61,7 @@ impl Lattice for Tables {
         ensures err { OnErr result (self.new ≡ self.old) }
     {
         self.take_in(alloc, other)?;
+        // For its clause, as in `joined`.
         self.context();
         Ok(())
     }
@@ -120,6 +122,7 @@ impl Tables {
     {
         // Joined with nothing, so that each row is copied once and looked up nowhere.
         let nothing = Tables::empty(alloc);
+        // `context` is called for its clause: kept states that know the same have the same rows.
         self.context();
         let copy = self.joined(alloc, &nothing)?;
         copy.context();
@@ -129,7 +132,7 @@ impl Tables {
 
 // How many rows the stores have. None only where there are more than a count can say.
 fn count_of(store: &Stores) -> Option<usize>
-    ensures some { IfSome result (λ n. n ≡ count_in (values store.now.first.stores) + (count_in (values store.now.second.first.stores) + count_in (values store.now.second.second.stores))) }
+    ensures some { IfSome result (λ n. n ≡ count_stored (stored_in store.now)) }
 {
     let names = count_with(0, &store.second.second)?;
     let children = count_with(names, &store.second.first)?;

@@ -25,6 +25,7 @@ impl Tables {
         ensures stands { IfOk result (λ r. StandsFor r.0 (drop_member self.now.rows m.now ∷ [])) }
     {
         let dots = self.member_dots(m)?;
+        // For its clause: the counters of known dots are in their limits.
         self.context().counted();
         let delta = removal(self.alloc, &dots)?;
         Ok((delta, dots))
@@ -37,6 +38,7 @@ impl Tables {
         ensures stands { IfOk result (λ r. StandsFor r.0 (drop_child self.now.rows id.now ∷ [])) }
     {
         let dots = self.child_and_name_dots(id)?;
+        // For its clause: the counters of known dots are in their limits.
         self.context().counted();
         let delta = removal(self.alloc, &dots)?;
         Ok((delta, dots))
@@ -58,6 +60,7 @@ impl Tables {
         ensures stands { IfOk result (λ r. StandsFor r.0 (drop_name self.now.rows name.now ∷ [])) }
     {
         let dots = self.name_dots(name)?;
+        // For its clause: the counters of known dots are in their limits.
         self.context().counted();
         let delta = removal(self.alloc, &dots)?;
         Ok((delta, dots))
@@ -78,6 +81,7 @@ impl Tables {
         ensures known { IfOk result (λ dots. (d : DotValue) → has self.now.context d ≡ false → among dot_cmp dots.items d ≡ false) }
     {
         let dots = dots_under(self.alloc, &self.state.store().second.first, id)?;
+        // For its clause: the counters of known dots are in their limits.
         self.context().counted();
         Ok(dots)
     }

@@ -1,9 +1,10 @@
 //! One table: what stands under its keys.
-ghost use Rattle.std.specs.Prelude.{◌≡◌, ◌+◌, ◌++◌, ◌<◌, IfOk, IfSome, IfNone, OnOk, drop, map};
+ghost use Rattle.std.specs.Prelude.{◌≡◌, ◌+◌, ◌++◌, ◌<◌, IfOk, IfSome, IfNone, OnOk, drop, map, slice_get};
 ghost use Rattle.std.specs.Option.{option_map};
 ghost use Rattle.sup_tables.specs.Rows.{row_of};
 ghost use Rattle.std.specs.BTreeMap.{get, keys, values};
-ghost use Rattle.sup_tables.specs.Stored.{first_value, triple, pair, firsts_in, rest_under, dots_under, dots_to, dots_to_in, rows_in};
+ghost use Rattle.std.specs.Map.{keys_of};
+ghost use Rattle.sup_tables.specs.Stored.{values_under, triple, pair, firsts_in, dots_to, dots_to_in, rows_in};
 ghost use Rattle.sup_dot_store.specs.Index.{count_in};
 
 use crate::row::{Entered, Row};
@@ -33,7 +34,7 @@ pub(crate) fn first_under<'a, K: Plain, V: Plain>(
     table: &'a Table<K, V>,
     key: &K,
 ) -> Option<(Dot, &'a V)>
-    ensures { option_map (λ r. (r.0, r.1.now)) result ≡ first_value (get K.cmp table.now.stores key.now) }
+    ensures { option_map (λ r. (r.0, r.1.now)) result ≡ slice_get (values_under (get K.cmp table.now.stores key.now)) 0 }
 {
     let values = table.get(key)?;
     let (dot, value) = values.first()?;
@@ -62,7 +63,7 @@ pub(crate) fn rest_under<'a, K: Plain, V: Plain>(
     table: &'a Table<K, V>,
     key: &K,
 ) -> Result<Vec<Loser<'a, V>>, AllocError>
-    ensures { IfOk result (λ rest. map (λ l. pair l.dot.now l.value.now) rest.items ≡ rest_under (get K.cmp table.now.stores key.now)) }
+    ensures { IfOk result (λ rest. map (λ l. pair l.dot.now l.value.now) rest.items ≡ drop 1 (values_under (get K.cmp table.now.stores key.now))) }
 {
     match table.get(key) {
         None => Ok(Vec::new(alloc)),
@@ -95,19 +96,19 @@ pub(crate) fn dots_under<K: Plain, V: Plain>(
     table: &Table<K, V>,
     key: &K,
 ) -> Result<Vec<Dot>, AllocError>
-    ensures { IfOk result (λ dots. dots.items ≡ dots_under (get K.cmp table.now.stores key.now)) }
+    ensures { IfOk result (λ dots. dots.items ≡ keys_of (values_under (get K.cmp table.now.stores key.now))) }
 {
     match table.get(key) {
         None => Ok(Vec::new(alloc)),
         Some(values) => {
-            let dots = dots_of(alloc, values.values())?;
+            let dots = all_dots(alloc, values.values())?;
             Ok(dots)
         }
     }
 }
 
 // The keys of a map.
-fn dots_of<V>(alloc: Global, values: &BTreeMap<Dot, V>) -> Result<Vec<Dot>, AllocError>
+fn all_dots<V>(alloc: Global, values: &BTreeMap<Dot, V>) -> Result<Vec<Dot>, AllocError>
     ensures { IfOk result (λ dots. dots.items ≡ keys values.now) }
 {
     let mut dots = Vec::new(alloc);

@@ -1,10 +1,9 @@
 //! The three tables under one context.
-ghost use Rattle.std.specs.Prelude.{◌≡◌, ◌+◌, [], length, IfSome};
+ghost use Rattle.std.specs.Prelude.{◌≡◌, [], length, IfSome};
 ghost use Rattle.sup_specs.specs.Values.{text_cmp};
 ghost use Rattle.std.proofs.Props.{props};
-ghost use Rattle.std.specs.BTreeMap.{values};
-ghost use Rattle.sup_tables.specs.Stored.{AreCovered, state_of};
-ghost use Rattle.sup_dot_store.specs.Index.{count_in, IsIndex};
+ghost use Rattle.sup_tables.specs.Stored.{AreCovered, stored, stored_in, count_stored, state_of};
+ghost use Rattle.sup_dot_store.specs.Index.{IsIndex};
 ghost use Rattle.sup_tables.specs.States.{StandsFor, IsKept};
 
 use crate::index::Index;
@@ -35,17 +34,17 @@ pub struct Tables {
     // Where the rows' dots stand. None until a join in place wants it.
     pub(crate) index: Option<Index>,
     pub(crate) alloc: Global,
-    pub ghost counted: { count ≡ count_in (values state.store.first.stores) + (count_in (values state.store.second.first.stores) + count_in (values state.store.second.second.stores)) },
+    pub ghost counted: { count ≡ count_stored (stored_in state.store) },
     pub ghost indexed: { IfSome index (λ i. IsIndex text_cmp state.store.first.stores i.members × (IsIndex text_cmp state.store.second.first.stores i.children × IsIndex text_cmp state.store.second.second.stores i.names)) } by { Prim.hlevel props },
 }
 
 impl Model for Tables {
     ghost use Rattle.sup_tables.specs.States.{State};
-    ghost use Rattle.sup_tables.specs.Stored.{state_of};
+    ghost use Rattle.sup_tables.specs.Stored.{stored_in, state_of};
 
     ghost Value = { State };
 
-    ghost view = { λ t. state_of t.state.context (record { member_values = t.state.store.first.stores.entries; child_values = t.state.store.second.first.stores.entries; name_values = t.state.store.second.second.stores.entries }) };
+    ghost view = { λ t. state_of t.state.context (stored_in t.state.store) };
 }
 
 impl Tables {
@@ -91,9 +90,9 @@ pub(crate) fn tables_of(
     context: CausalContext,
     count: usize,
 ) -> Tables
-    requires covered { AreCovered context (record { member_values = members.stores.entries; child_values = children.stores.entries; name_values = names.stores.entries }) }
-    requires counted { count ≡ count_in (values members.stores) + (count_in (values children.stores) + count_in (values names.stores)) }
-    ensures { result ≡ state_of context (record { member_values = members.stores.entries; child_values = children.stores.entries; name_values = names.stores.entries }) }
+    requires covered { AreCovered context (stored members.stores children.stores names.stores) }
+    requires counted { count ≡ count_stored (stored members.stores children.stores names.stores) }
+    ensures { result ≡ state_of context (stored members.stores children.stores names.stores) }
 {
     let store = Both {
         first: members,

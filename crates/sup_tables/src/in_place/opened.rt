@@ -6,8 +6,8 @@ ghost use Rattle.sup_specs.specs.Values.{text_cmp};
 ghost use Rattle.sup_causal.specs.Dots.{has, dot_cmp};
 ghost use Rattle.sup_causal.specs.Join.{lesser};
 ghost use Rattle.sup_dot_store.specs.Index.{IsIndex, AreGone};
-ghost use Rattle.sup_tables.specs.Stored.{AreCovered, state_of};
-ghost use Rattle.sup_tables.specs.InPlace.{stored, count_stored, AtAll, StayKnown, AreFresh, AreBrought, AreTaken};
+ghost use Rattle.sup_tables.specs.Stored.{AreCovered, stored_in, count_stored, state_of};
+ghost use Rattle.sup_tables.specs.InPlace.{stored_open, AtAll, StayKnown, AreFresh, AreBrought, AreTaken};
 
 use crate::in_place::NotJoined;
 use crate::index::Index;
@@ -68,9 +68,9 @@ impl Opened {
 
     // The tables of these rows under a context.
     pub(crate) fn closed(self, alloc: Global, context: CausalContext) -> Tables
-        requires covered { AreCovered context (stored self.members.stores self.children.stores self.names.stores) }
-        requires count { count_stored (stored self.members.stores self.children.stores self.names.stores) ≤ usize.MAX }
-        ensures { result ≡ state_of context (stored self.members.stores self.children.stores self.names.stores) }
+        requires covered { AreCovered context (stored_open self) }
+        requires count { count_stored (stored_open self) ≤ usize.MAX }
+        ensures { result ≡ state_of context (stored_open self) }
     {
         let count = self.members.len() + (self.children.len() + self.names.len());
         let Opened {
@@ -100,7 +100,7 @@ impl Opened {
 
     // How many rows there are. None only where there are more than a count can say.
     pub(crate) fn count(&self) -> Option<usize>
-        ensures some { IfSome result (λ n. n ≡ count_stored (stored self.now.members.stores self.now.children.stores self.now.names.stores)) }
+        ensures some { IfSome result (λ n. n ≡ count_stored (stored_open self.now)) }
     {
         let others = self.children.len().checked_add(self.names.len())?;
         self.members.len().checked_add(others)
@@ -113,10 +113,10 @@ impl Opened {
         theirs: &Stores,
         mine: &CausalContext,
     ) -> Result<(), NotJoined>
-        requires { AreCovered mine.now (stored self.old.members.stores self.old.children.stores self.old.names.stores) }
-        ensures known { AtAll (StayKnown (has mine.now)) (stored self.old.members.stores self.old.children.stores self.old.names.stores) (stored self.new.members.stores self.new.children.stores self.new.names.stores) }
-        ensures fresh { OnOk result (AtAll (AreFresh (has mine.now)) (stored theirs.now.first.stores theirs.now.second.first.stores theirs.now.second.second.stores) (stored self.new.members.stores self.new.children.stores self.new.names.stores)) }
-        ensures brought { AtAll (AreBrought (has mine.now)) (stored theirs.now.first.stores theirs.now.second.first.stores theirs.now.second.second.stores) (stored self.new.members.stores self.new.children.stores self.new.names.stores) }
+        requires { AreCovered mine.now (stored_open self.old) }
+        ensures known { AtAll (StayKnown (has mine.now)) (stored_open self.old) (stored_open self.new) }
+        ensures fresh { OnOk result (AtAll (AreFresh (has mine.now)) (stored_in theirs.now) (stored_open self.new)) }
+        ensures brought { AtAll (AreBrought (has mine.now)) (stored_in theirs.now) (stored_open self.new) }
     {
         let members = theirs.first.rows()?;
         let children = theirs.second.first.rows()?;
@@ -129,8 +129,8 @@ impl Opened {
 
     // Takes the rows of these dots away.
     pub(crate) fn take_dots(&mut self, dots: &[Dot])
-        ensures taken { AtAll (AreTaken (among dot_cmp dots.now)) (stored self.old.members.stores self.old.children.stores self.old.names.stores) (stored self.new.members.stores self.new.children.stores self.new.names.stores) }
-        ensures no_more { count_stored (stored self.new.members.stores self.new.children.stores self.new.names.stores) ≤ count_stored (stored self.old.members.stores self.old.children.stores self.old.names.stores) }
+        ensures taken { AtAll (AreTaken (among dot_cmp dots.now)) (stored_open self.old) (stored_open self.new) }
+        ensures no_more { count_stored (stored_open self.new) ≤ count_stored (stored_open self.old) }
     {
         self.members.take_dots(dots);
         self.children.take_dots(dots);
@@ -142,7 +142,7 @@ impl Opened {
         ensures members { AreTaken (among dot_cmp gone.now.members.items) _ self.old.members.stores.entries self.new.members.stores.entries }
         ensures children { AreTaken (among dot_cmp gone.now.children.items) _ self.old.children.stores.entries self.new.children.stores.entries }
         ensures names { AreTaken (among dot_cmp gone.now.names.items) _ self.old.names.stores.entries self.new.names.stores.entries }
-        ensures no_more { count_stored (stored self.new.members.stores self.new.children.stores self.new.names.stores) ≤ count_stored (stored self.old.members.stores self.old.children.stores self.old.names.stores) }
+        ensures no_more { count_stored (stored_open self.new) ≤ count_stored (stored_open self.old) }
     {
         self.members.take_dots(&gone.members);
         self.children.take_dots(&gone.children);

@@ -7,7 +7,7 @@ use Rattle.sup_causal.specs.declared.dot.Dot.{Dot}
 use Rattle.sup_causal.specs.Dots.{has, dot_cmp}
 use Rattle.sup_causal.specs.Join.{lesser}
 use Rattle.sup_tables.specs.Stored.{value_in}
-use Rattle.sup_tables.specs.InPlace.{stored}
+use Rattle.sup_tables.specs.InPlace.{stored_open}
 use Rattle.sup_tables.proofs.InPlaceLaws.{joined_point, undone_point, at_most_same, same_count, same_covered}
 use Rattle.sup_tables.proofs.in_place.join.Goals as goal
 
@@ -22,8 +22,8 @@ pub returns-in-Err-clause-count : goal.returns-in-Err-clause-count
 returns-in-Err-clause-count c =
     let old = c.args.opened.now in
     let new = c.take_dots.new.self in
-    let a = stored old.members.stores old.children.stores old.names.stores in
-    let b = stored new.members.stores new.children.stores new.names.stores in
+    let a = stored_open old in
+    let b = stored_open new in
     let same = returns-in-Err-clause-err_rows c in
     at_most_same _ _ _ (same_count c.args.context.now a b (record { member_values = old.members.ordered; child_values = old.children.ordered; name_values = old.names.ordered }) (record { member_values = new.members.ordered; child_values = new.children.ordered; name_values = new.names.ordered }) c.requires.mine (same_covered c.args.context.now a b c.requires.mine same) same) c.requires.count
 

@@ -1,5 +1,6 @@
 use Rattle.std.proofs.Common.{ap, inl, inr, ◌∙◌}
 use Rattle.sup_tables.specs.States.{knowledge, together}
+use Rattle.sup_tables.specs.Stored.{stored_in}
 use Rattle.sup_tables.proofs.JoinLaws.{join_stands}
 use Rattle.sup_tables.proofs.MappedLaws.{knows_together}
 use Rattle.sup_tables.proofs.joining.TablesLattice.joined.Goals as goal
@@ -10,9 +11,9 @@ returns-clause-knowledge c =
     let b = c.other.inside.state in
     let r = c.in_ok-state.state in
     knows_together a.context b.context r.context
-    (record { member_values = a.store.first.stores.entries; child_values = a.store.second.first.stores.entries; name_values = a.store.second.second.stores.entries })
-    (record { member_values = b.store.first.stores.entries; child_values = b.store.second.first.stores.entries; name_values = b.store.second.second.stores.entries })
-    (record { member_values = r.store.first.stores.entries; child_values = r.store.second.first.stores.entries; name_values = r.store.second.second.stores.entries })
+    (stored_in a.store)
+    (stored_in b.store)
+    (stored_in r.store)
     (record { member_values = a.store.first.ordered; child_values = a.store.second.first.ordered; name_values = a.store.second.second.ordered })
     (record { member_values = b.store.first.ordered; child_values = b.store.second.first.ordered; name_values = b.store.second.second.ordered })
     (record { member_values = r.store.first.ordered; child_values = r.store.second.first.ordered; name_values = r.store.second.second.ordered })

@@ -1,6 +1,6 @@
 use mathlib.Core.Path.{fun_ext}
 use Rattle.std.proofs.Common.{sym, ap, inl, inr}
-use Rattle.sup_tables.specs.Stored.{Stored, state_of}
+use Rattle.sup_tables.specs.Stored.{Stored, stored_in, state_of}
 use Rattle.sup_tables.proofs.StoredLaws.{IsOrderedStored}
 use Rattle.sup_tables.proofs.MappedLaws.{knows_together, holds_higher, same_at, same_pair, said_of}
 use Rattle.sup_tables.proofs.KnowledgeLaws.{below_covers}
@@ -10,8 +10,8 @@ pub returns-clause-below : goal.returns-clause-below
 returns-clause-below c =
     let a = c.self.inside.state in
     let b = c.other.inside.state in
-    let sa : Stored = record { member_values = a.store.first.stores.entries; child_values = a.store.second.first.stores.entries; name_values = a.store.second.second.stores.entries } in
-    let sb : Stored = record { member_values = b.store.first.stores.entries; child_values = b.store.second.first.stores.entries; name_values = b.store.second.second.stores.entries } in
+    let sa : Stored = stored_in a.store in
+    let sb : Stored = stored_in b.store in
     let oa : IsOrderedStored sa = record { member_values = a.store.first.ordered; child_values = a.store.second.first.ordered; name_values = a.store.second.second.ordered } in
     let ob : IsOrderedStored sb = record { member_values = b.store.first.ordered; child_values = b.store.second.first.ordered; name_values = b.store.second.second.ordered } in
     said_of c.leq.result (state_of a.context sa) c.args.self.now (state_of b.context sb) c.args.other.now c.self.view_is c.other.view_is (

@@ -1,13 +1,13 @@
 use Rattle.std.proofs.Common.{◌≡◌, false, sym, ap, subst, map, refl, ◌∙◌}
 use Rattle.std.specs.Prelude.{All}
-use Rattle.std.specs.Map.{lookup}
+use Rattle.std.specs.Map.{keys_of, lookup}
 use Rattle.std.specs.BTreeMap.{is_at as is_key}
 use Rattle.sup_specs.specs.Values.{text_cmp}
 use Rattle.sup_specs.specs.Rising.{among}
 use Rattle.sup_causal.specs.Dots.{has, dot_cmp, IsCounted}
 use Rattle.sup_tables.specs.Rows.{children}
 use Rattle.sup_tables.specs.Readers.{live_dots}
-use Rattle.sup_tables.specs.Stored.{Stored, child_row, dots_under}
+use Rattle.sup_tables.specs.Stored.{Stored, stored_in, child_row, values_under}
 use Rattle.sup_tables.proofs.StoredLaws.{IsOrderedStored}
 use Rattle.sup_tables.proofs.EntryLaws.{child_entries, dots_of_rows, all_live_dots, no_live_dot}
 use Rattle.sup_tables.proofs.tables.Tables.child_dots.Goals as goal
@@ -16,11 +16,11 @@ pub returns-clause-dots : goal.returns-clause-dots
 returns-clause-dots c =
     let k = c.args.id.now in
     let s = c.self.inside.state in
-    let st : Stored = record { member_values = s.store.first.stores.entries; child_values = s.store.second.first.stores.entries; name_values = s.store.second.second.stores.entries } in
+    let st : Stored = stored_in s.store in
     let o : IsOrderedStored st = record { member_values = s.store.first.ordered; child_values = s.store.second.first.ordered; name_values = s.store.second.second.ordered } in
     c.in_ok-dots.ensures
-    ∙ ap (λ q. dots_under (lookup (is_key (text_cmp k)) q.second.first.stores.entries)) c.store.ensures
-    ∙ sym (ap (map (λ r. r.dot)) (child_entries s.context st o k) ∙ dots_of_rows child_row (λ k d v. refl) k _)
+    ∙ ap (λ q. keys_of (values_under (lookup (is_key (text_cmp k)) q.second.first.stores.entries))) c.store.ensures
+    ∙ sym (ap (map (λ r. r.dot)) (child_entries s.context st o k) ∙ dots_of_rows child_row (λ k d v. refl) k (lookup (is_key (text_cmp k)) st.child_values))
     ∙ ap (λ t. live_dots t.rows children k) c.self.view_is
 
 pub returns-clause-counted : goal.returns-clause-counted

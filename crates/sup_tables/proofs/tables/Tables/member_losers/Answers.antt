@@ -5,7 +5,7 @@ use Rattle.std.specs.BTreeMap.{is_at as is_key}
 use Rattle.sup_specs.specs.Values.{text_cmp}
 use Rattle.sup_tables.specs.Rows.{members}
 use Rattle.sup_tables.specs.Readers.{losers}
-use Rattle.sup_tables.specs.Stored.{Stored, member_row, rest_under, pair}
+use Rattle.sup_tables.specs.Stored.{Stored, stored_in, member_row, values_under, pair}
 use Rattle.sup_tables.proofs.StoredLaws.{IsOrderedStored}
 use Rattle.sup_tables.proofs.EntryLaws.{member_entries}
 use Rattle.sup_tables.proofs.WinnerLaws.{rest_of_rows, shown_losers}
@@ -15,8 +15,8 @@ pub returns : goal.returns
 returns c =
     let k = c.args.m.now in
     let s = c.self.inside.state in
-    let st : Stored = record { member_values = s.store.first.stores.entries; child_values = s.store.second.first.stores.entries; name_values = s.store.second.second.stores.entries } in
+    let st : Stored = stored_in s.store in
     let o : IsOrderedStored st = record { member_values = s.store.first.ordered; child_values = s.store.second.first.ordered; name_values = s.store.second.second.ordered } in
-    shown_losers (member_row k) (λ l. pair l.dot.now l.value.now) c.in_ok-found.found.items _ (c.in_ok-found.ensures ∙ ap (λ q. rest_under (lookup (is_key (text_cmp k)) q.first.stores.entries)) c.store.ensures)
-    ∙ sym (ap (drop 1) (member_entries s.context st o k) ∙ rest_of_rows member_row k _)
+    shown_losers (member_row k) (λ l. pair l.dot.now l.value.now) c.in_ok-found.found.items _ (c.in_ok-found.ensures ∙ ap (λ q. drop 1 (values_under (lookup (is_key (text_cmp k)) q.first.stores.entries))) c.store.ensures)
+    ∙ sym (ap (drop 1) (member_entries s.context st o k) ∙ rest_of_rows member_row k (lookup (is_key (text_cmp k)) st.member_values))
     ∙ ap (λ t. losers t.rows members k) c.self.view_is

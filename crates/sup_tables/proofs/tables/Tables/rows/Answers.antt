@@ -2,7 +2,7 @@ use Rattle.std.proofs.Common.{◌≡◌, List, ◌++◌, sym, ap, ◌∙◌, app
 use Rattle.sup_tables.specs.declared.row.Row.{Row}
 use Rattle.sup_tables.specs.Rows.{AreInOrder}
 use Rattle.sup_tables.specs.States.{State, HasDotsOf}
-use Rattle.sup_tables.specs.Stored.{Stored, AreCovered, rows_in, stored_rows, member_row, child_row, name_row}
+use Rattle.sup_tables.specs.Stored.{Stored, stored_in, AreCovered, rows_in, stored_rows, member_row, child_row, name_row}
 use Rattle.sup_tables.proofs.StoredLaws.{IsOrderedStored}
 use Rattle.sup_tables.proofs.OrderedRows.{stored_rise, stored_is}
 use Rattle.sup_tables.proofs.MappedLaws.{rows_covered}
@@ -11,7 +11,7 @@ use Rattle.sup_tables.proofs.tables.Tables.rows.Goals as goal
 pub returns : goal.returns
 returns c =
     let s = c.self.inside.state in
-    let st : Stored = record { member_values = s.store.first.stores.entries; child_values = s.store.second.first.stores.entries; name_values = s.store.second.second.stores.entries } in
+    let st : Stored = stored_in s.store in
     let o : IsOrderedStored st = record { member_values = s.store.first.ordered; child_values = s.store.second.first.ordered; name_values = s.store.second.second.ordered } in
     let covered : AreCovered s.context st =
     record { at_members = λ d k some. s.covered d (inl (k, tt)) some; at_children = λ d k some. s.covered d (inr (inl (k, tt))) some; at_names = λ d k some. s.covered d (inr (inr (k, tt))) some } in

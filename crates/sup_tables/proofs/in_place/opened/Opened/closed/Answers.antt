@@ -3,8 +3,7 @@ use Rattle.std.specs.BTreeMap.{values}
 use Rattle.std.proofs.Common.{ap, subst, sym, ◌∙◌}
 use Rattle.sup_specs.specs.Values.{text_cmp}
 use Rattle.sup_dot_store.specs.Index.{IsIndex, count_in}
-use Rattle.sup_tables.specs.Stored.{AreCovered}
-use Rattle.sup_tables.specs.InPlace.{stored}
+use Rattle.sup_tables.specs.Stored.{AreCovered, stored}
 use Rattle.sup_tables.proofs.MappedLaws.{at_places}
 use Rattle.sup_tables.proofs.in_place.opened.Opened.closed.Goals as goal
 
