@@ -10,12 +10,12 @@ use Rattle.sup_world.specs.declared.refusal.Refusal.{Refusal}
 use Rattle.sup_world.specs.Worlds.{Message, Site}
 use Rattle.sup_world.specs.Steps.{changes, takes_in, deliver_at}
 use Rattle.sup_world.specs.Stands.{NodeStandsFor, NodeBecomes, Gives}
-use Rattle.sup_world.proofs.Covering.{Covers-covers, not_covers}
+use Rattle.sup_tables.proofs.CoverTests.{test-from_Covers, test-from_none}
 
 -- the node's test says whether the model's operations are covered
 pub tested : (b : Bool) (ops others : List Operation) → (IsTrue b ↔ Covers ops others) → covers ops others ≡ b
-tested true ops others h = Covers-covers ops others (h.0 refl)
-tested false ops others h = not_covers ops others (λ c. true≢false (sym (h.1 c)))
+tested true ops others h = test-from_Covers ops others (h.0 refl)
+tested false ops others h = test-from_none ops others (λ c. true≢false (sym (h.1 c)))
 
 -- what is covered changes nothing
 pub known_stands : (real : Node) (site : Site) (m : Message) → NodeStandsFor real site → (b : Bool) → b ≡ true → (IsTrue b ↔ Covers site.operations m.operations) → Gives (NodeBecomes real) (deliver_at site m) (Ok Known)

@@ -9,7 +9,7 @@ use Rattle.sup_tables.specs.Operations.{greatest, NoClash}
 use Rattle.sup_world.specs.Worlds.{Site, World, is_named, site_of, with_site, put_site}
 use Rattle.sup_world.specs.Commands.{reading, next}
 use Rattle.sup_world.specs.Sound.{own, everything, HasRow, Sound}
-use Rattle.sup_world.proofs.Tops.{added-greatest}
+use Rattle.sup_tables.proofs.GreatestLaws.{added_greatest}
 use Rattle.sup_world.proofs.RowSets.{row-append, some_same, none_some}
 use Rattle.sup_world.proofs.SiteLists.{named_itself, same_name, found-put, other-put, row-found, row-put, row-stays}
 
@@ -46,7 +46,7 @@ module _ (w : World) (s t : Site) (new : Option Row) (found : site_of w s.name �
         let d : q.dot ≡ next (reading s) = same ∙ g.fresh r e in
         let at : q.dot.node ≡ s.name = ap (λ (z : Dot). z.node) d in
         let here : HasRow s.operations q = sound.home q h s (subst (λ n. site_of w n ≡ Some s) (sym at) found) in
-        let le : q.dot.counter ≤ greatest s.operations s.name = subst (λ n. q.dot.counter ≤ greatest s.operations n) at (added-greatest s.operations q here) in
+        let le : q.dot.counter ≤ greatest s.operations s.name = subst (λ n. q.dot.counter ≤ greatest s.operations n) at (added_greatest s.operations q here) in
         let is : q.dot.counter ≡ greatest s.operations s.name + 1 = ap (λ (z : Dot). z.counter) d in
         absurd (omega (arith, le, is))
 

@@ -1,6 +1,5 @@
 pub mod LineLaws
 pub mod Afters
-pub mod Tops
 pub mod RowSets
 pub mod SiteLists
 pub mod HeadlineLaws
@@ -18,7 +17,6 @@ pub mod Here
 pub mod ActLaws
 pub mod MessageLaws
 pub mod WorldLaws
-pub mod Covering
 pub mod DeliverLaws
 mod RowWords
 mod WorkedRows

@@ -29,7 +29,7 @@ use Rattle.sup_world.specs.Steps.{may_change, changed, changes, command_at}
 use Rattle.sup_world.specs.Stands.{NodeStandsFor, NodeBecomes, Gives, put_refusal}
 use Rattle.sup_world.specs.Issuing.{LacksMemory}
 use Rattle.sup_world.specs.Sound.{HasRow}
-use Rattle.sup_world.proofs.Tops.{greatest_in, one_greatest, next_is, added-greatest}
+use Rattle.sup_tables.proofs.GreatestLaws.{here_greatest, one_greatest, stood_next, added_greatest}
 use Rattle.sup_world.proofs.RowSets.{row-append, row-one, some_same, none_some}
 
 -- a check that fails, and one that doesn't
@@ -63,13 +63,13 @@ pub counter_is : (real : Node) (site : Site) → NodeStandsFor real site → (n 
 counter_is real site s n g =
     one_greatest (has real.tables.context) real.name n (greatest site.operations site.name) g
     (subst (λ name. IsGreatest (has real.tables.context) name (greatest site.operations site.name)) (sym s.name)
-    (greatest_in real.tables.context site.operations s.tables.context site.name))
+    (here_greatest real.tables.context site.operations s.tables.context site.name))
 
 pub spent_is : (real : Node) (site : Site) → NodeStandsFor real site → (context : Context) → context ≡ real.tables.context → (n : ℕ) → IsGreatest (has context) real.name n → is_spent (reading site) ≡ nat_le MAX n
 spent_is real site s context same n g = ap (λ k. nat_le MAX k) (sym (counter_is real site s n (subst (λ (x : Context). IsGreatest (has x) real.name n) same g)))
 
 pub dot_is : (real : Node) (site : Site) → NodeStandsFor real site → (d : Dot) → IsNext (has real.tables.context) real.name d → d ≡ next (reading site)
-dot_is real site s d is = next_is real.tables.context site.operations s.tables.context site.name d (subst (λ name. IsNext (has real.tables.context) name d) s.name is)
+dot_is real site s d is = stood_next real.tables.context site.operations s.tables.context site.name d (subst (λ name. IsNext (has real.tables.context) name d) s.name is)
 
 no_dot_left : (real : Node) (site : Site) → NodeStandsFor real site → has_dot (reading site) ≡ Ok tt → IsGreatest (has real.tables.context) real.name MAX → ⊥
 no_dot_left real site s may g =
@@ -113,7 +113,7 @@ adds_next r (Unregister name) row e = absurd (none_some row e)
 -- a node knows no row of its next dot
 not_yet : (site : Site) (r : Row) → HasRow site.operations r → r.dot ≡ next (reading site) → ⊥
 not_yet site r h d =
-    let le : r.dot.counter ≤ greatest site.operations site.name = subst (λ n. r.dot.counter ≤ greatest site.operations n) (ap (λ (z : Dot). z.node) d) (added-greatest site.operations r h) in
+    let le : r.dot.counter ≤ greatest site.operations site.name = subst (λ n. r.dot.counter ≤ greatest site.operations n) (ap (λ (z : Dot). z.node) d) (added_greatest site.operations r h) in
     let is : r.dot.counter ≡ greatest site.operations site.name + 1 = ap (λ (z : Dot). z.counter) d in
     absurd (omega (arith, le, is))
 
