@@ -50,7 +50,7 @@ fn shows_nodes_in_the_order_of_the_lines(rt: HostRuntime) {
 }
 
 #[test]
-fn names_the_first_bad_line_and_prints_nothing(rt: HostRuntime) {
+fn an_input_of_skipped_lines_is_bad_line_0(rt: HostRuntime) {
     let cases = [
         refused("empty-input-is-bad-line-0", b"", b"bad line 0\n"),
         refused(
@@ -58,6 +58,15 @@ fn names_the_first_bad_line_and_prints_nothing(rt: HostRuntime) {
             b"\n# a\n\n#\tb\r\n",
             b"bad line 0\n",
         ),
+    ];
+    for case in &cases {
+        check(&rt, rt.alloc(), case);
+    }
+}
+
+#[test]
+fn nodes_have_1_to_16_distinct_names(rt: HostRuntime) {
+    let cases = [
         refused(
             "capital-node-name-is-a-bad-line",
             b"nodes A\n",
@@ -71,6 +80,15 @@ fn names_the_first_bad_line_and_prints_nothing(rt: HostRuntime) {
             b"bad line 1\n",
         ),
         refused("nodes without a name", b"nodes\n", b"bad line 1\n"),
+    ];
+    for case in &cases {
+        check(&rt, rt.alloc(), case);
+    }
+}
+
+#[test]
+fn names_the_first_bad_line_and_prints_nothing(rt: HostRuntime) {
+    let cases = [
         refused(
             "line-before-nodes",
             b"# x\nshow a\nnodes a\n",
@@ -86,6 +104,20 @@ fn names_the_first_bad_line_and_prints_nothing(rt: HostRuntime) {
             b"\n# x\nnodes a\n\n#\nshow a b\n",
             b"bad line 6\n",
         ),
+        refused(
+            "the second of two bad lines counts not",
+            b"nodes a\nshow A\nshow B\n",
+            b"bad line 2\n",
+        ),
+    ];
+    for case in &cases {
+        check(&rt, rt.alloc(), case);
+    }
+}
+
+#[test]
+fn words_stand_between_single_spaces(rt: HostRuntime) {
+    let cases = [
         refused("space-at-the-end", b"nodes a\nshow a \n", b"bad line 2\n"),
         refused("two-spaces", b"nodes a\nshow  a\n", b"bad line 2\n"),
         refused(
@@ -96,11 +128,6 @@ fn names_the_first_bad_line_and_prints_nothing(rt: HostRuntime) {
         refused(
             "a byte beyond ASCII",
             b"nodes a\nshow \xc3\xa4\n",
-            b"bad line 2\n",
-        ),
-        refused(
-            "the second of two bad lines counts not",
-            b"nodes a\nshow A\nshow B\n",
             b"bad line 2\n",
         ),
     ];
@@ -145,7 +172,7 @@ fn lines_of_no_form_are_bad(rt: HostRuntime) {
 
 // The last line is the first bad one.
 #[test]
-fn words_are_read_from_the_left(rt: HostRuntime) {
+fn options_are_read_from_the_left(rt: HostRuntime) {
     let cases = [
         refused(
             "ids that look like endings",
@@ -177,6 +204,16 @@ fn words_are_read_from_the_left(rt: HostRuntime) {
             b"nodes a\nstart a x arg=1\nstart a x arg=1 arg=2\n",
             b"bad line 3\n",
         ),
+    ];
+    for case in &cases {
+        check(&rt, rt.alloc(), case);
+    }
+}
+
+// The last line is the first bad one.
+#[test]
+fn each_line_has_its_words(rt: HostRuntime) {
+    let cases = [
         refused(
             "a number of 0",
             b"nodes a\ndeliver a 0\ndeliver a 00\n",

@@ -79,7 +79,7 @@ fn members_and_names_are_refused_where_they_clash(rt: HostRuntime) {
 
 // The last line is the first bad one.
 #[test]
-fn lines_of_members_and_names_have_their_words(rt: HostRuntime) {
+fn lines_of_members_have_their_words(rt: HostRuntime) {
     let cases = [
         refused(
             "a member after the node",
@@ -106,6 +106,16 @@ fn lines_of_members_and_names_have_their_words(rt: HostRuntime) {
             b"nodes a\nleave a z\nleave a Z\n",
             b"bad line 3\n",
         ),
+    ];
+    for case in &cases {
+        check(&rt, rt.alloc(), case);
+    }
+}
+
+// The last line is the first bad one.
+#[test]
+fn lines_of_names_have_their_words(rt: HostRuntime) {
+    let cases = [
         refused(
             "a child missing",
             b"nodes a\nregister a www web\nregister a www\n",
@@ -117,6 +127,21 @@ fn lines_of_members_and_names_have_their_words(rt: HostRuntime) {
             b"bad line 3\n",
         ),
         refused(
+            "a name of 129 bytes",
+            b"nodes a\nunregister a nnnnnnnnnnnnnnnnnnnnnnnnnnnnnnnnnnnnnnnnnnnnnnnnnnnnnnnnnnnnnnnnnnnnnnnnnnnnnnnnnnnnnnnnnnnnnnnnnnnnnnnnnnnnnnnnnnnnnnnnnnnnnnnn\nunregister a nnnnnnnnnnnnnnnnnnnnnnnnnnnnnnnnnnnnnnnnnnnnnnnnnnnnnnnnnnnnnnnnnnnnnnnnnnnnnnnnnnnnnnnnnnnnnnnnnnnnnnnnnnnnnnnnnnnnnnnnnnnnnnnnn\n",
+            b"bad line 3\n",
+        ),
+    ];
+    for case in &cases {
+        check(&rt, rt.alloc(), case);
+    }
+}
+
+// The last line is the first bad one.
+#[test]
+fn options_of_a_replacement_stand_once_and_in_order(rt: HostRuntime) {
+    let cases = [
+        refused(
             "options of a replacement out of order",
             b"nodes a\nreplace a x kind=k arg=\nreplace a x arg= kind=k\n",
             b"bad line 3\n",
@@ -124,11 +149,6 @@ fn lines_of_members_and_names_have_their_words(rt: HostRuntime) {
         refused(
             "an option of a replacement twice",
             b"nodes a\nreplace a x kind=k\nreplace a x kind=k kind=k\n",
-            b"bad line 3\n",
-        ),
-        refused(
-            "a name of 129 bytes",
-            b"nodes a\nunregister a nnnnnnnnnnnnnnnnnnnnnnnnnnnnnnnnnnnnnnnnnnnnnnnnnnnnnnnnnnnnnnnnnnnnnnnnnnnnnnnnnnnnnnnnnnnnnnnnnnnnnnnnnnnnnnnnnnnnnnnnnnnnnnnn\nunregister a nnnnnnnnnnnnnnnnnnnnnnnnnnnnnnnnnnnnnnnnnnnnnnnnnnnnnnnnnnnnnnnnnnnnnnnnnnnnnnnnnnnnnnnnnnnnnnnnnnnnnnnnnnnnnnnnnnnnnnnnnnnnnnnnn\n",
             b"bad line 3\n",
         ),
     ];
