@@ -1,5 +1,5 @@
-//! Values of the tests. These calls promise nothing, so that a test knows nothing of its values but what it sees when it
-//! runs, and they end the test where there is no such value.
+//! Values of the tests, told by texts and numbers, and what is seen of them. These calls promise nothing: a test knows
+//! no more than what it sees when it runs. They end it where there is no such value, or where it is not as expected.
 use std::process::Abort;
 use sup_causal::{CausalContext, Dot, MAX};
 use sup_specs::{ChildId, ChildSpec, Kind, Label, Name, NodeName, Restart, Shutdown, Text};
@@ -8,16 +8,45 @@ pub(crate) fn node(rt: &impl Abort, name: &str) -> NodeName {
     NodeName::parse(name).expect(rt, "a node's name")
 }
 
-pub(crate) fn dot(node: NodeName, counter: u64) -> Dot {
-    Dot { counter, node }
+pub(crate) fn dot(rt: &impl Abort, name: &str, counter: u64) -> Dot {
+    Dot {
+        counter,
+        node: node(rt, name),
+    }
 }
 
-pub(crate) fn context_of(rt: &(impl Abort + AllocGlobal), dots: &[Dot]) -> CausalContext {
+pub(crate) fn dots(rt: &(impl Abort + AllocGlobal), wanted: &[(&str, u64)]) -> Vec<Dot> {
+    let mut dots = Vec::new(rt.alloc());
+    for (name, counter) in wanted {
+        dots.push(dot(rt, name, *counter)).expect(rt, "room");
+    }
+    dots
+}
+
+pub(crate) fn context_of(rt: &(impl Abort + AllocGlobal), wanted: &[(&str, u64)]) -> CausalContext {
+    let dots = dots(rt, wanted);
     assert!(rt;
         dots.iter()
             .all(|dot| 1 <= dot.counter && dot.counter <= MAX)
     );
-    CausalContext::of_dots(rt.alloc(), dots).expect(rt, "room for dots")
+    CausalContext::of_dots(rt.alloc(), &dots).expect(rt, "room")
+}
+
+// Whether the dots are these, in this order.
+pub(crate) fn are_dots(dots: &[Dot], wanted: &[(&str, u64)]) -> bool {
+    if dots.len() != wanted.len() {
+        return false;
+    }
+    for (dot, (name, counter)) in dots.iter().zip(wanted.iter()) {
+        if dot.node.as_str() != *name || dot.counter != *counter {
+            return false;
+        }
+    }
+    true
+}
+
+pub(crate) fn expect_text(rt: &impl Abort, text: &str, wanted: &str) {
+    assert_eq!(rt; text, wanted);
 }
 
 pub(crate) fn child_id(rt: &(impl Abort + AllocGlobal), id: &str) -> ChildId {

@@ -10,19 +10,14 @@ use std::process::Abort;
 use sup_placement::{FlatWeigh, Sha256Weigh, Weigh, place};
 use sup_specs::{ChildId, NodeName};
 
-fn a_to_e(rt: &impl Abort) -> [NodeName; 5] {
-    [
-        node(rt, "a"),
-        node(rt, "b"),
-        node(rt, "c"),
-        node(rt, "d"),
-        node(rt, "e"),
-    ]
-}
+const A_TO_E: [&str; 5] = ["a", "b", "c", "d", "e"];
 
-fn numbered(rt: &(impl Abort + AllocGlobal), number: u32) -> ChildId {
-    let id = format!(in rt.alloc(); "child-{number}").expect(rt, "room for an id");
-    child_id(rt, &id)
+fn nodes(rt: &(impl Abort + AllocGlobal), names: &[&str]) -> Vec<NodeName> {
+    let mut nodes = Vec::new(rt.alloc());
+    for name in names {
+        nodes.push(node(rt, name)).expect(rt, "room");
+    }
+    nodes
 }
 
 // Knows of the weigher what the bound says alone.
@@ -32,38 +27,54 @@ fn place_by<W: Weigh>(weigher: &W, members: &[NodeName], id: &ChildId) -> Option
     place(weigher, members, id)
 }
 
-fn flat_place(members: &[NodeName], id: &ChildId) -> Option<NodeName> {
-    place(&FlatWeigh, members, id)
+// The member on which a child is placed.
+fn place_of<W: Weigh>(
+    rt: &(impl Abort + AllocGlobal),
+    weigher: &W,
+    members: &[&str],
+    id: &ChildId,
+) -> Option<NodeName> {
+    place_by(weigher, &nodes(rt, members), id)
 }
 
-fn digest_place(members: &[NodeName], id: &ChildId) -> Option<NodeName> {
-    place(&Sha256Weigh, members, id)
+// Expects web to be placed on the member where all weigh alike.
+fn expect_flat(rt: &(impl Abort + AllocGlobal), members: &[&str], member: &str) {
+    let placed = place_of(rt, &FlatWeigh, members, &child_id(rt, "web"));
+    assert!(rt; placed == Some(node(rt, member)));
+}
+
+fn expect_nowhere<W: Weigh>(rt: &(impl Abort + AllocGlobal), weigher: &W) {
+    assert!(rt; place(weigher, &[], &child_id(rt, "web")).is_none());
 }
 
 #[test]
 fn a_tie_goes_to_the_least_name(rt: HostRuntime) {
-    let web = child_id(&rt, "web");
-    let [a, b, c, _, _] = a_to_e(&rt);
-    assert!(rt; flat_place(&[b, a, c], &web) == Some(a));
-    assert!(rt; flat_place(&[c, b, b, c], &web) == Some(b));
-    assert!(rt; flat_place(&[c], &web) == Some(c));
-    assert!(rt; flat_place(&[], &web).is_none());
-    assert!(rt; digest_place(&[], &web).is_none());
-    assert!(rt; FlatWeigh.weight(&a, &web) == [0; 32]);
+    expect_flat(&rt, &["b", "a", "c"], "a");
+    expect_flat(&rt, &["c", "b", "b", "c"], "b");
+    expect_flat(&rt, &["c"], "c");
+    expect_nowhere(&rt, &FlatWeigh);
+    expect_nowhere(&rt, &Sha256Weigh);
 }
 
-// Whether the bytes are these, as hex digits.
-fn are(rt: &(impl Abort + AllocGlobal), bytes: [u8; 32], digits: &str) -> bool {
-    hex::encode(rt.alloc(), bytes).expect(rt, "room").as_str() == digits
+#[test]
+fn flat_weights_are_zeros(rt: HostRuntime) {
+    let weight = FlatWeigh.weight(&node(&rt, "a"), &child_id(&rt, "web"));
+    assert!(rt; weight == [0; 32]);
 }
 
-fn is_digest(rt: &(impl Abort + AllocGlobal), bytes: &[u8], digits: &str) -> bool {
-    are(rt, Sha256::digest(bytes), digits)
+// Expects the bytes to be these, as hex digits.
+fn expect_hex(rt: &(impl Abort + AllocGlobal), bytes: [u8; 32], digits: &str) {
+    let shown = hex::encode(rt.alloc(), bytes).expect(rt, "room");
+    assert_eq!(rt; shown.as_str(), digits);
 }
 
-fn is_weight(rt: &(impl Abort + AllocGlobal), member: &str, id: &str, digits: &str) -> bool {
+fn expect_digest(rt: &(impl Abort + AllocGlobal), text: &str, digits: &str) {
+    expect_hex(rt, Sha256::digest(text), digits)
+}
+
+fn expect_weight(rt: &(impl Abort + AllocGlobal), member: &str, id: &str, digits: &str) {
     let weight = Sha256Weigh.weight(&node(rt, member), &child_id(rt, id));
-    are(rt, weight, digits)
+    expect_hex(rt, weight, digits)
 }
 
 const ABC: &str = "ba7816bf8f01cfea414140de5dae2223b00361a396177a9cb410ff61f20015ad";
@@ -76,18 +87,22 @@ const LONGEST: &str = "776b143002782b575a1c503d207b8e8a2a59efb65967cf4b74e49d886
 // 128 times `c`.
 #[test]
 fn a_weight_is_the_digest_of_the_member_a_zero_and_the_id(rt: HostRuntime) {
-    assert!(rt; is_digest(&rt, "abc".as_bytes(), ABC));
-    assert!(rt; is_digest(&rt, "a\0web".as_bytes(), A_WEB));
-    assert!(rt; is_weight(&rt, "a", "web", A_WEB));
+    expect_digest(&rt, "abc", ABC);
+    expect_digest(&rt, "a\0web", A_WEB);
+    expect_weight(&rt, "a", "web", A_WEB);
     let ns = "n".repeat(rt.alloc(), 64).expect(&rt, "room");
     let cs = "c".repeat(rt.alloc(), 128).expect(&rt, "room");
-    assert!(rt; is_weight(&rt, &ns, &cs, LONGEST));
+    expect_weight(&rt, &ns, &cs, LONGEST);
+}
+
+fn expect_place(rt: &(impl Abort + AllocGlobal), id: &str, member: &str) {
+    let placed = place_of(rt, &Sha256Weigh, &A_TO_E, &child_id(rt, id));
+    assert!(rt; placed == Some(node(rt, member)), "{id}");
 }
 
 // The places were computed with Python's `hashlib`.
 #[test]
 fn a_child_goes_to_the_member_of_greatest_digest(rt: HostRuntime) {
-    let members = a_to_e(&rt);
     for (id, member) in [
         ("web", "e"),
         ("db", "e"),
@@ -101,39 +116,53 @@ fn a_child_goes_to_the_member_of_greatest_digest(rt: HostRuntime) {
         ("log", "c"),
         ("!", "c"),
     ] {
-        let placed = digest_place(&members, &child_id(&rt, id));
-        assert!(rt; placed == Some(node(&rt, member)), "{id}");
+        expect_place(&rt, id, member);
     }
+}
+
+fn numbered(rt: &(impl Abort + AllocGlobal), number: u32) -> ChildId {
+    let id = format!(in rt.alloc(); "child-{number}").expect(rt, "room");
+    child_id(rt, &id)
+}
+
+// Where the members place a child of this number by its digests.
+fn numbered_place(
+    rt: &(impl Abort + AllocGlobal),
+    members: &[&str],
+    number: u32,
+) -> Option<NodeName> {
+    place_of(rt, &Sha256Weigh, members, &numbered(rt, number))
+}
+
+fn expect_alike(rt: &(impl Abort + AllocGlobal), members: &[&str], number: u32) {
+    assert!(rt; numbered_place(rt, members, number) == numbered_place(rt, &A_TO_E, number));
 }
 
 #[test]
 fn order_and_repeats_of_members_change_no_place(rt: HostRuntime) {
-    let members = a_to_e(&rt);
-    let [a, b, c, d, e] = members;
     for i in 0..50 {
-        let id = numbered(&rt, i);
-        let placed = digest_place(&members, &id);
-        assert!(rt; digest_place(&[e, d, c, b, a], &id) == placed);
-        assert!(rt; digest_place(&[c, a, c, e, b, d, a, d], &id) == placed);
-        assert!(rt; place_by(&Sha256Weigh, &members, &id) == placed);
+        expect_alike(&rt, &["e", "d", "c", "b", "a"], i);
+        expect_alike(&rt, &["c", "a", "c", "e", "b", "d", "a", "d"], i);
     }
+}
+
+// Whether a child moves when c is taken away, which it must exactly if it was there.
+fn moves(rt: &(impl Abort + AllocGlobal), number: u32) -> bool {
+    let c = Some(node(rt, "c"));
+    let before = numbered_place(rt, &A_TO_E, number);
+    let after = numbered_place(rt, &["a", "b", "d", "e"], number);
+    assert!(rt; after.is_some() && after != c);
+    assert!(rt; (before == c) == (before != after));
+    before == c
 }
 
 // Of these ids 42 are placed on c, by Python's `hashlib`.
 #[test]
 fn only_the_children_of_a_member_taken_away_move(rt: HostRuntime) {
-    let members = a_to_e(&rt);
-    let [a, b, c, d, e] = members;
     let mut moved = 0u32;
     for i in 0..200 {
-        let id = numbered(&rt, i);
-        let before = digest_place(&members, &id);
-        let after = digest_place(&[a, b, d, e], &id);
-        if before == Some(c) {
-            assert!(rt; after.is_some_and(|member| member != c));
+        if moves(&rt, i) {
             moved = moved.saturating_add(1);
-        } else {
-            assert!(rt; after == before);
         }
     }
     assert_eq!(rt; moved, 42);
@@ -159,7 +188,7 @@ fn each_member_is_weighed_once(rt: HostRuntime) {
     let weigher = CountingWeigh {
         asked: Cell::new(0),
     };
-    let members = a_to_e(&rt);
-    assert!(rt; place_by(&weigher, &members, &child_id(&rt, "web")) == Some(members[0]));
+    let placed = place_of(&rt, &weigher, &A_TO_E, &child_id(&rt, "web"));
+    assert!(rt; placed == Some(node(&rt, "a")));
     assert_eq!(rt; weigher.asked.get(), 5);
 }

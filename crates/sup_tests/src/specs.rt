@@ -1,5 +1,5 @@
 //! Names, ids, texts and specifications: what their contracts leave open, and that each call can succeed.
-use crate::given::{child_id, kind, label, node, registered, text};
+use crate::given::{child_id, expect_text, kind, label, node, registered, text};
 use std::cmp::Ordering;
 use std::fmt::Display;
 use std::process::Abort;
@@ -8,13 +8,20 @@ use sup_specs::{
     Shutdown, Text, TextFault,
 };
 
-// Why a node name is refused, if it is.
-fn node_fault(text: &str) -> Option<TextFault> {
-    NodeName::parse(text).err()
+type Fault = Option<TextFault>;
+
+// Expects a text to be refused as a node's name with this fault, or taken.
+fn expect_node_fault(rt: &impl Abort, text: &str, fault: Fault) {
+    assert_eq!(rt; NodeName::parse(text).err(), fault, "at {text}");
+}
+
+// Expects a text to be refused as a text with this fault, or taken.
+fn expect_text_fault(rt: &(impl Abort + AllocGlobal), text: &str, fault: Fault) {
+    assert_eq!(rt; Text::parse(rt.alloc(), text).err(), fault, "at {text}");
 }
 
 // Why ids, names, kinds and labels refuse a text.
-fn faults(rt: &impl AllocGlobal, text: &str) -> [Option<TextFault>; 4] {
+fn faults(rt: &impl AllocGlobal, text: &str) -> [Fault; 4] {
     [
         ChildId::parse(rt.alloc(), text).err(),
         Name::parse(rt.alloc(), text).err(),
@@ -23,8 +30,9 @@ fn faults(rt: &impl AllocGlobal, text: &str) -> [Option<TextFault>; 4] {
     ]
 }
 
-fn text_fault(rt: &impl AllocGlobal, text: &str) -> Option<TextFault> {
-    Text::parse(rt.alloc(), text).err()
+// Expects a text to be refused as an id, a name, a kind and a label with this fault, or taken.
+fn expect_fault(rt: &(impl Abort + AllocGlobal), text: &str, fault: Fault) {
+    assert!(rt; faults(rt, text) == [fault; 4], "at {text}");
 }
 
 fn repeated(rt: &(impl Abort + AllocGlobal), letter: &str, count: usize) -> String {
@@ -33,15 +41,11 @@ fn repeated(rt: &(impl Abort + AllocGlobal), letter: &str, count: usize) -> Stri
 
 #[test]
 fn a_node_name_has_bytes_of_its_alphabet(rt: HostRuntime) {
-    for (text, fault) in [
-        ("", Some(TextFault::Empty)),
-        ("abcdefghijklmnopqrstuvwxyz0123456789_-", None),
-        ("a.b", Some(TextFault::BadByte(1))),
-        ("A", Some(TextFault::BadByte(0))),
-        ("a b c", Some(TextFault::BadByte(1))),
-    ] {
-        assert_eq!(rt; node_fault(text), fault, "at {text}");
-    }
+    expect_node_fault(&rt, "", Some(TextFault::Empty));
+    expect_node_fault(&rt, "abcdefghijklmnopqrstuvwxyz0123456789_-", None);
+    expect_node_fault(&rt, "a.b", Some(TextFault::BadByte(1)));
+    expect_node_fault(&rt, "A", Some(TextFault::BadByte(0)));
+    expect_node_fault(&rt, "a b c", Some(TextFault::BadByte(1)));
 }
 
 #[test]
@@ -51,23 +55,18 @@ fn a_node_name_has_at_most_64_bytes(rt: HostRuntime) {
         (65, "a", Some(TextFault::TooLong)),
         (65, ".", Some(TextFault::TooLong)),
     ] {
-        let name = repeated(&rt, letter, count);
-        assert_eq!(rt; node_fault(&name), fault, "at {count}");
+        expect_node_fault(&rt, &repeated(&rt, letter, count), fault);
     }
 }
 
 #[test]
 fn ids_names_kinds_and_labels_have_visible_bytes(rt: HostRuntime) {
-    for (text, fault) in [
-        ("", Some(TextFault::Empty)),
-        ("~", None),
-        ("!", None),
-        ("a b", Some(TextFault::BadByte(1))),
-        ("ab\n", Some(TextFault::BadByte(2))),
-        ("\x7f", Some(TextFault::BadByte(0))),
-    ] {
-        assert_eq!(rt; faults(&rt, text), [fault; 4], "at {text}");
-    }
+    expect_fault(&rt, "", Some(TextFault::Empty));
+    expect_fault(&rt, "~", None);
+    expect_fault(&rt, "!", None);
+    expect_fault(&rt, "a b", Some(TextFault::BadByte(1)));
+    expect_fault(&rt, "ab\n", Some(TextFault::BadByte(2)));
+    expect_fault(&rt, "\x7f", Some(TextFault::BadByte(0)));
 }
 
 #[test]
@@ -77,62 +76,64 @@ fn ids_names_kinds_and_labels_have_at_most_128_bytes(rt: HostRuntime) {
         (129, "~", Some(TextFault::TooLong)),
         (129, " ", Some(TextFault::TooLong)),
     ] {
-        let text = repeated(&rt, letter, count);
-        assert_eq!(rt; faults(&rt, &text), [fault; 4], "at {count}");
+        expect_fault(&rt, &repeated(&rt, letter, count), fault);
     }
 }
 
 #[test]
 fn a_text_has_0_to_1024_bytes(rt: HostRuntime) {
     for (count, fault) in [(0, None), (1024, None), (1025, Some(TextFault::TooLong))] {
-        let text = repeated(&rt, "x", count);
-        assert_eq!(rt; text_fault(&rt, &text), fault, "at {count}");
+        expect_text_fault(&rt, &repeated(&rt, "x", count), fault);
     }
 }
 
-fn node_order(rt: &impl Abort, one: &str, other: &str) -> Ordering {
-    node(rt, one).cmp(&node(rt, other))
+// Expects the first of two values to be the lesser, whichever is asked.
+fn expect_rise<V: Plain>(rt: &impl Abort, low: &V, high: &V) {
+    assert!(rt; low.cmp(high) == Ordering::Less);
+    assert!(rt; high.cmp(low) == Ordering::Greater);
 }
 
-fn text_order(rt: &(impl Abort + AllocGlobal), one: &str, other: &str) -> Ordering {
-    text(rt, one).cmp(&text(rt, other))
+fn expect_nodes_rise(rt: &impl Abort, low: &str, high: &str) {
+    expect_rise(rt, &node(rt, low), &node(rt, high))
+}
+
+fn expect_texts_rise(rt: &(impl Abort + AllocGlobal), low: &str, high: &str) {
+    expect_rise(rt, &text(rt, low), &text(rt, high))
 }
 
 #[test]
 fn names_are_ordered_by_their_bytes_and_not_by_length_first(rt: HostRuntime) {
-    for (low, high) in [("-", "0"), ("0", "_"), ("_", "a"), ("a", "ab"), ("ab", "b")] {
-        assert_eq!(rt; node_order(&rt, low, high), Ordering::Less, "at {low}");
-        assert_eq!(rt; node_order(&rt, high, low), Ordering::Greater, "at {low}");
-    }
+    expect_nodes_rise(&rt, "-", "0");
+    expect_nodes_rise(&rt, "0", "_");
+    expect_nodes_rise(&rt, "_", "a");
+    expect_nodes_rise(&rt, "a", "ab");
+    expect_nodes_rise(&rt, "ab", "b");
 }
 
 #[test]
 fn texts_are_ordered_by_their_bytes_and_not_by_length_first(rt: HostRuntime) {
-    for (low, high) in [("", "!"), ("Z", "a"), ("a", "ab"), ("ab", "b")] {
-        assert_eq!(rt; text_order(&rt, low, high), Ordering::Less, "at {low}");
-        assert_eq!(rt; text_order(&rt, high, low), Ordering::Greater, "at {low}");
-    }
+    expect_texts_rise(&rt, "", "!");
+    expect_texts_rise(&rt, "Z", "a");
+    expect_texts_rise(&rt, "a", "ab");
+    expect_texts_rise(&rt, "ab", "b");
 }
 
 #[test]
 fn restarts_and_shutdowns_rise_as_they_are_listed(rt: HostRuntime) {
-    assert!(rt; Restart::Permanent < Restart::Transient);
-    assert!(rt; Restart::Transient < Restart::Temporary);
-    for (low, high) in [
-        (Shutdown::Brutal, Shutdown::Millis(0)),
-        (Shutdown::Millis(0), Shutdown::Millis(9)),
-        (Shutdown::Millis(9), Shutdown::Millis(10)),
-        (Shutdown::Millis(u32::MAX), Shutdown::Infinity),
-    ] {
-        assert_eq!(rt; low.cmp(&high), Ordering::Less, "at {low:?}");
-    }
+    expect_rise(&rt, &Restart::Permanent, &Restart::Transient);
+    expect_rise(&rt, &Restart::Transient, &Restart::Temporary);
+    expect_rise(&rt, &Shutdown::Brutal, &Shutdown::Millis(0));
+    expect_rise(&rt, &Shutdown::Millis(0), &Shutdown::Millis(9));
+    expect_rise(&rt, &Shutdown::Millis(9), &Shutdown::Millis(10));
+    expect_rise(&rt, &Shutdown::Millis(u32::MAX), &Shutdown::Infinity);
 }
-
-type Words<'a> = (&'a str, &'a str, Restart, Shutdown);
 
 fn spec(
     rt: &(impl Abort + AllocGlobal),
-    (of_kind, arg, restart, shutdown): Words<'_>,
+    of_kind: &str,
+    arg: &str,
+    restart: Restart,
+    shutdown: Shutdown,
 ) -> ChildSpec {
     ChildSpec {
         kind: kind(rt, of_kind),
@@ -142,109 +143,118 @@ fn spec(
     }
 }
 
-// How two specifications are ordered, and how the second and the first.
-fn orders(
-    rt: &(impl Abort + AllocGlobal),
-    one: Words<'_>,
-    other: Words<'_>,
-) -> (Ordering, Ordering) {
-    let one = spec(rt, one);
-    let other = spec(rt, other);
-    (one.order(&other), other.cmp(&one))
+// Expects a specification to be less than one of kind b with arg y that is transient and waits for ever.
+fn expect_lesser(rt: &(impl Abort + AllocGlobal), lesser: &ChildSpec) {
+    let greatest = spec(rt, "b", "y", Restart::Transient, Shutdown::Infinity);
+    assert!(rt; lesser.order(&greatest) == Ordering::Less);
+    expect_rise(rt, lesser, &greatest);
 }
 
 #[test]
 fn specifications_are_ordered_by_kind_then_arg_then_restart_then_shutdown(rt: HostRuntime) {
-    let greatest = ("b", "y", Restart::Transient, Shutdown::Infinity);
-    for lower in [
-        ("a", "z", Restart::Temporary, Shutdown::Infinity),
-        ("b", "x", Restart::Temporary, Shutdown::Infinity),
-        ("b", "y", Restart::Permanent, Shutdown::Infinity),
-        ("b", "y", Restart::Transient, Shutdown::Millis(9)),
-    ] {
-        assert!(rt; orders(&rt, lower, greatest) == (Ordering::Less, Ordering::Greater));
-    }
+    let kind = spec(&rt, "a", "z", Restart::Temporary, Shutdown::Infinity);
+    let arg = spec(&rt, "b", "x", Restart::Temporary, Shutdown::Infinity);
+    let restart = spec(&rt, "b", "y", Restart::Permanent, Shutdown::Infinity);
+    let shutdown = spec(&rt, "b", "y", Restart::Transient, Shutdown::Millis(9));
+    expect_lesser(&rt, &kind);
+    expect_lesser(&rt, &arg);
+    expect_lesser(&rt, &restart);
+    expect_lesser(&rt, &shutdown);
 }
 
-// Whether a copy could be made that equals its source.
-fn copies<V: Plain>(rt: &impl AllocGlobal, value: V) -> bool {
-    match value.try_clone(rt.alloc()) {
-        Ok(copy) => copy == value,
-        Err(_) => false,
-    }
+// Expects that a copy can be made, which equals its source.
+fn expect_copy<V: Plain>(rt: &(impl Abort + AllocGlobal), value: V) {
+    let copy = value.try_clone(rt.alloc()).expect(rt, "a copy");
+    assert!(rt; copy == value);
 }
 
 #[test]
 fn names_and_texts_have_copies(rt: HostRuntime) {
-    assert!(rt; copies(&rt, node(&rt, "n1")));
-    assert!(rt; copies(&rt, child_id(&rt, "web")));
-    assert!(rt; copies(&rt, registered(&rt, "www")));
-    assert!(rt; copies(&rt, kind(&rt, "http")));
-    assert!(rt; copies(&rt, label(&rt, "moved")));
-    assert!(rt; copies(&rt, text(&rt, "")));
+    expect_copy(&rt, node(&rt, "n1"));
+    expect_copy(&rt, child_id(&rt, "web"));
+    expect_copy(&rt, registered(&rt, "www"));
+    expect_copy(&rt, kind(&rt, "http"));
+    expect_copy(&rt, label(&rt, "moved"));
+    expect_copy(&rt, text(&rt, ""));
+}
+
+fn member(rt: &(impl Abort + AllocGlobal), label: &str) -> MemberInfo {
+    MemberInfo {
+        label: text(rt, label),
+    }
 }
 
 #[test]
 fn specifications_and_members_have_copies(rt: HostRuntime) {
-    let what = ("web", "port=80", Restart::Transient, Shutdown::Millis(5));
-    assert!(rt; copies(&rt, spec(&rt, what)));
-    let label = text(&rt, "rack-1");
-    assert!(rt; copies(&rt, MemberInfo { label }));
-    assert!(rt; copies(&rt, Restart::Transient));
-    assert!(rt; copies(&rt, Shutdown::Infinity));
-    assert!(rt; copies(&rt, 7u8));
+    let web = spec(
+        &rt,
+        "web",
+        "port=80",
+        Restart::Transient,
+        Shutdown::Millis(5),
+    );
+    expect_copy(&rt, web);
+    expect_copy(&rt, member(&rt, "rack-1"));
+    expect_copy(&rt, Restart::Transient);
+    expect_copy(&rt, Shutdown::Infinity);
+    expect_copy(&rt, 7u8);
 }
 
 #[test]
 fn exit_reasons_have_copies(rt: HostRuntime) {
-    assert!(rt; copies(&rt, ExitReason::ShutdownWith(label(&rt, "moved"))));
-    assert!(rt; copies(&rt, ExitReason::Normal));
-    assert!(rt; copies(&rt, ExitReason::Shutdown));
-    assert!(rt; copies(&rt, ExitReason::Failed));
-    assert!(rt; copies(&rt, ExitReason::Crash));
+    expect_copy(&rt, ExitReason::ShutdownWith(label(&rt, "moved")));
+    expect_copy(&rt, ExitReason::Normal);
+    expect_copy(&rt, ExitReason::Shutdown);
+    expect_copy(&rt, ExitReason::Failed);
+    expect_copy(&rt, ExitReason::Crash);
 }
 
-fn is_shown(rt: &(impl Abort + AllocGlobal), value: &impl Display, text: &str) -> bool {
+fn expect_shown(rt: &(impl Abort + AllocGlobal), value: &impl Display, wanted: &str) {
     let shown = format!(in rt.alloc(); "{value}").expect(rt, "room");
-    shown.as_str() == text
+    expect_text(rt, &shown, wanted);
 }
 
-fn is_shown_quoted(rt: &(impl Abort + AllocGlobal), node: &NodeName, text: &str) -> bool {
+fn expect_quoted(rt: &(impl Abort + AllocGlobal), node: &NodeName, wanted: &str) {
     let shown = format!(in rt.alloc(); "{node:?}").expect(rt, "room");
-    shown.as_str() == text
+    expect_text(rt, &shown, wanted);
 }
 
 #[test]
 fn a_node_name_is_shown_as_it_was_read(rt: HostRuntime) {
     let node = node(&rt, "n-1");
-    assert!(rt; is_shown(&rt, &node, "n-1"));
-    assert!(rt; is_shown_quoted(&rt, &node, "\"n-1\""));
+    expect_shown(&rt, &node, "n-1");
+    expect_quoted(&rt, &node, "\"n-1\"");
     assert!(rt; node.as_bytes() == "n-1".as_bytes());
 }
 
 #[test]
 fn an_id_is_shown_as_it_was_read(rt: HostRuntime) {
     let id = child_id(&rt, "web/1");
-    assert!(rt; is_shown(&rt, &id, "web/1"));
-    assert!(rt; id.as_str() == "web/1");
+    expect_shown(&rt, &id, "web/1");
+    expect_text(&rt, id.as_str(), "web/1");
 }
 
 #[test]
 fn a_fault_says_what_is_wrong_and_where(rt: HostRuntime) {
-    for (fault, text) in [
-        (TextFault::Empty, "the text is empty"),
-        (TextFault::TooLong, "the text is too long"),
-        (TextFault::OutOfMemory, "out of memory"),
-        (TextFault::BadByte(3), "the byte at place 3 is not allowed"),
-    ] {
-        assert!(rt; is_shown(&rt, &fault, text), "at {text}");
-    }
+    expect_shown(&rt, &TextFault::Empty, "the text is empty");
+    expect_shown(&rt, &TextFault::TooLong, "the text is too long");
+    expect_shown(&rt, &TextFault::OutOfMemory, "out of memory");
+    let bad = TextFault::BadByte(3);
+    expect_shown(&rt, &bad, "the byte at place 3 is not allowed");
 }
 
 #[test]
-fn names_kinds_labels_and_texts_give_their_text_back(rt: HostRuntime) {
-    assert!(rt; registered(&rt, "www").as_str() == "www");
-    assert!(rt; kind(&rt, "http").as_str() == "http");
-    assert!(rt; label(&rt, "moved").as_str() == "moved");
-    assert!(rt; text(&rt, "port=80").as_str() == "port=80");
+fn names_and_kinds_give_their_text_back(rt: HostRuntime) {
+    let name = registered(&rt, "www");
+    expect_text(&rt, name.as_str(), "www");
+    let kind = kind(&rt, "http");
+    expect_text(&rt, kind.as_str(), "http");
+}
+
+#[test]
+fn labels_and_texts_give_their_text_back(rt: HostRuntime) {
+    let label = label(&rt, "moved");
+    expect_text(&rt, label.as_str(), "moved");
+    let text = text(&rt, "port=80");
+    expect_text(&rt, text.as_str(), "port=80");
 }

@@ -1,4 +1,5 @@
-//! Counts under nodes' names, for the tests. Their calls promise nothing, and end the test where one of the map's fails.
+//! Counts under nodes' names, for the tests. Their calls promise nothing, and end the test where one of the map's fails
+//! or where the counts are not as expected.
 use crate::given::node;
 use std::process::Abort;
 use sup_causal::{Lattice, MapJoin, MaxCount};
@@ -20,7 +21,7 @@ impl Counts {
     }
 
     // Whether these are its counts, all of them and in this order.
-    pub(crate) fn are(&self, counts: &[(&str, u64)]) -> bool {
+    fn are(&self, counts: &[(&str, u64)]) -> bool {
         let mut wanted = counts.iter();
         for (name, value) in &self.map.map {
             match wanted.next() {
@@ -31,11 +32,19 @@ impl Counts {
         wanted.next().is_none()
     }
 
-    pub(crate) fn at(&self, name: &NodeName) -> Option<u64> {
+    pub(crate) fn expect(&self, rt: &impl Abort, counts: &[(&str, u64)]) {
+        assert!(rt; self.are(counts));
+    }
+
+    fn at(&self, name: &NodeName) -> Option<u64> {
         match self.map.get(name) {
             Some(value) => Some(value.count),
             None => None,
         }
+    }
+
+    pub(crate) fn expect_at(&self, rt: &impl Abort, name: &str, count: Option<u64>) {
+        assert!(rt; self.at(&node(rt, name)) == count);
     }
 
     pub(crate) fn joined(&self, rt: &(impl Abort + AllocGlobal), other: &Counts) -> Counts {
@@ -50,7 +59,11 @@ impl Counts {
             .expect(rt, "a join")
     }
 
-    pub(crate) fn are_below(&self, other: &Counts) -> bool {
-        self.map.leq(&other.map)
+    pub(crate) fn expect_below(&self, rt: &impl Abort, other: &Counts) {
+        assert!(rt; self.map.leq(&other.map));
+    }
+
+    pub(crate) fn expect_not_below(&self, rt: &impl Abort, other: &Counts) {
+        assert!(rt; !self.map.leq(&other.map));
     }
 }

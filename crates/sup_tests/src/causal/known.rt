@@ -1,19 +1,47 @@
-//! A context of the tests. Its calls promise nothing, and end the test where one of the context's fails.
-use crate::given::context_of;
+//! A context of the tests. Its calls promise nothing, and end the test where one of the context's fails or where the
+//! context is not as expected.
+use crate::given::{are_dots, context_of, dot, dots, node};
 use std::process::Abort;
 use sup_causal::{CausalContext, Dot, Lattice, MAX, PartsFault};
 use sup_specs::NodeName;
 
-// Whether the vector and the cloud are refused as no context's.
-pub(crate) fn is_no_cut(
+fn entries(rt: &(impl Abort + AllocGlobal), wanted: &[(&str, u64)]) -> Vec<(NodeName, u64)> {
+    let mut entries = Vec::new(rt.alloc());
+    for (name, counter) in wanted {
+        entries.push((node(rt, name), *counter)).expect(rt, "room");
+    }
+    entries
+}
+
+fn cut(
     rt: &(impl Abort + AllocGlobal),
-    vector: &[(NodeName, u64)],
-    cloud: &[Dot],
-) -> bool {
-    matches!(
-        CausalContext::from_parts(rt.alloc(), vector, cloud),
-        Err(PartsFault::NotCanonical)
-    )
+    vector: &[(&str, u64)],
+    cloud: &[(&str, u64)],
+) -> Result<CausalContext, PartsFault> {
+    let vector = entries(rt, vector);
+    let cloud = dots(rt, cloud);
+    CausalContext::from_parts(rt.alloc(), &vector, &cloud)
+}
+
+// Expects that the vector and the cloud are refused as no context's.
+pub(crate) fn expect_no_cut(
+    rt: &(impl Abort + AllocGlobal),
+    vector: &[(&str, u64)],
+    cloud: &[(&str, u64)],
+) {
+    assert!(rt; matches!(cut(rt, vector, cloud), Err(PartsFault::NotCanonical)));
+}
+
+fn are_entries(entries: &[(NodeName, u64)], wanted: &[(&str, u64)]) -> bool {
+    if entries.len() != wanted.len() {
+        return false;
+    }
+    for (entry, (name, counter)) in entries.iter().zip(wanted.iter()) {
+        if entry.0.as_str() != *name || entry.1 != *counter {
+            return false;
+        }
+    }
+    true
 }
 
 #[derive(Drop)]
@@ -30,46 +58,64 @@ impl Known {
 
     pub(crate) fn of_parts(
         rt: &(impl Abort + AllocGlobal),
-        vector: &[(NodeName, u64)],
-        cloud: &[Dot],
+        vector: &[(&str, u64)],
+        cloud: &[(&str, u64)],
     ) -> Known {
         Known {
-            context: CausalContext::from_parts(rt.alloc(), vector, cloud).expect(rt, "a cut"),
+            context: cut(rt, vector, cloud).expect(rt, "a cut"),
         }
     }
 
-    pub(crate) fn of_dots(rt: &(impl Abort + AllocGlobal), dots: &[Dot]) -> Known {
+    pub(crate) fn of_dots(rt: &(impl Abort + AllocGlobal), wanted: &[(&str, u64)]) -> Known {
         Known {
-            context: context_of(rt, dots),
+            context: context_of(rt, wanted),
         }
     }
 
-    pub(crate) fn add(&mut self, rt: &(impl Abort + AllocGlobal), dot: Dot) {
-        assert!(rt; 1 <= dot.counter && dot.counter <= MAX);
-        self.context.insert(dot).expect(rt, "room")
+    pub(crate) fn add(&mut self, rt: &(impl Abort + AllocGlobal), name: &str, counter: u64) {
+        assert!(rt; 1 <= counter && counter <= MAX);
+        self.context
+            .insert(dot(rt, name, counter))
+            .expect(rt, "room")
     }
 
-    pub(crate) fn has(&self, dot: Dot) -> bool {
-        self.context.contains(&dot)
+    fn has(&self, rt: &impl Abort, name: &str, counter: u64) -> bool {
+        self.context.contains(&dot(rt, name, counter))
     }
 
-    pub(crate) fn greatest(&self, node: NodeName) -> u64 {
-        self.context.greatest(&node)
+    pub(crate) fn expect_has(&self, rt: &impl Abort, name: &str, counter: u64) {
+        assert!(rt; self.has(rt, name, counter));
     }
 
-    pub(crate) fn next(&self, node: NodeName) -> Option<Dot> {
-        self.context.next(node)
+    pub(crate) fn expect_lacks(&self, rt: &impl Abort, name: &str, counter: u64) {
+        assert!(rt; !self.has(rt, name, counter));
     }
 
-    // Whether it is cut into these parts.
-    pub(crate) fn is_cut(
+    pub(crate) fn expect_greatest(&self, rt: &impl Abort, name: &str, counter: u64) {
+        assert_eq!(rt; self.context.greatest(&node(rt, name)), counter);
+    }
+
+    fn next(&self, rt: &impl Abort, name: &str) -> Option<Dot> {
+        self.context.next(node(rt, name))
+    }
+
+    pub(crate) fn expect_next(&self, rt: &impl Abort, name: &str, counter: u64) {
+        assert!(rt; self.next(rt, name) == Some(dot(rt, name, counter)));
+    }
+
+    pub(crate) fn expect_spent(&self, rt: &impl Abort, name: &str) {
+        assert!(rt; self.next(rt, name).is_none());
+    }
+
+    // Expects that it is cut into these parts.
+    pub(crate) fn expect_cut(
         &self,
         rt: &(impl Abort + AllocGlobal),
-        vector: &[(NodeName, u64)],
-        cloud: &[Dot],
-    ) -> bool {
-        self.context.vector().expect(rt, "room").as_slice() == vector
-            && self.context.cloud().expect(rt, "room").as_slice() == cloud
+        vector: &[(&str, u64)],
+        cloud: &[(&str, u64)],
+    ) {
+        assert!(rt; are_entries(&self.context.vector().expect(rt, "room"), vector));
+        assert!(rt; are_dots(&self.context.cloud().expect(rt, "room"), cloud));
     }
 
     pub(crate) fn joined(&self, rt: &(impl Abort + AllocGlobal), other: &Known) -> Known {
@@ -87,33 +133,37 @@ impl Known {
             .expect(rt, "a join")
     }
 
-    pub(crate) fn len(&self) -> usize {
-        self.context.len()
+    pub(crate) fn expect_len(&self, rt: &impl Abort, len: usize) {
+        assert_eq!(rt; self.context.len(), len);
     }
 
-    // Whether these are the dots that both have.
-    pub(crate) fn shares(
+    // Expects these to be the dots that both have.
+    pub(crate) fn expect_shared(
         &self,
         rt: &(impl Abort + AllocGlobal),
         other: &Known,
-        dots: &[Dot],
-    ) -> bool {
+        wanted: &[(&str, u64)],
+    ) {
         let shared = self.context.shared(rt.alloc(), &other.context);
-        shared.expect(rt, "room").as_slice() == dots
+        assert!(rt; are_dots(&shared.expect(rt, "room"), wanted));
     }
 
-    // Whether these are its dots that the other lacks.
-    pub(crate) fn exceeds(
+    // Expects these to be its dots that the other lacks.
+    pub(crate) fn expect_beyond(
         &self,
         rt: &(impl Abort + AllocGlobal),
         other: &Known,
-        dots: &[Dot],
-    ) -> bool {
+        wanted: &[(&str, u64)],
+    ) {
         let beyond = self.context.beyond(rt.alloc(), &other.context);
-        beyond.expect(rt, "room").as_slice() == dots
+        assert!(rt; are_dots(&beyond.expect(rt, "room"), wanted));
     }
 
-    pub(crate) fn is_within(&self, other: &Known) -> bool {
-        self.context.leq(&other.context)
+    pub(crate) fn expect_within(&self, rt: &impl Abort, other: &Known) {
+        assert!(rt; self.context.leq(&other.context));
+    }
+
+    pub(crate) fn expect_not_within(&self, rt: &impl Abort, other: &Known) {
+        assert!(rt; !self.context.leq(&other.context));
     }
 }

@@ -3,7 +3,6 @@
 ghost use Rattle.std.specs.Prelude.{◌≡◌, IfOk};
 
 use super::counts::Counts;
-use crate::given::node;
 use std::alloc::{AllocError, Global};
 use std::process::Abort;
 use sup_causal::{Lattice, Least, MaxCount};
@@ -51,11 +50,10 @@ fn maps_join_key_by_key(rt: HostRuntime) {
     let left = Counts::of(&rt, &[("p", 2)]);
     let right = Counts::of(&rt, &[("p", 1), ("q", 3)]);
     let both = left.joined(&rt, &right);
-    let also = right.joined(&rt, &left);
-    assert!(rt; both.are(&[("p", 2), ("q", 3)]));
-    assert!(rt; also.are(&[("p", 2), ("q", 3)]));
-    assert!(rt; both.at(&node(&rt, "q")) == Some(3));
-    assert!(rt; left.at(&node(&rt, "q")).is_none());
+    both.expect(&rt, &[("p", 2), ("q", 3)]);
+    both.expect_at(&rt, "q", Some(3));
+    left.expect_at(&rt, "q", None);
+    right.joined(&rt, &left).expect(&rt, &[("p", 2), ("q", 3)]);
 }
 
 #[test]
@@ -63,10 +61,10 @@ fn an_absent_key_is_below(rt: HostRuntime) {
     let mut left = Counts::of(&rt, &[("p", 2)]);
     let right = Counts::of(&rt, &[("p", 1), ("q", 3)]);
     let both = left.joined(&rt, &right);
-    assert!(rt; !right.are_below(&left));
+    right.expect_not_below(&rt, &left);
     left.absorb(&rt, &right);
-    assert!(rt; right.are_below(&left));
-    assert!(rt; both.are_below(&left));
+    right.expect_below(&rt, &left);
+    both.expect_below(&rt, &left);
 }
 
 // What they join to is what Python says of two dicts a and b: {k: max(a.get(k, 0), b.get(k, 0)) for k in sorted(a | b)}.
@@ -83,23 +81,23 @@ fn keys_of_two_maps_may_interleave(rt: HostRuntime) {
         ("h", 2),
         ("i", 8),
     ];
-    assert!(rt; a.joined(&rt, &b).are(&joined));
-    assert!(rt; b.joined(&rt, &a).are(&joined));
-    assert!(rt; !a.are_below(&b));
-    assert!(rt; !b.are_below(&a));
-    assert!(rt; a.are_below(&Counts::of(&rt, &joined)));
-    assert!(rt; b.are_below(&Counts::of(&rt, &joined)));
+    a.joined(&rt, &b).expect(&rt, &joined);
+    b.joined(&rt, &a).expect(&rt, &joined);
+    a.expect_not_below(&rt, &b);
+    b.expect_not_below(&rt, &a);
+    a.expect_below(&rt, &Counts::of(&rt, &joined));
+    b.expect_below(&rt, &Counts::of(&rt, &joined));
 }
 
 #[test]
 fn one_key_decides_between_maps_that_interleave(rt: HostRuntime) {
     let few = Counts::of(&rt, &[("b", 2), ("d", 4)]);
-    assert!(rt;
-        few.are_below(&Counts::of(&rt, &[("a", 1), ("b", 2), ("c", 1), ("d", 5), ("e", 1)]))
-    );
-    assert!(rt;
-        !few.are_below(&Counts::of(&rt, &[("a", 9), ("b", 9), ("c", 9), ("d", 3), ("e", 9)]))
-    );
-    assert!(rt; !few.are_below(&Counts::of(&rt, &[("a", 9), ("c", 9), ("d", 9), ("e", 9)])));
-    assert!(rt; !few.are_below(&Counts::of(&rt, &[("a", 9), ("b", 9), ("c", 9)])));
+    let more = Counts::of(&rt, &[("a", 1), ("b", 2), ("c", 1), ("d", 5), ("e", 1)]);
+    let less = Counts::of(&rt, &[("a", 9), ("b", 9), ("c", 9), ("d", 3), ("e", 9)]);
+    let no_b = Counts::of(&rt, &[("a", 9), ("c", 9), ("d", 9), ("e", 9)]);
+    let no_d = Counts::of(&rt, &[("a", 9), ("b", 9), ("c", 9)]);
+    few.expect_below(&rt, &more);
+    few.expect_not_below(&rt, &less);
+    few.expect_not_below(&rt, &no_b);
+    few.expect_not_below(&rt, &no_d);
 }

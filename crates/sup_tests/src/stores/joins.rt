@@ -1,58 +1,67 @@
 //! Joins of states: in any order, grouping and number, and above their parts.
 use super::states::{
-    Pair, first_of, function, is_below, is_same, joined, none, pair, row, state, table,
+    Pair, expect_below, expect_not_below, expect_same, function, joined, none, one, pair, row,
+    state, table,
 };
 use std::process::Abort;
 use sup_causal::Lattice;
-use sup_dot_store::Causal;
+use sup_dot_store::{Causal, DotStore};
 
-// Whether the join is the same in either order, any grouping and number, and above its parts.
-fn is_a_join<L: Lattice>(rt: &(impl Abort + AllocGlobal), a: &L, b: &L, c: &L) -> bool {
+// Expects the join to be the same in either order, any grouping and number, and above its parts.
+fn expect_join<L: Lattice>(rt: &(impl Abort + AllocGlobal), a: &L, b: &L, c: &L) {
     let both = joined(rt, a, b);
     let left = joined(rt, &both, c);
-    let right = joined(rt, a, &joined(rt, b, c));
-    is_below(a, &both)
-        && is_below(b, &both)
-        && is_same(&both, &joined(rt, b, a))
-        && is_same(&left, &right)
-        && is_same(&left, &joined(rt, &left, &both))
+    expect_below(rt, a, &both);
+    expect_below(rt, b, &both);
+    expect_same(rt, &both, &joined(rt, b, a));
+    expect_same(rt, &left, &joined(rt, a, &joined(rt, b, c)));
+    expect_same(rt, &left, &joined(rt, &left, &both));
 }
 
 #[test]
 fn functions_join_in_any_order_and_number(rt: HostRuntime) {
-    let a = first_of(&rt, "a");
-    let seven = state(&rt, function(&rt, &a, 7), &["a"]);
-    let five = state(&rt, function(&rt, &a, 5), &["a", "b"]);
-    assert!(rt; is_a_join(&rt, &seven, &five, &none(&rt, &["b"])));
+    let five = state(&rt, function(&rt, "a", 5), &["a", "b"]);
+    expect_join(&rt, &one(&rt, "a", 7), &five, &none(&rt, &["b"]));
 }
 
 #[test]
 fn maps_join_in_any_order_and_number(rt: HostRuntime) {
-    let a = first_of(&rt, "a");
-    let one_key = row(&rt, 1, &a, 7);
-    let other_key = state(&rt, table(&rt, 2, &a, 7), &["a", "b"]);
-    assert!(rt; is_a_join(&rt, &one_key, &other_key, &none(&rt, &["b"])));
+    let other_key = state(&rt, table(&rt, 2, "a", 7), &["a", "b"]);
+    expect_join(&rt, &row(&rt, 1, "a", 7), &other_key, &none(&rt, &["b"]));
+}
+
+// Two stores with one dot at two places, under a context of it.
+fn both(rt: &(impl Abort + AllocGlobal), name: &str, value: u8) -> Causal<Pair> {
+    state(rt, pair(rt, name, value), &[name])
 }
 
 #[test]
 fn two_stores_join_in_any_order_and_number(rt: HostRuntime) {
-    let a = first_of(&rt, "a");
-    let b = first_of(&rt, "b");
-    let first = state(&rt, pair(&rt, &a, 7), &["a"]);
-    let second = state(&rt, pair(&rt, &b, 8), &["b"]);
-    assert!(rt; is_a_join(&rt, &first, &second, &none(&rt, &["a"])));
+    expect_join(
+        &rt,
+        &both(&rt, "a", 7),
+        &both(&rt, "b", 8),
+        &none(&rt, &["a"]),
+    );
+}
+
+fn expect_above_the_bottom<S: DotStore>(rt: &(impl Abort + AllocGlobal), state: &Causal<S>) {
+    let bottom: Causal<S> = Causal::bottom(rt.alloc());
+    expect_below(rt, &bottom, state);
+    expect_not_below(rt, state, &bottom);
+    expect_same(rt, state, &joined(rt, state, &bottom));
 }
 
 #[test]
 fn the_bottom_is_below_every_state_and_changes_none(rt: HostRuntime) {
-    let a = first_of(&rt, "a");
-    let bottom: Causal<Pair> = Causal::bottom(rt.alloc());
-    let present = state(&rt, pair(&rt, &a, 7), &["a"]);
-    assert!(rt; is_below(&bottom, &present));
-    assert!(rt; !is_below(&present, &bottom));
-    assert!(rt; is_same(&present, &joined(&rt, &present, &bottom)));
-    // The contexts of these two are one: the stores alone tell that the row is gone in the second.
+    expect_above_the_bottom(&rt, &both(&rt, "a", 7));
+}
+
+// The contexts of these two are one: the stores alone tell that the row is gone in the second.
+#[test]
+fn a_row_is_below_its_removal(rt: HostRuntime) {
+    let present = both(&rt, "a", 7);
     let gone = none(&rt, &["a"]);
-    assert!(rt; is_below(&present, &gone));
-    assert!(rt; !is_below(&gone, &present));
+    expect_below(&rt, &present, &gone);
+    expect_not_below(&rt, &gone, &present);
 }

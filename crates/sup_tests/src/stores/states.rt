@@ -1,6 +1,6 @@
 //! Stores of the tests and the states of them. These calls promise nothing, and end the test where one of the stores'
-//! fails. Dots are told by their nodes: each has the counter 1.
-use crate::given::{context_of, dot, node};
+//! fails or where one is not as expected. Dots are told by their nodes: each has the counter 1.
+use crate::given::{are_dots, context_of, dot};
 use std::process::Abort;
 use sup_causal::{CausalContext, Dot, Lattice};
 use sup_dot_store::{Both, Causal, DotFun, DotMap, DotStore};
@@ -11,59 +11,62 @@ pub(crate) type Table = DotMap<u8, Function>;
 
 pub(crate) type Pair = Both<Function, Function>;
 
-pub(crate) fn first_of(rt: &impl Abort, name: &str) -> Dot {
-    dot(node(rt, name), 1)
-}
-
-pub(crate) fn function(rt: &(impl Abort + AllocGlobal), dot: &Dot, value: u8) -> Function {
-    DotFun::single(rt.alloc(), *dot, value).expect(rt, "room for a value")
+pub(crate) fn function(rt: &(impl Abort + AllocGlobal), name: &str, value: u8) -> Function {
+    DotFun::single(rt.alloc(), dot(rt, name, 1), value).expect(rt, "room")
 }
 
 // The map with one value, under one key and one dot.
-pub(crate) fn table(rt: &(impl Abort + AllocGlobal), key: u8, dot: &Dot, value: u8) -> Table {
-    let values = function(rt, dot, value);
+pub(crate) fn table(rt: &(impl Abort + AllocGlobal), key: u8, name: &str, value: u8) -> Table {
+    let values = function(rt, name, value);
     assert!(rt; !values.is_empty());
-    DotMap::single(rt.alloc(), key, values).expect(rt, "room for a key")
+    DotMap::single(rt.alloc(), key, values).expect(rt, "room")
 }
 
 // The stores with one dot at two places: in the first, and in the second.
-pub(crate) fn pair(rt: &(impl Abort + AllocGlobal), dot: &Dot, value: u8) -> Pair {
+pub(crate) fn pair(rt: &(impl Abort + AllocGlobal), name: &str, value: u8) -> Pair {
     Both {
-        first: function(rt, dot, value),
-        second: function(rt, dot, value),
+        first: function(rt, name, value),
+        second: function(rt, name, value),
     }
 }
 
-// The first dots of these nodes.
 pub(crate) fn known(rt: &(impl Abort + AllocGlobal), names: &[&str]) -> CausalContext {
-    let mut dots = Vec::new(rt.alloc());
+    let mut context = CausalContext::empty(rt.alloc());
     for name in names {
-        dots.push(first_of(rt, name)).expect(rt, "room for a dot");
+        context
+            .join_from(rt.alloc(), &context_of(rt, &[(*name, 1)]))
+            .expect(rt, "room");
     }
-    context_of(rt, &dots)
+    context
 }
 
-fn under<S: DotStore>(rt: &impl Abort, store: S, context: CausalContext) -> Causal<S> {
-    Causal::of(store, context).expect(rt, "a context with the dots of all rows")
-}
-
-// The store under the context of these nodes' first dots.
+// The store under a context of these nodes' dots.
 pub(crate) fn state<S: DotStore>(
     rt: &(impl Abort + AllocGlobal),
     store: S,
     names: &[&str],
 ) -> Causal<S> {
-    under(rt, store, known(rt, names))
+    Causal::of(store, known(rt, names)).expect(rt, "a context with the dots of all rows")
 }
 
-// The state with no rows that knows these nodes' first dots.
+// The state with no rows that knows these nodes' dots.
 pub(crate) fn none<S: DotStore>(rt: &(impl Abort + AllocGlobal), names: &[&str]) -> Causal<S> {
-    under(rt, S::empty(rt.alloc()), known(rt, names))
+    state(rt, S::empty(rt.alloc()), names)
+}
+
+// One value under a context of its dot.
+pub(crate) fn one(rt: &(impl Abort + AllocGlobal), name: &str, value: u8) -> Causal<Function> {
+    state(rt, function(rt, name, value), &[name])
 }
 
 // The map with one value, under a context of its dot.
-pub(crate) fn row(rt: &(impl Abort + AllocGlobal), key: u8, dot: &Dot, value: u8) -> Causal<Table> {
-    under(rt, table(rt, key, dot, value), context_of(rt, &[*dot]))
+pub(crate) fn row(
+    rt: &(impl Abort + AllocGlobal),
+    key: u8,
+    name: &str,
+    value: u8,
+) -> Causal<Table> {
+    state(rt, table(rt, key, name, value), &[name])
 }
 
 pub(crate) fn joined<L: Lattice>(rt: &(impl Abort + AllocGlobal), a: &L, b: &L) -> L {
@@ -81,37 +84,61 @@ pub(crate) fn joined_stores<S: DotStore>(
         .expect(rt, "a join")
 }
 
-pub(crate) fn is_below<L: Lattice>(a: &L, b: &L) -> bool {
-    a.leq(b)
+pub(crate) fn expect_below<L: Lattice>(rt: &impl Abort, a: &L, b: &L) {
+    assert!(rt; a.leq(b));
 }
 
-// Whether the two mean the same, as seen by `leq` alone.
-pub(crate) fn is_same<L: Lattice>(a: &L, b: &L) -> bool {
-    a.leq(b) && b.leq(a)
+pub(crate) fn expect_not_below<L: Lattice>(rt: &impl Abort, a: &L, b: &L) {
+    assert!(rt; !a.leq(b));
 }
 
-// Whether no row is left when the dots are taken away.
-pub(crate) fn is_emptied_by<S: DotStore>(store: &mut S, dots: &[Dot]) -> bool {
-    store.retract(dots);
-    store.is_empty()
+// Expects the two to mean the same, as seen by `leq` alone.
+pub(crate) fn expect_same<L: Lattice>(rt: &impl Abort, a: &L, b: &L) {
+    expect_below(rt, a, b);
+    expect_below(rt, b, a);
 }
 
-pub(crate) fn has_no_row<S: DotStore>(state: &Causal<S>) -> bool {
-    state.store().is_empty()
+pub(crate) fn expect_no_row<S: DotStore>(rt: &impl Abort, store: &S) {
+    assert!(rt; store.is_empty());
 }
 
-pub(crate) fn knows<S: DotStore>(state: &Causal<S>, dot: &Dot) -> bool {
-    state.context().contains(dot)
+pub(crate) fn expect_a_row<S: DotStore>(rt: &impl Abort, store: &S) {
+    assert!(rt; !store.is_empty());
 }
 
-pub(crate) fn value(function: &Function, dot: &Dot) -> Option<u8> {
-    function.values().get(dot).copied()
+pub(crate) fn expect_knows<S: DotStore>(
+    rt: &(impl Abort + AllocGlobal),
+    state: &Causal<S>,
+    names: &[&str],
+) {
+    expect_same(rt, state.context(), &known(rt, names))
 }
 
-pub(crate) fn value_under(table: &Table, key: u8, dot: &Dot) -> Option<u8> {
-    value(table.get(&key)?, dot)
+// Expects the function to have this value under the node's dot, or none.
+pub(crate) fn expect_value(rt: &impl Abort, function: &Function, name: &str, value: Option<u8>) {
+    assert!(rt; function.values().get(&dot(rt, name, 1)).copied() == value);
 }
 
-pub(crate) fn key_count(table: &Table) -> usize {
-    table.stores().len()
+fn value_under(table: &Table, key: u8, dot: &Dot) -> Option<u8> {
+    table.get(&key)?.values().get(dot).copied()
+}
+
+fn is_row(row: &(u8, Dot, u8), key: u8, name: &str, value: u8) -> bool {
+    row.0 == key && are_dots(&[row.1], &[(name, 1)]) && row.2 == value
+}
+
+// Expects these to be the table's rows, in this order, under so many keys.
+pub(crate) fn expect_rows(
+    rt: &(impl Abort + AllocGlobal),
+    table: &Table,
+    keys: usize,
+    wanted: &[(u8, &str, u8)],
+) {
+    let rows = table.rows().expect(rt, "rows");
+    assert!(rt; rows.len() == wanted.len() && table.row_count() == wanted.len());
+    assert!(rt; table.stores().len() == keys);
+    for (row, (key, name, value)) in rows.iter().zip(wanted.iter()) {
+        assert!(rt; is_row(row, *key, name, *value));
+        assert!(rt; value_under(table, *key, &row.1) == Some(*value));
+    }
 }

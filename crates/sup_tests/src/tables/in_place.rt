@@ -1,35 +1,24 @@
 //! Joins in place beside joins by a merge: the plain way and the quick one give the same tables. `joined` is a merge.
 //! `join_from` goes in place where the other tables know at most an eighth as many dots.
 use super::node::Node;
-use super::read::{child, dot_of, member, name, node_with, rows_are_equal, three, two};
+use super::read::{child, member, name, node_with, one, three, two};
 use std::process::Abort;
 use std::rt::Clock;
 use std::time::{Duration, Instant};
-use sup_causal::{Dot, Lattice};
-use sup_tables::{Row, Tables};
 
-// Whether both have the same dots and the same rows.
-fn are_the_same(rt: &(impl Abort + AllocGlobal), one: &Tables, other: &Tables) -> bool {
-    one.leq(other)
-        && other.leq(one)
-        && one.context().len() == other.context().len()
-        && rows_are_equal(rt, one, other)
-}
-
-// Whether joins with the other tables, which are few beside these, give what merges give: the first one, which looks
-// for the rows' dots, and the next one, which knows them.
-fn in_place_is_merged(rt: &(impl Abort + AllocGlobal), mine: &Node, other: &Node) -> bool {
+// Expects that joins with another node, which knows few dots beside this one, give what merges give: the first one, which
+// looks for the rows' dots, and the next one, which knows them.
+fn expect_as_merged(rt: &(impl Abort + AllocGlobal), mine: &Node, other: &Node) {
     assert!(rt; other.tables.context().len() <= mine.tables.context().len() / 8);
     let merged = mine.merged(rt, other);
     let mut joined = mine.copy(rt);
     joined.absorb(rt, other);
-    let once = are_the_same(rt, &joined.tables, &merged.tables);
+    joined.expect_same(rt, &merged);
     joined.absorb(rt, other);
-    once && are_the_same(rt, &joined.tables, &merged.tables)
+    joined.expect_same(rt, &merged);
 }
 
-// A node that knows 27 dots, so that a join with the tables of a short story goes in place: a winner in each table, a
-// loser, and what was removed.
+// A node that knows 27 dots, beside which a short story is small: a winner in each table, a loser, and what was removed.
 fn many(rt: &(impl Abort + AllocGlobal)) -> Node {
     let mut many = Node::new(rt, "many");
     for _ in 0..22 {
@@ -47,68 +36,78 @@ fn many(rt: &(impl Abort + AllocGlobal)) -> Node {
 // Lets one of two nodes act, as a number from 0 to 7 says.
 fn act(rt: &(impl Abort + AllocGlobal), a: &mut Node, b: &mut Node, choice: u32) {
     match choice {
-        0 => drop(a.start(rt, "x", "one")),
-        1 => drop(b.start(rt, "x", "two")),
+        0 => a.start(rt, "x", "one"),
+        1 => b.start(rt, "x", "two"),
         2 => drop(a.replace(rt, "x", "three")),
         3 => drop(b.delete(rt, "x")),
-        4 => drop(a.register(rt, "n", "x")),
-        5 => drop(b.join(rt, "zone")),
+        4 => a.register(rt, "n", "x"),
+        5 => b.join(rt, "zone"),
         6 => a.absorb(rt, b),
         _ => b.absorb(rt, a),
     }
 }
 
-// Whether two nodes that do what the digits of a number to the base 8 say, and then know many rows beside, can take in
-// one another in place.
-fn agree_after(rt: &(impl Abort + AllocGlobal), many: &Node, story: u32) -> bool {
+// Expects two nodes that do what the digits of a number to the base 8 say to be taken in alike by nodes that know many
+// dots beside, those of the stories' own nodes among them.
+fn expect_alike_after(rt: &(impl Abort + AllocGlobal), many: &Node, story: u32) {
     let mut a = Node::new(rt, "a");
     let mut b = Node::new(rt, "b");
     act(rt, &mut a, &mut b, story % 8);
     act(rt, &mut a, &mut b, story / 8 % 8);
     act(rt, &mut a, &mut b, story / 64);
     let more_than_a = a.merged(rt, many);
-    let more_than_b = b.merged(rt, many);
-    in_place_is_merged(rt, &more_than_a, &b)
-        && in_place_is_merged(rt, &more_than_b, &a)
-        && in_place_is_merged(rt, &more_than_a, &Node::new(rt, "c"))
-        && in_place_is_merged(rt, many, &a)
+    expect_as_merged(rt, &more_than_a, &b);
+    expect_as_merged(rt, &b.merged(rt, many), &a);
+    expect_as_merged(rt, &more_than_a, &Node::new(rt, "c"));
+    expect_as_merged(rt, many, &a);
 }
 
 #[test]
 fn in_place_and_by_a_merge_all_short_stories_end_alike(rt: HostRuntime) {
     let many = many(&rt);
     for story in 0..512 {
-        assert!(rt; agree_after(&rt, &many, story), "story {story}");
+        expect_alike_after(&rt, &many, story);
     }
+}
+
+// A node with one name, under the dot (a,1).
+fn with_name(rt: &(impl Abort + AllocGlobal), id: &str) -> Node {
+    node_with(rt, &[("a", 1)], one(rt, name(rt, "a", 1, "n", id)))
+}
+
+// Expects that a node with one name, for the first child, and many dots beside shows it for child a once the other name
+// has come.
+fn expect_a_stays(rt: &(impl Abort + AllocGlobal), first: &str, other: &str) {
+    let mut mine = with_name(rt, first).merged(rt, &many(rt));
+    let other = with_name(rt, other);
+    expect_as_merged(rt, &mine, &other);
+    mine.absorb(rt, &other);
+    mine.expect_shown(
+        rt,
+        "member many (many,27)=zone; child w (many,23)=one; child y (many,24)=two; loser y (many,25)=three; name m (many,26)=w; name n (a,1)=a",
+    );
 }
 
 #[test]
 fn a_lesser_value_comes_in_as_by_a_merge(rt: HostRuntime) {
-    let many = many(&rt);
-    let won = dot_of(&rt, "a", 1);
-    let greater = node_with(&rt, &[won], one(&rt, name(&rt, &won, "n", "b")));
-    let lesser = node_with(&rt, &[won], one(&rt, name(&rt, &won, "n", "a")));
-    let mut kept = greater.merged(&rt, &many);
-    assert!(rt; in_place_is_merged(&rt, &kept, &lesser));
-    kept.absorb(&rt, &lesser);
-    assert!(rt; kept.name_is(&rt, "n", won, "a"));
-    assert!(rt; in_place_is_merged(&rt, &kept, &greater));
-    kept.absorb(&rt, &greater);
-    assert!(rt; kept.name_is(&rt, "n", won, "a"));
+    expect_a_stays(&rt, "b", "a");
+    expect_a_stays(&rt, "a", "b");
 }
 
 #[test]
 fn a_dot_under_two_keys_comes_in_as_by_a_merge(rt: HostRuntime) {
     let mut many = many(&rt);
-    let d = dot_of(&rt, "a", 1);
-    let rows = two(&rt, name(&rt, &d, "k", "x"), name(&rt, &d, "n", "x"));
-    let twice = node_with(&rt, &[d], rows);
-    assert!(rt; in_place_is_merged(&rt, &many, &twice));
+    let rows = two(
+        &rt,
+        name(&rt, "a", 1, "k", "x"),
+        name(&rt, "a", 1, "n", "x"),
+    );
+    let twice = node_with(&rt, &[("a", 1)], rows);
+    expect_as_merged(&rt, &many, &twice);
     many.absorb(&rt, &twice);
-    assert!(rt; many.name_is(&rt, "k", d, "x"));
-    assert!(rt; many.name_is(&rt, "n", d, "x"));
-    assert!(rt; in_place_is_merged(&rt, &many, &twice));
-    assert!(rt; in_place_is_merged(&rt, &many, &Node::new(&rt, "c")));
+    many.expect_count(&rt, 7);
+    expect_as_merged(&rt, &many, &twice);
+    expect_as_merged(&rt, &many, &Node::new(&rt, "c"));
 }
 
 #[test]
@@ -118,25 +117,15 @@ fn few_rows_join_many(rt: HostRuntime) {
     for _ in 0..24 {
         a.start(&rt, "x", "one");
     }
-    let first = b.start(&rt, "y", "two");
-    let second = b.register(&rt, "n", "y");
+    b.start(&rt, "y", "two");
+    b.register(&rt, "n", "y");
     a.absorb(&rt, &b);
-    assert!(rt; a.count() == 26);
-    assert!(rt; a.child_is(&rt, "y", first, "two"));
-    assert!(rt; a.name_is(&rt, "n", second, "y"));
+    a.expect_count(&rt, 26);
     b.delete(&rt, "y");
     a.absorb(&rt, &b);
-    assert!(rt; a.count() == 24);
+    a.expect_count(&rt, 24);
     a.delete(&rt, "x");
-    assert!(rt; a.count() == 0);
-}
-
-// A node that knows one dot, under which it has a row of each table.
-fn in_each(rt: &(impl Abort + AllocGlobal), d: &Dot) -> Node {
-    let member = member(rt, d, "b");
-    let child = child(rt, d, "x");
-    let name = name(rt, d, "n", "x");
-    node_with(rt, &[*d], three(rt, member, child, name))
+    a.expect_count(&rt, 0);
 }
 
 // How long it takes that a row of each table comes, comes again and goes.
@@ -145,9 +134,11 @@ fn time_of_joins(
     mine: &mut Node,
     counter: u64,
 ) -> Duration {
-    let d = dot_of(rt, "b", counter);
-    let rows = in_each(rt, &d);
-    let none = node_with(rt, &[d], Vec::new(rt.alloc()));
+    let member = member(rt, "b", counter, "b");
+    let child = child(rt, "b", counter, "x");
+    let name = name(rt, "b", counter, "n", "x");
+    let rows = node_with(rt, &[("b", counter)], three(rt, member, child, name));
+    let none = node_with(rt, &[("b", counter)], Vec::new(rt.alloc()));
     let start = Instant::now(rt).expect(rt, "a clock");
     mine.absorb(rt, &rows);
     mine.absorb(rt, &rows);
@@ -177,12 +168,6 @@ fn joins_of_few_rows_copy_no_others(rt: HostRuntime) {
         joins = joins.min(time_of_joins(&rt, &mut mine, counter));
         merge = merge.min(time_of_merge(&rt, &mine));
     }
-    assert!(rt; mine.count() == 1_000);
+    mine.expect_count(&rt, 1_000);
     assert!(rt; joins < merge / 2);
-}
-
-fn one(rt: &(impl Abort + AllocGlobal), row: Row) -> Vec<Row> {
-    let mut rows = Vec::new(rt.alloc());
-    rows.push(row).expect(rt, "room for a row");
-    rows
 }

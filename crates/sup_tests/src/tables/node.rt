@@ -1,5 +1,5 @@
 //! A node of the tests, with what it knows. Its calls promise nothing, and end the test where one of the tables' fails.
-use crate::given::{child_id, node, registered, spec, text};
+use crate::given::{child_id, dot, node, registered, spec, text};
 use std::process::Abort;
 use sup_causal::{Dot, Lattice, MAX};
 use sup_specs::{MemberInfo, NodeName};
@@ -25,6 +25,13 @@ impl Node {
             .expect(rt, "a join")
     }
 
+    // Takes in the one operation that adds under the dot, which must be the node's next.
+    fn take_add(&mut self, rt: &(impl Abort + AllocGlobal), delta: &Tables, dot: &Dot) {
+        let last = self.tables.context().greatest(&self.name);
+        assert!(rt; dot.node == self.name && dot.counter == last + 1);
+        self.take(rt, delta);
+    }
+
     // Takes in all that another node knows.
     pub(crate) fn absorb(&mut self, rt: &(impl Abort + AllocGlobal), other: &Node) {
         self.take(rt, &other.tables)
@@ -48,26 +55,12 @@ impl Node {
         }
     }
 
-    // Whether it knows all that another node knows.
-    pub(crate) fn knows_all_of(&self, other: &Node) -> bool {
-        other.tables.leq(&self.tables)
-    }
-
-    pub(crate) fn knows(&self, dot: &Dot) -> bool {
-        self.tables.context().contains(dot)
-    }
-
-    pub(crate) fn count(&self) -> usize {
-        self.tables.row_count()
-    }
-
-    pub(crate) fn join(&mut self, rt: &(impl Abort + AllocGlobal), label: &str) -> Dot {
+    pub(crate) fn join(&mut self, rt: &(impl Abort + AllocGlobal), label: &str) {
         let info = MemberInfo {
             label: text(rt, label),
         };
         let (delta, dot) = self.tables.put_member(self.name, info).expect(rt, "an add");
-        self.take(rt, &delta);
-        dot
+        self.take_add(rt, &delta, &dot);
     }
 
     pub(crate) fn leave(&mut self, rt: &(impl Abort + AllocGlobal)) -> Vec<Dot> {
@@ -76,28 +69,27 @@ impl Node {
         dots
     }
 
-    pub(crate) fn start(&mut self, rt: &(impl Abort + AllocGlobal), id: &str, kind: &str) -> Dot {
+    pub(crate) fn start(&mut self, rt: &(impl Abort + AllocGlobal), id: &str, kind: &str) {
         let put = self
             .tables
             .put_child(self.name, child_id(rt, id), spec(rt, kind));
         let (delta, dot) = put.expect(rt, "an add");
-        self.take(rt, &delta);
-        dot
+        self.take_add(rt, &delta, &dot);
     }
 
-    // The new dot, and the dots that the operation names.
+    // The dots that the operation names.
     pub(crate) fn replace(
         &mut self,
         rt: &(impl Abort + AllocGlobal),
         id: &str,
         kind: &str,
-    ) -> (Dot, Vec<Dot>) {
+    ) -> Vec<Dot> {
         let put = self
             .tables
             .replace_child(self.name, child_id(rt, id), spec(rt, kind));
         let (delta, dot, dots) = put.expect(rt, "an add");
-        self.take(rt, &delta);
-        (dot, dots)
+        self.take_add(rt, &delta, &dot);
+        dots
     }
 
     pub(crate) fn delete(&mut self, rt: &(impl Abort + AllocGlobal), id: &str) -> Vec<Dot> {
@@ -107,24 +99,20 @@ impl Node {
         dots
     }
 
-    pub(crate) fn finish(&mut self, rt: &(impl Abort + AllocGlobal), dot: Dot) {
-        assert!(rt; 1 <= dot.counter && dot.counter <= MAX);
+    // Takes out the child that ran under this dot.
+    pub(crate) fn finish(&mut self, rt: &(impl Abort + AllocGlobal), name: &str, counter: u64) {
+        assert!(rt; 1 <= counter && counter <= MAX);
+        let dot = dot(rt, name, counter);
         let delta = self.tables.finish_child(dot).expect(rt, "a removal");
         self.take(rt, &delta);
     }
 
-    pub(crate) fn register(
-        &mut self,
-        rt: &(impl Abort + AllocGlobal),
-        name: &str,
-        id: &str,
-    ) -> Dot {
+    pub(crate) fn register(&mut self, rt: &(impl Abort + AllocGlobal), name: &str, id: &str) {
         let put = self
             .tables
             .put_name(self.name, registered(rt, name), child_id(rt, id));
         let (delta, dot) = put.expect(rt, "an add");
-        self.take(rt, &delta);
-        dot
+        self.take_add(rt, &delta, &dot);
     }
 
     pub(crate) fn unregister(&mut self, rt: &(impl Abort + AllocGlobal), name: &str) -> Vec<Dot> {
@@ -136,12 +124,9 @@ impl Node {
 
     // Whether a start is refused because its dots are spent.
     pub(crate) fn is_spent(&self, rt: &(impl Abort + AllocGlobal)) -> bool {
-        match self
+        let put = self
             .tables
-            .put_child(self.name, child_id(rt, "db"), spec(rt, "k"))
-        {
-            Err(PutFault::DotsSpent) => true,
-            _ => false,
-        }
+            .put_child(self.name, child_id(rt, "db"), spec(rt, "k"));
+        matches!(put, Err(PutFault::DotsSpent))
     }
 }

@@ -1,163 +1,169 @@
-//! What a node of the tests sees in its tables.
+//! What a node of the tests shows, as a text of entries: `child db (a,1)=quick` is a child's winner, with its dot and
+//! its kind; `loser db (c,1)=slow` is one of its losers. A member's value is its label, a name's is its child.
 use super::node::Node;
-use crate::given::{child_id, registered};
+use crate::given::{are_dots, dot, expect_text};
 use std::process::Abort;
-use sup_causal::Dot;
-use sup_tables::Entry;
+use sup_causal::{Dot, Lattice};
+use sup_specs::{ChildId, ChildSpec, MemberInfo, Name, NodeName};
+use sup_tables::{Entry, Row, Tables, Winner};
 
-impl Node {
-    // Whether its own winner as a member has this dot and this label.
-    pub(crate) fn member_is(&self, dot: Dot, label: &str) -> bool {
-        match self.tables.member(&self.name) {
-            Some((won, info)) => won == dot && info.label.as_str() == label,
-            None => false,
-        }
-    }
+// Adds an entry: its table, its key, its dot and its value.
+fn add(
+    rt: &(impl Abort + AllocGlobal),
+    shown: &mut String,
+    table: &str,
+    key: &str,
+    dot: &Dot,
+    value: &str,
+) {
+    let mark = if shown.is_empty() { "" } else { "; " };
+    let entry = format!(in rt.alloc();
+        "{mark}{table} {key} ({},{})={value}",
+        dot.node, dot.counter
+    );
+    shown.push_str(&entry.expect(rt, "room")).expect(rt, "room");
+}
 
-    // Whether the child's winner has this dot and a specification of this kind.
-    pub(crate) fn child_is(
-        &self,
-        rt: &(impl Abort + AllocGlobal),
-        id: &str,
-        dot: Dot,
-        kind: &str,
-    ) -> bool {
-        match self.tables.child(&child_id(rt, id)) {
-            Some((won, spec)) => won == dot && spec.kind.as_str() == kind,
-            None => false,
-        }
-    }
-
-    // Whether the name's winner has this dot and stands for this child.
-    pub(crate) fn name_is(
-        &self,
-        rt: &(impl Abort + AllocGlobal),
-        name: &str,
-        dot: Dot,
-        id: &str,
-    ) -> bool {
-        match self.tables.name(&registered(rt, name)) {
-            Some((won, child)) => won == dot && child.as_str() == id,
-            None => false,
-        }
-    }
-
-    // Whether its own one loser as a member has this dot and this label.
-    pub(crate) fn member_loser_is(
-        &self,
-        rt: &(impl Abort + AllocGlobal),
-        dot: Dot,
-        label: &str,
-    ) -> bool {
-        match self
-            .tables
-            .member_losers(&self.name)
-            .expect(rt, "losers")
-            .as_slice()
-        {
-            [lost] => *lost.dot == dot && lost.value.label.as_str() == label,
-            _ => false,
-        }
-    }
-
-    // Whether the child's one loser has this dot and a specification of this kind.
-    pub(crate) fn child_loser_is(
-        &self,
-        rt: &(impl Abort + AllocGlobal),
-        id: &str,
-        dot: Dot,
-        kind: &str,
-    ) -> bool {
-        let id = child_id(rt, id);
-        match self
-            .tables
-            .child_losers(&id)
-            .expect(rt, "losers")
-            .as_slice()
-        {
-            [lost] => *lost.dot == dot && lost.value.kind.as_str() == kind,
-            _ => false,
-        }
-    }
-
-    // Whether the name's one loser has this dot and stands for this child.
-    pub(crate) fn name_loser_is(
-        &self,
-        rt: &(impl Abort + AllocGlobal),
-        name: &str,
-        dot: Dot,
-        id: &str,
-    ) -> bool {
-        let name = registered(rt, name);
-        match self
-            .tables
-            .name_losers(&name)
-            .expect(rt, "losers")
-            .as_slice()
-        {
-            [lost] => *lost.dot == dot && lost.value.as_str() == id,
-            _ => false,
-        }
-    }
-
-    // Whether its one member is this one under this dot.
-    pub(crate) fn lists_member(
-        &self,
-        rt: &(impl Abort + AllocGlobal),
-        name: &str,
-        dot: Dot,
-    ) -> bool {
-        match self.tables.members().expect(rt, "members").as_slice() {
-            [won] => won.key.as_str() == name && *won.dot == dot,
-            _ => false,
-        }
-    }
-
-    // Whether its two children are these under these dots, in this order.
-    pub(crate) fn lists_children(
-        &self,
-        rt: &(impl Abort + AllocGlobal),
-        ids: [&str; 2],
-        dots: [Dot; 2],
-    ) -> bool {
-        match self.tables.children().expect(rt, "children").as_slice() {
-            [first, second] => {
-                [first.key.as_str(), second.key.as_str()] == ids
-                    && [*first.dot, *second.dot] == dots
-            }
-            _ => false,
-        }
-    }
-
-    // Whether its one name is this one under this dot.
-    pub(crate) fn lists_name(&self, rt: &(impl Abort + AllocGlobal), name: &str, dot: Dot) -> bool {
-        match self.tables.names().expect(rt, "names").as_slice() {
-            [won] => won.key.as_str() == name && *won.dot == dot,
-            _ => false,
-        }
-    }
-
-    // Whether the row at this place has this dot and is of this table, under this key.
-    pub(crate) fn row_is(
-        &self,
-        rt: &(impl Abort + AllocGlobal),
-        at: usize,
-        dot: Dot,
-        table: &str,
-        key: &str,
-    ) -> bool {
-        match self.tables.rows().expect(rt, "rows").get(at) {
-            Some(row) => row.dot == dot && is_under(&row.entry, table, key),
-            None => false,
-        }
+fn add_member(
+    rt: &(impl Abort + AllocGlobal),
+    shown: &mut String,
+    tables: &Tables,
+    won: &Winner<'_, NodeName, MemberInfo>,
+) {
+    let key = won.key.as_str();
+    assert!(rt; tables.member(won.key) == Some((*won.dot, won.value)));
+    add(rt, shown, "member", key, won.dot, won.value.label.as_str());
+    for lost in &tables.member_losers(won.key).expect(rt, "losers") {
+        add(rt, shown, "loser", key, lost.dot, lost.value.label.as_str());
     }
 }
 
-// Whether the entry is of this table, under this key.
-fn is_under(entry: &Entry, table: &str, key: &str) -> bool {
-    match entry {
-        Entry::Member(m, _) => table == "members" && m.as_str() == key,
-        Entry::Child(id, _) => table == "children" && id.as_str() == key,
-        Entry::Name(name, _) => table == "names" && name.as_str() == key,
+fn add_child(
+    rt: &(impl Abort + AllocGlobal),
+    shown: &mut String,
+    tables: &Tables,
+    won: &Winner<'_, ChildId, ChildSpec>,
+) {
+    let key = won.key.as_str();
+    assert!(rt; tables.child(won.key) == Some((*won.dot, won.value)));
+    add(rt, shown, "child", key, won.dot, won.value.kind.as_str());
+    for lost in &tables.child_losers(won.key).expect(rt, "losers") {
+        add(rt, shown, "loser", key, lost.dot, lost.value.kind.as_str());
     }
+}
+
+fn add_name(
+    rt: &(impl Abort + AllocGlobal),
+    shown: &mut String,
+    tables: &Tables,
+    won: &Winner<'_, Name, ChildId>,
+) {
+    let key = won.key.as_str();
+    assert!(rt; tables.name(won.key) == Some((*won.dot, won.value)));
+    add(rt, shown, "name", key, won.dot, won.value.as_str());
+    for lost in &tables.name_losers(won.key).expect(rt, "losers") {
+        add(rt, shown, "loser", key, lost.dot, lost.value.as_str());
+    }
+}
+
+fn add_row(rt: &(impl Abort + AllocGlobal), shown: &mut String, row: &Row) {
+    match &row.entry {
+        Entry::Member(m, info) => {
+            add(
+                rt,
+                shown,
+                "member",
+                m.as_str(),
+                &row.dot,
+                info.label.as_str(),
+            )
+        }
+        Entry::Child(id, spec) => {
+            add(
+                rt,
+                shown,
+                "child",
+                id.as_str(),
+                &row.dot,
+                spec.kind.as_str(),
+            )
+        }
+        Entry::Name(name, id) => { add(rt, shown, "name", name.as_str(), &row.dot, id.as_str()) }
+    }
+}
+
+impl Node {
+    // All winners and losers.
+    fn shown(&self, rt: &(impl Abort + AllocGlobal)) -> String {
+        let mut shown = String::new(rt.alloc());
+        for won in &self.tables.members().expect(rt, "members") {
+            add_member(rt, &mut shown, &self.tables, won);
+        }
+        for won in &self.tables.children().expect(rt, "children") {
+            add_child(rt, &mut shown, &self.tables, won);
+        }
+        for won in &self.tables.names().expect(rt, "names") {
+            add_name(rt, &mut shown, &self.tables, won);
+        }
+        shown
+    }
+
+    pub(crate) fn expect_shown(&self, rt: &(impl Abort + AllocGlobal), wanted: &str) {
+        expect_text(rt, &self.shown(rt), wanted)
+    }
+
+    // All rows, in their order.
+    pub(crate) fn rows(&self, rt: &(impl Abort + AllocGlobal)) -> String {
+        let rows = self.tables.rows().expect(rt, "rows");
+        assert!(rt; self.tables.row_count() == rows.len());
+        let mut shown = String::new(rt.alloc());
+        for row in &rows {
+            add_row(rt, &mut shown, row);
+        }
+        shown
+    }
+
+    pub(crate) fn expect_rows(&self, rt: &(impl Abort + AllocGlobal), wanted: &str) {
+        expect_text(rt, &self.rows(rt), wanted)
+    }
+
+    pub(crate) fn expect_count(&self, rt: &impl Abort, count: usize) {
+        assert_eq!(rt; self.tables.row_count(), count);
+    }
+
+    fn knows(&self, rt: &impl Abort, name: &str, counter: u64) -> bool {
+        self.tables.context().contains(&dot(rt, name, counter))
+    }
+
+    pub(crate) fn expect_knows(&self, rt: &impl Abort, name: &str, counter: u64) {
+        assert!(rt; self.knows(rt, name, counter));
+    }
+
+    pub(crate) fn expect_unknown(&self, rt: &impl Abort, name: &str, counter: u64) {
+        assert!(rt; !self.knows(rt, name, counter));
+    }
+
+    // Whether it knows all that another node knows.
+    pub(crate) fn knows_all_of(&self, other: &Node) -> bool {
+        other.tables.leq(&self.tables)
+    }
+
+    // Expects it to know more than another node: all that the other knows, and not the other way round.
+    pub(crate) fn expect_knows_more(&self, rt: &impl Abort, other: &Node) {
+        assert!(rt; self.knows_all_of(other));
+        assert!(rt; !other.knows_all_of(self));
+    }
+
+    // Expects it to know and to show just what another node does.
+    pub(crate) fn expect_same(&self, rt: &(impl Abort + AllocGlobal), other: &Node) {
+        assert!(rt; self.knows_all_of(other));
+        assert!(rt; other.knows_all_of(self));
+        assert!(rt; self.tables.context().len() == other.tables.context().len());
+        self.expect_rows(rt, &other.rows(rt));
+    }
+}
+
+// Expects these to be the dots that an operation names, in this order.
+pub(crate) fn expect_dots(rt: &impl Abort, dots: Vec<Dot>, wanted: &[(&str, u64)]) {
+    assert!(rt; are_dots(&dots, wanted));
 }
