@@ -2,7 +2,7 @@
 //! context is not as expected.
 use crate::given::{are_dots, context_of, dot, dots, node};
 use std::process::Abort;
-use sup_causal::{CausalContext, Dot, Lattice, MAX, PartsFault};
+use sup_causal::{CausalContext, Dot, Lattice, PartsFault};
 use sup_specs::NodeName;
 
 fn entries(rt: &(impl Abort + AllocGlobal), wanted: &[(&str, u64)]) -> Vec<(NodeName, u64)> {
@@ -73,10 +73,9 @@ impl Known {
     }
 
     pub(crate) fn add(&mut self, rt: &(impl Abort + AllocGlobal), name: &str, counter: u64) {
-        assert!(rt; 1 <= counter && counter <= MAX);
-        self.context
-            .insert(dot(rt, name, counter))
-            .expect(rt, "room")
+        let dot = dot(rt, name, counter);
+        assert!(rt; dot.is_counted());
+        self.context.insert(dot).expect(rt, "room")
     }
 
     fn has(&self, rt: &impl Abort, name: &str, counter: u64) -> bool {

@@ -47,26 +47,31 @@ fn act(rt: &(impl Abort + AllocGlobal), a: &mut Node, b: &mut Node, choice: u32)
     }
 }
 
-// Expects two nodes that do what the digits of a number to the base 8 say to be taken in alike by nodes that know many
-// dots beside, those of the stories' own nodes among them.
-fn expect_alike_after(rt: &(impl Abort + AllocGlobal), many: &Node, story: u32) {
+// Two nodes that did what the digits of a number to the base 8 say.
+fn after(rt: &(impl Abort + AllocGlobal), story: u32) -> (Node, Node) {
     let mut a = Node::new(rt, "a");
     let mut b = Node::new(rt, "b");
     act(rt, &mut a, &mut b, story % 8);
     act(rt, &mut a, &mut b, story / 8 % 8);
     act(rt, &mut a, &mut b, story / 64);
+    (a, b)
+}
+
+// Expects two nodes to be taken in alike by nodes that know many dots beside, the two nodes' own among them.
+fn expect_alike(rt: &(impl Abort + AllocGlobal), many: &Node, a: &Node, b: &Node) {
     let more_than_a = a.merged(rt, many);
-    expect_as_merged(rt, &more_than_a, &b);
-    expect_as_merged(rt, &b.merged(rt, many), &a);
+    expect_as_merged(rt, &more_than_a, b);
+    expect_as_merged(rt, &b.merged(rt, many), a);
     expect_as_merged(rt, &more_than_a, &Node::new(rt, "c"));
-    expect_as_merged(rt, many, &a);
+    expect_as_merged(rt, many, a);
 }
 
 #[test]
 fn in_place_and_by_a_merge_all_short_stories_end_alike(rt: HostRuntime) {
     let many = many(&rt);
     for story in 0..512 {
-        expect_alike_after(&rt, &many, story);
+        let (a, b) = after(&rt, story);
+        expect_alike(&rt, &many, &a, &b);
     }
 }
 

@@ -1,7 +1,7 @@
 //! A node of the tests, with what it knows. Its calls promise nothing, and end the test where one of the tables' fails.
 use crate::given::{child_id, dot, node, registered, spec, text};
 use std::process::Abort;
-use sup_causal::{Dot, Lattice, MAX};
+use sup_causal::{Dot, Lattice};
 use sup_specs::{MemberInfo, NodeName};
 use sup_tables::{PutFault, Tables};
 
@@ -101,8 +101,8 @@ impl Node {
 
     // Takes out the child that ran under this dot.
     pub(crate) fn finish(&mut self, rt: &(impl Abort + AllocGlobal), name: &str, counter: u64) {
-        assert!(rt; 1 <= counter && counter <= MAX);
         let dot = dot(rt, name, counter);
+        assert!(rt; dot.is_counted());
         let delta = self.tables.finish_child(dot).expect(rt, "a removal");
         self.take(rt, &delta);
     }
