@@ -1,10 +1,11 @@
 -- Which values are gone, of dots that two states know.
 use Rattle.std.proofs.Common.{◌≡◌, ℕ, ◌+◌, ◌<◌, Bool, true, false, ◌&&◌, ◌||◌, cond, List, [], ◌∷◌, ◌++◌, length, take, get_or, Option, Some, None, IsSome, refl, sym, ap, ◌∙◌, subst}
 use Rattle.std.specs.declared.cmp.Ordering.{Ordering}
+use Rattle.std.specs.declared.cmp.Ordering.TheVariants.{Less, Equal, Greater}
 use Rattle.std.specs.Ordering.{eq_by_cmp, is_lt}
 use Rattle.std.specs.BTreeMap.{BTreeMap, get}
 use Rattle.std.proofs.lemmas.Cmp.{eq_by_cmp_equiv}
-use Rattle.std.proofs.lemmas.List.Folds.{list_any-append, list_any_more}
+use Rattle.std.proofs.lemmas.List.Folds.{list_any-append, list_any_at, list_any_more}
 use Rattle.sup_specs.specs.Rising.{among}
 use Rattle.sup_causal.specs.declared.dot.Dot.{Dot}
 use Rattle.sup_causal.specs.Dots.{dot_cmp, dot_eq}
@@ -15,7 +16,7 @@ use Rattle.std.proofs.Math.Bool.{or-false}
 use Rattle.sup_dot_store.specs.declared.dot_fun.DotFun.{DotFun}
 use Rattle.sup_dot_store.specs.declared.indexed.join.Outcome.TheVariants.{Gone, Stays, Lesser}
 use Rattle.sup_dot_store.specs.Points.{standing, higher, value_at}
-use Rattle.sup_dot_store.specs.Index.{IsIndex, AreGone, value_under}
+use Rattle.sup_dot_store.specs.Index.{IsIndex, AreGone, HasLesser, value_under}
 use Rattle.sup_dot_store.specs.Outcomes.{outcome}
 use mathlib.Core.Bool.{false≢true}
 
@@ -56,6 +57,10 @@ module _ {V : Type 0} (cmp : V → V → Ordering) where
       at true e = absurd cc
       at false e = refl
 
+-- what stands in a list is among it
+pub listed_at : (dots : List Dot) (i : ℕ) (dot : Dot) → i < length dots → dot ≡ get_or dots i dot → among dot_cmp dots dot ≡ true
+listed_at dots i dot within is = list_any_at (eq_by_cmp dot_cmp dot) dots i dot within (ap (eq_by_cmp dot_cmp dot) (sym is) ∙ (eq_by_cmp_equiv dot_total).refl dot)
+
 none_either_way : {T : Type 0} (hit : Bool) (o : Option T) → o ≡ None → cond hit None o ≡ None
 none_either_way true o e = refl
 none_either_way false o e = e
@@ -87,6 +92,21 @@ module _ {K V : Type 0} (key_cmp : K → K → Ordering) (cmp : V → V → Orde
   -- a dot that has no key stays away
   pub judged_no_key : (keys : BTreeMap Dot K) → IsIndex key_cmp mine keys → (d : Dot) → get dot_cmp keys d ≡ None → IsJudged false d
   judged_no_key keys index d none k = let away = no_key key_cmp mine keys index d none k in away ∙ sym (joined_none cmp _ (value_under key_cmp theirs k d) away)
+
+  -- a known dot whose value there is the lesser
+  pub lesser_at : (known : Dot → Bool) (k : K) (d : Dot) → known d ≡ true → outcome cmp (value_under key_cmp mine k d) (value_under key_cmp theirs k d) ≡ Lesser → HasLesser key_cmp cmp known mine theirs
+  lesser_at known k d in_known = at (value_under key_cmp mine k d) (value_under key_cmp theirs k d) refl refl
+    where
+      below : (x y : V) (r : Ordering) → cmp y x ≡ r → cond (is_lt r) Lesser Stays ≡ Lesser → cmp y x ≡ Less
+      below x y Less e f = e
+      below x y Equal e f = absurd cc
+      below x y Greater e f = absurd cc
+
+      at : (o p : Option V) → value_under key_cmp mine k d ≡ o → value_under key_cmp theirs k d ≡ p → outcome cmp o p ≡ Lesser → HasLesser key_cmp cmp known mine theirs
+      at None None here there e = absurd cc
+      at None (Some y) here there e = absurd cc
+      at (Some x) None here there e = absurd cc
+      at (Some x) (Some y) here there e = record { key = k; dot = d; greater = x; lesser = y; in_known = in_known; here = here; there = there; below = below x y (cmp y x) refl e }
 
   -- what is right at the key of a dot is right at each
   judged_at_key : (keys : BTreeMap Dot K) → IsIndex key_cmp mine keys → (d : Dot) (key : K) → get dot_cmp keys d ≡ Some key → (hit : Bool) → cond hit None (value_under key_cmp mine key d) ≡ joined_at key d → IsJudged hit d

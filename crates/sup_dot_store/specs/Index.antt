@@ -1,6 +1,7 @@
 -- Where the dots of functions under keys stand (this project).
 use Rattle.std.specs.Prelude.{◌≡◌, ℕ, ◌+◌, Bool, true, false, ◌&&◌, cond, List, [], ◌∷◌, ◌++◌, length, Option, Some, None, IsSome, is_some}
 use Rattle.std.specs.declared.cmp.Ordering.{Ordering}
+use Rattle.std.specs.declared.cmp.Ordering.TheVariants.{Less}
 use Rattle.std.specs.Ordering.{eq_by_cmp}
 use Rattle.std.specs.BTreeMap.{BTreeMap, get, values}
 use Rattle.std.specs.List.{list_any}
@@ -43,6 +44,22 @@ pub record AddsDots {K V : Type 0} (key : K) (function : DotFun V) (old new : BT
   pub apart : (d : Dot) → IsSome (get dot_cmp old d) → get dot_cmp (values_of function) d ≡ None
   pub size : length new.entries ≡ length old.entries + length (values_of function).entries
 
+-- a dot of the function has a key
+pub record HasTakenDot {K V : Type 0} (function : DotFun V) (keys : BTreeMap Dot K) : Type 0 where
+  pub dot : Dot
+  pub key : K
+  pub valued : IsSome (get dot_cmp (values_of function) dot)
+  pub taken : get dot_cmp keys dot ≡ Some key
+
+-- a dot has values under two keys
+pub record HasTwoKeys {K V : Type 0} (cmp : K → K → Ordering) (stores : BTreeMap K (DotFun V)) : Type 0 where
+  pub dot : Dot
+  pub key : K
+  pub other : K
+  pub apart : eq_by_cmp cmp key other ≡ false
+  pub here : IsSome (value_under cmp stores key dot)
+  pub there : IsSome (value_under cmp stores other dot)
+
 -- what a list of rows has under a key and a dot: the first that stands there
 abbrev pub row_value : {K V : Type 0} → (K → K → Ordering) → List (K × Dot × V) → K → Dot → Option V
 row_value cmp [] k d = None
@@ -79,3 +96,14 @@ HasSameRows {K} cmp old new = (k : K) (d : Dot) → value_under cmp new k d ≡ 
 pub record AreGone {K V : Type 0} (lesser : V → V → V) (cmp : K → K → Ordering) (known gone : Dot → Bool) (mine theirs : BTreeMap K (DotFun V)) : Type 0 where
   pub in_known : (d : Dot) → gone d ≡ true → known d ≡ true
   pub joined : (k : K) (d : Dot) → known d ≡ true → cond (gone d) None (value_under cmp mine k d) ≡ value_at (higher lesser (standing true (value_under cmp mine k d)) (standing true (value_under cmp theirs k d)))
+
+-- a known dot has, under one key, a lesser value there than here
+pub record HasLesser {K V : Type 0} (key_cmp : K → K → Ordering) (cmp : V → V → Ordering) (known : Dot → Bool) (mine theirs : BTreeMap K (DotFun V)) : Type 0 where
+  pub key : K
+  pub dot : Dot
+  pub greater : V
+  pub lesser : V
+  pub in_known : known dot ≡ true
+  pub here : value_under key_cmp mine key dot ≡ Some greater
+  pub there : value_under key_cmp theirs key dot ≡ Some lesser
+  pub below : cmp lesser greater ≡ Less

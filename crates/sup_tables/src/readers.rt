@@ -34,6 +34,7 @@ impl Tables {
     {
         first_under(&self.state.store().second.second, name)
     }
+
     /// The members, each with its winner, by the bytes of the key. An `Err` where a growth was refused.
     pub fn members(&self) -> Result<Vec<Winner<'_, NodeName, MemberInfo>>, AllocError>
         ensures { IfOk result (λ found. map (λ w. member_row w.key.now w.dot.now w.value.now) found.items ≡ winners self.now.rows members) }

@@ -4,6 +4,7 @@ mod joins;
 mod known;
 mod lattices;
 
+use crate::given::dot;
 use known::{Known, expect_no_cut};
 use sup_causal::MAX;
 
@@ -38,6 +39,14 @@ fn the_last_counter_spends_a_node(rt: HostRuntime) {
 #[test]
 fn the_last_counter_is_one_below_2_to_the_53(rt: HostRuntime) {
     assert!(rt; MAX == (1u64 << 53) - 1);
+}
+
+#[test]
+fn a_counter_in_its_limits_is_counted(rt: HostRuntime) {
+    assert!(rt; dot(&rt, "a", 1).is_counted());
+    assert!(rt; dot(&rt, "a", MAX).is_counted());
+    assert!(rt; !dot(&rt, "a", 0).is_counted());
+    assert!(rt; !dot(&rt, "a", MAX + 1).is_counted());
 }
 
 #[test]

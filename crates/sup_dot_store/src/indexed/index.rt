@@ -1,8 +1,8 @@
 //! The index of functions under keys.
 
-ghost use Rattle.std.specs.Prelude.{◌≡◌, true, IfOk, IfSome};
+ghost use Rattle.std.specs.Prelude.{◌≡◌, true, false, IfOk, IfSome, IfNone};
 ghost use Rattle.sup_dot_store.specs.Contents.{stores_of};
-ghost use Rattle.sup_dot_store.specs.Index.{IsIndex, AddsDots};
+ghost use Rattle.sup_dot_store.specs.Index.{IsIndex, AddsDots, HasTakenDot, HasTwoKeys};
 
 use crate::dot_fun::DotFun;
 use crate::dot_map::DotMap;
@@ -16,7 +16,8 @@ pub fn index_of<K: Plain, V: Plain>(
     alloc: Global,
     map: &DotMap<K, DotFun<V>>,
 ) -> Result<Option<BTreeMap<Dot, K>>, AllocError>
-    ensures { IfOk result (λ found. IfSome found (IsIndex K.cmp (stores_of map.now))) }
+    ensures some { IfOk result (λ found. IfSome found (IsIndex K.cmp (stores_of map.now))) }
+    ensures none { IfOk result (λ found. IfNone found (HasTwoKeys K.cmp (stores_of map.now))) }
 {
     let mut keys = BTreeMap::new(alloc);
     for (key, function) in map.stores() {
@@ -34,7 +35,8 @@ fn add_dots<K: Plain, V: Plain>(
     key: &K,
     function: &DotFun<V>,
 ) -> Result<bool, AllocError>
-    ensures { IfOk result (λ fresh. fresh ≡ true → AddsDots key.now function.now keys.old keys.new) }
+    ensures added { IfOk result (λ fresh. fresh ≡ true → AddsDots key.now function.now keys.old keys.new) }
+    ensures taken { IfOk result (λ fresh. fresh ≡ false → HasTakenDot function.now keys.old) }
 {
     for dot in function.values().keys() {
         if keys.insert(*dot, key.try_clone(alloc)?)?.is_some() {

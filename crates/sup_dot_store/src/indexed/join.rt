@@ -1,6 +1,6 @@
 //! The rows of others, taken in where they are new, and rows taken away where others know that they are gone.
 
-ghost use Rattle.std.specs.Prelude.{◌≡◌, ◌≤◌, true, false, IsSome, IfOk, IfErr, IfSome, OnOk};
+ghost use Rattle.std.specs.Prelude.{◌≡◌, ◌≤◌, true, false, IsSome, IfOk, IfErr, IfSome, IfNone, OnOk};
 ghost use Rattle.std.specs.Option.{option_copied};
 ghost use Rattle.std.specs.BTreeMap.{values};
 ghost use Rattle.sup_specs.specs.Rising.{among};
@@ -8,7 +8,7 @@ ghost use Rattle.sup_causal.specs.declared.dot.Dot.{Dot as DotValue};
 ghost use Rattle.sup_causal.specs.Join.{lesser};
 ghost use Rattle.sup_causal.specs.Dots.{has, dot_cmp};
 ghost use Rattle.sup_dot_store.specs.Contents.{stores_of};
-ghost use Rattle.sup_dot_store.specs.Index.{AreGone, StopsAt, TakesDots, count_in, row_value, value_under};
+ghost use Rattle.sup_dot_store.specs.Index.{AreGone, HasLesser, StopsAt, TakesDots, count_in, row_value, value_under};
 ghost use Rattle.sup_dot_store.specs.declared.indexed.join.NotPut.TheVariants.{TwoKeys, OutOfMemory};
 ghost use Rattle.sup_dot_store.specs.Outcomes.{outcome};
 
@@ -85,7 +85,8 @@ impl<K: Plain, V: Plain> Indexed<K, V> {
         known: &[Dot],
         theirs: &DotMap<K, DotFun<V>>,
     ) -> Result<Option<Vec<Dot>>, AllocError>
-        ensures { IfOk result (λ found. IfSome found (λ gone. AreGone (lesser V.cmp) K.cmp (among dot_cmp known.now) (among dot_cmp gone.items) self.now.stores (stores_of theirs.now))) }
+        ensures some { IfOk result (λ found. IfSome found (λ gone. AreGone (lesser V.cmp) K.cmp (among dot_cmp known.now) (among dot_cmp gone.items) self.now.stores (stores_of theirs.now))) }
+        ensures none { IfOk result (λ found. IfNone found (HasLesser K.cmp V.cmp (among dot_cmp known.now) self.now.stores (stores_of theirs.now))) }
     {
         let mut gone = Vec::new(alloc);
         for dot in known {

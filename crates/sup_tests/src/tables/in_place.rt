@@ -126,11 +126,11 @@ fn few_rows_join_many(rt: HostRuntime) {
     b.register(&rt, "n", "y");
     a.absorb(&rt, &b);
     a.expect_count(&rt, 26);
+    a.delete(&rt, "x");
+    a.expect_shown(&rt, "child y (b,1)=two; name n (b,2)=y");
     b.delete(&rt, "y");
     a.absorb(&rt, &b);
-    a.expect_count(&rt, 24);
-    a.delete(&rt, "x");
-    a.expect_count(&rt, 0);
+    a.expect_shown(&rt, "");
 }
 
 // How long it takes that a row of each table comes, comes again and goes.

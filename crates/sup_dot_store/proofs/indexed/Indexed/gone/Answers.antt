@@ -7,7 +7,7 @@ use Rattle.sup_specs.specs.Rising.{among}
 use Rattle.sup_dot_store.specs.Contents.{stores_of}
 use Rattle.sup_dot_store.specs.Outcomes.{outcome}
 use Rattle.sup_dot_store.specs.Index.{AreGone, value_under}
-use Rattle.sup_dot_store.proofs.JoinedInPlace.{judged_no_key, judged_gone, judged_stays, dot_goes, dot_stays}
+use Rattle.sup_dot_store.proofs.JoinedInPlace.{judged_no_key, judged_gone, judged_stays, lesser_at, listed_at, dot_goes, dot_stays}
 use Rattle.sup_dot_store.proofs.indexed.Indexed.gone.Goals.{in-Some+in-Gone+in_ok-push-in-Gone, in-Some+in-Stays, in_default}
 use Rattle.sup_dot_store.proofs.indexed.Indexed.gone.Goals as goal
 
@@ -38,3 +38,14 @@ loop-dot-preserved g c =
           subst AreListed (sym (ap (λ v. v.items) w.gone-is))
           (dot_stays key_cmp cmp self.stores theirs known gone at dot c.loop-dot.invariant c.loop-dot-test.true c.dot-item.is (judged_no_key key_cmp cmp self.stores theirs self.keys self.indexed dot none))
     ]
+
+pub returns-in-Lesser-clause-none : goal.returns-in-Lesser-clause-none
+returns-in-Lesser-clause-none g c =
+    let key_cmp = g.K.Ord.cmp in
+    let cmp = g.V.Ord.cmp in
+    let mine = c.args.self.now.stores in
+    let known = c.args.known.now in
+    let key = c.in-Some.key.now in
+    let dot = c.dot-item.result in
+    let lesser = ap (λ s. outcome cmp (value_under key_cmp mine key dot) (value_under key_cmp s key dot)) (sym c.stores.ensures) ∙ sym c.in-Lesser.ensures in
+    lesser_at key_cmp cmp mine (stores_of c.args.theirs.now) (among dot_cmp known) key dot (listed_at known c.loop-dot.dot-index dot c.loop-dot-test.true c.dot-item.is) lesser
