@@ -10,7 +10,7 @@ use Rattle.std.proofs.lemmas.List.Kept.{IsStrictlySortedBy-filter}
 use Rattle.std.proofs.lemmas.Map.Entries.{btree_map_get_place}
 use Rattle.sup_specs.specs.Rising.{IsRising, among}
 use Rattle.sup_causal.specs.declared.dot.Dot.{Dot}
-use Rattle.sup_causal.specs.declared.dot.TheConstants.{MAX}
+use Rattle.sup_specs.specs.declared.limits.TheConstants.{MAX}
 use Rattle.sup_causal.specs.Dots.{dot_cmp, dot_eq, list_has, IsCounted}
 use Rattle.sup_specs.specs.Values.{text_cmp}
 use Rattle.sup_causal.specs.Cut.{entry, IsRun, IsVector, IsCloud, IsCanonical, in_parts}

@@ -18,7 +18,7 @@ use Rattle.std.proofs.Math.Bool.{or-false}
 use mathlib.Core.Bool.{false≢true}
 use Rattle.sup_specs.specs.Rising.{IsRising}
 use Rattle.sup_causal.specs.declared.dot.Dot.{Dot}
-use Rattle.sup_causal.specs.declared.dot.TheConstants.{MAX}
+use Rattle.sup_specs.specs.declared.limits.TheConstants.{MAX}
 use Rattle.sup_causal.specs.Dots.{dot_cmp, dot_eq, list_has, IsCounted}
 use Rattle.sup_causal.specs.DotLaws.{dot_total}
 use Rattle.sup_specs.specs.Values.{text_cmp}

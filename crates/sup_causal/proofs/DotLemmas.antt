@@ -16,7 +16,7 @@ use Rattle.sup_causal.proofs.Rising.{searched, rising_insert, each_insert, risin
 use Rattle.sup_causal.proofs.Union.{union, any_union}
 use Rattle.sup_causal.specs.DotLaws.{dot_total, dot_exact}
 use Rattle.sup_causal.specs.Dots.{dot_cmp, dot_eq, list_has, IsKept, IsCounted, IsGreatest}
-use Rattle.sup_causal.specs.declared.dot.TheConstants.{MAX}
+use Rattle.sup_specs.specs.declared.limits.TheConstants.{MAX}
 use Rattle.std.specs.List.{list_any}
 use mathlib.Core.Bool.{false≢true}
 use mathlib.Core.Path.{fun_ext}

@@ -7,7 +7,7 @@ use Rattle.sup_specs.specs.Values.{text_cmp}
 use Rattle.sup_specs.specs.Rising.{IsRising, among}
 use Rattle.sup_causal.specs.Dots.{dot_cmp}
 use Rattle.sup_causal.specs.declared.dot.Dot.{Dot}
-use Rattle.sup_causal.specs.declared.dot.TheConstants.{MAX}
+use Rattle.sup_specs.specs.declared.limits.TheConstants.{MAX}
 
 -- a node's entry in a vector, 0 where the vector leaves the node out
 abbrev pub entry : List (List ℕ × ℕ) → List ℕ → ℕ

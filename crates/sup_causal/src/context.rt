@@ -8,13 +8,13 @@ ghost use Rattle.sup_causal.specs.declared.parts.PartsFault.TheVariants.{NotCano
 ghost use Rattle.sup_causal.specs.Dots.{has, dot_cmp, dot_eq, IsCounted, IsCountOf, IsGreatest, IsNext};
 
 use crate::cut::{cloud_of, runs_of, vector_of};
-use crate::dot::{Dot, MAX};
+use crate::dot::Dot;
 use crate::lattice::Lattice;
 use crate::parts::{PartsFault, dots_of, is_canonical};
 use crate::sorted_dots::{absent, common, greatest_of, is_within, put_in, sorted, union};
 use std::alloc::{AllocError, Global};
 use std::marker::Model;
-use sup_specs::NodeName;
+use sup_specs::{MAX, NodeName};
 
 /// A set of dots (Almeida, Shoker and Baquero 2018). A contract sees it by one test, `has`.
 #[derive(Drop)]
@@ -80,6 +80,14 @@ impl CausalContext {
     /// The counters of a context's dots are in their limits.
     pub fn counted(&self)
         ensures { (d : Dot) → has self.now d ≡ true → IsCounted d }
+    {
+        // The read alone shows the prover how the dots are kept.
+        let _dots = &self.dots;
+    }
+
+    /// A contract sees a context's dots as their rising list, so two contexts with the same dots are equal.
+    pub fn in_order(&self)
+        ensures { IsRising dot_cmp self.now }
     {
         // The read alone shows the prover how the dots are kept.
         let _dots = &self.dots;

@@ -15,7 +15,7 @@ mod sorted_dots;
 
 pub use below::{Below, all_below};
 pub use context::CausalContext;
-pub use dot::{Dot, MAX};
+pub use dot::Dot;
 pub use lattice::Lattice;
 pub use least::Least;
 pub use map_join::MapJoin;

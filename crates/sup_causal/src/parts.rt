@@ -8,10 +8,10 @@ ghost use Rattle.sup_specs.specs.Values.{text_cmp};
 ghost use Rattle.sup_causal.specs.Cut.{entry, IsCanonical, in_run, in_runs, in_parts};
 ghost use Rattle.sup_causal.specs.Dots.{list_has, dot_cmp, IsCounted, IsKept};
 
-use crate::dot::{Dot, MAX};
+use crate::dot::Dot;
 use crate::sorted_dots::{sorted, union};
 use std::alloc::{AllocError, Global};
-use sup_specs::NodeName;
+use sup_specs::{MAX, NodeName};
 use thiserror::Error;
 
 /// Why a vector and a cloud make no context.

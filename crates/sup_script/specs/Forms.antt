@@ -4,7 +4,7 @@ use Rattle.std.specs.Str.{bytes_eq}
 use Rattle.std.specs.List.{list_any}
 use Rattle.sup_specs.specs.declared.child.ChildSpec.{ChildSpec}
 use Rattle.sup_specs.specs.declared.child.MemberInfo.{MemberInfo}
-use Rattle.sup_causal.specs.declared.dot.TheConstants.{MAX}
+use Rattle.sup_specs.specs.declared.limits.TheConstants.{MAX}
 use Rattle.sup_script.specs.Words.{Word, Name, ◌>>=◌}
 use Rattle.sup_script.specs.Values.{node_name_of, child_id_of, registered_name_of, kind_of, text_of, number_of, restart_of, shutdown_of}
 use Rattle.sup_script.specs.Options.{option_at}

@@ -9,8 +9,8 @@ ghost use Rattle.sup_tables.specs.States.{StandsFor};
 use crate::delta::{child_delta, member_delta, name_delta};
 use crate::fault::PutFault;
 use crate::tables::Tables;
-use sup_causal::{Dot, MAX};
-use sup_specs::{ChildId, ChildSpec, MemberInfo, Name, NodeName};
+use sup_causal::Dot;
+use sup_specs::{ChildId, ChildSpec, MAX, MemberInfo, Name, NodeName};
 
 impl Tables {
     /// The tables of the one operation by which a node joins as a member, and its dot.

@@ -6,7 +6,7 @@ mod lattices;
 
 use crate::given::dot;
 use known::{Known, expect_no_cut};
-use sup_causal::MAX;
+use sup_specs::MAX;
 
 #[test]
 fn a_vector_stops_at_the_first_gap(rt: HostRuntime) {

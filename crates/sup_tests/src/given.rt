@@ -1,8 +1,8 @@
 //! Values of the tests, told by texts and numbers, and what is seen of them. These calls promise nothing: a test knows
 //! no more than what it sees when it runs. They end it where there is no such value, or where it is not as expected.
 use std::process::Abort;
-use sup_causal::{CausalContext, Dot, MAX};
-use sup_specs::{ChildId, ChildSpec, Kind, Label, Name, NodeName, Restart, Shutdown, Text};
+use sup_causal::{CausalContext, Dot};
+use sup_specs::{ChildId, ChildSpec, Kind, Label, MAX, Name, NodeName, Restart, Shutdown, Text};
 
 pub(crate) fn node(rt: &impl Abort, name: &str) -> NodeName {
     NodeName::parse(name).expect(rt, "a node's name")

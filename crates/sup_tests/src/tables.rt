@@ -8,7 +8,7 @@ use node::Node;
 use read::{child, expect_not_covered, expect_out_of_order, member, name, node_with, two};
 use seen::expect_dots;
 use std::process::Abort;
-use sup_causal::MAX;
+use sup_specs::MAX;
 use sup_tables::{Row, laws};
 
 // The node c that knows of a start of db by a and by itself, neither of which knew of the other.

@@ -7,7 +7,7 @@ use Rattle.std.proofs.lemmas.Bool.{le-leb}
 use mathlib.Core.Bool.{true≢false}
 use Rattle.sup_specs.specs.Values.{Bytes}
 use Rattle.sup_causal.specs.declared.dot.Dot.{Dot}
-use Rattle.sup_causal.specs.declared.dot.TheConstants.{MAX}
+use Rattle.sup_specs.specs.declared.limits.TheConstants.{MAX}
 use Rattle.sup_causal.specs.Dots.{Context, has, IsGreatest, IsNext}
 use Rattle.sup_tables.specs.declared.fault.PutFault.{PutFault}
 use Rattle.sup_tables.specs.declared.fault.PutFault.TheVariants.{DotsSpent as NoDotLeft, OutOfMemory as NoMemory}

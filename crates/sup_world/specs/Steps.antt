@@ -1,7 +1,7 @@
 -- One step of the model world: its answer and the world after it, or its refusal (this project).
 use Rattle.std.specs.Prelude.{ℕ, ◌+◌, ◌==◌, not, Bool, true, false, List, [], ◌∷◌, ◌++◌, length, is_some, nat_le, Result, Ok}
 use Rattle.sup_specs.specs.Values.{Bytes}
-use Rattle.sup_causal.specs.declared.dot.TheConstants.{MAX}
+use Rattle.sup_specs.specs.declared.limits.TheConstants.{MAX}
 use Rattle.sup_tables.specs.Operations.{Operation, live, covers}
 use Rattle.sup_placement.specs.Place.{Weigher}
 use Rattle.sup_world.specs.declared.answer.Answer.{Answer}

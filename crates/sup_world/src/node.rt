@@ -17,9 +17,9 @@ use crate::lines::lines_of;
 use crate::outbox::Message;
 use crate::refusal::Refusal;
 use std::alloc::{AllocError, Global};
-use sup_causal::{Lattice, MAX};
+use sup_causal::Lattice;
 use sup_placement::Weigh;
-use sup_specs::NodeName;
+use sup_specs::{MAX, NodeName};
 use sup_tables::Tables;
 
 /// A node of a world.

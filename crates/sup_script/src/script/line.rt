@@ -12,7 +12,7 @@ use crate::script::commands::{
 use crate::script::values::{read_node_name, read_number};
 use crate::script::words::{plain_text, words_of};
 use std::alloc::Global;
-use sup_causal::MAX;
+use sup_specs::MAX;
 use sup_world::Step;
 
 /// The step that a line asks for.

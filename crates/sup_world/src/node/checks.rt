@@ -12,8 +12,7 @@ ghost use Rattle.sup_world.specs.Stands.{NodeStandsFor};
 use crate::command::Command;
 use crate::node::Node;
 use crate::refusal::Refusal;
-use sup_causal::MAX;
-use sup_specs::{ChildId, Name, NodeName};
+use sup_specs::{ChildId, MAX, Name, NodeName};
 
 /// The live rows at which a node adds nothing any more, but in the place of what it removes.
 const ROW_LIMIT: usize = 10_000;

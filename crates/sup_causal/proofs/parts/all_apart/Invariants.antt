@@ -1,7 +1,7 @@
 use Rattle.std.proofs.Common.{◌+◌, ◌≤◌, take}
 use Rattle.std.specs.Prelude.{All}
 use Rattle.sup_causal.specs.Cut.{entry}
-use Rattle.sup_causal.specs.declared.dot.TheConstants.{MAX}
+use Rattle.sup_specs.specs.declared.limits.TheConstants.{MAX}
 use Rattle.sup_causal.proofs.parts.all_apart.Given as goal
 
 abbrev pub invariant-loop-dot : goal.invariant-loop-dot

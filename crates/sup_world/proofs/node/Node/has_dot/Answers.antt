@@ -1,6 +1,6 @@
 use Rattle.std.proofs.Common.{◌∙◌, refl}
 use Rattle.std.proofs.lemmas.Bool.{le-leb, lt-leb}
-use Rattle.sup_causal.specs.declared.dot.TheConstants.{MAX}
+use Rattle.sup_specs.specs.declared.limits.TheConstants.{MAX}
 use Rattle.sup_world.proofs.NodeLaws.{spent_is, refuses, passes}
 use Rattle.sup_world.proofs.node.Node.has_dot.Goals as goal
 
