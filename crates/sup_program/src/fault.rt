@@ -1,0 +1,124 @@
+//! The faults that end a run, and how they are told.
+
+ghost use Rattle.std.specs.Prelude.{◌≡◌, ℕ, take};
+ghost use Rattle.std.specs.Io.KnownBytes.{Appends};
+ghost use Rattle.sup_program.specs.Faults.{fault_line_at, fault_text, of_input, of_script, status_at, status_of};
+
+use crate::input::InputFault;
+use crate::output::{DeviceFault, put_all};
+use itoa::Buffer;
+use std::alloc::AllocError;
+use std::io::Write;
+use sup_script::ScriptFault;
+use thiserror::Error;
+
+/// Why a run ended before its time.
+#[derive(Clone, Copy, Debug, PartialEq, Eq, Error)]
+pub enum Fault {
+    /// The first bad line, by its number.
+    #[error("bad line {0}")]
+    BadLine(u64),
+    /// The input is too long.
+    #[error("bad input")]
+    BadInput,
+    /// The reader or the writer failed.
+    #[error("device")]
+    Device,
+    /// Memory was refused.
+    #[error("out of memory")]
+    OutOfMemory,
+}
+
+impl From<AllocError> for Fault {
+    ghost use Rattle.sup_program.specs.declared.fault.Fault.TheVariants.{OutOfMemory};
+
+    ghost from_gives = { λ _ f. f ≡ OutOfMemory };
+
+    fn from(_error: AllocError) -> Fault {
+        Fault::OutOfMemory
+    }
+}
+
+impl From<DeviceFault> for Fault {
+    ghost use Rattle.sup_program.specs.declared.fault.Fault.TheVariants.{Device};
+
+    ghost from_gives = { λ _ f. f ≡ Device };
+
+    fn from(_error: DeviceFault) -> Fault {
+        Fault::Device
+    }
+}
+
+impl From<InputFault> for Fault {
+    ghost from_gives = { λ e f. f ≡ of_input e };
+
+    fn from(fault: InputFault) -> Fault {
+        match fault {
+            InputFault::TooLong => Fault::BadInput,
+            InputFault::Device => Fault::Device,
+            InputFault::OutOfMemory => Fault::OutOfMemory,
+        }
+    }
+}
+
+impl From<ScriptFault> for Fault {
+    ghost from_gives = { λ e f. f ≡ of_script e };
+
+    fn from(fault: ScriptFault) -> Fault {
+        match fault {
+            ScriptFault::BadLine(number) => Fault::BadLine(number),
+            ScriptFault::OutOfMemory => Fault::OutOfMemory,
+        }
+    }
+}
+
+impl Fault {
+    /// The exit status.
+    pub fn status(self) -> u8
+        ensures { result ≡ status_of self }
+    {
+        match self {
+            Fault::BadLine(_) | Fault::BadInput => 1,
+            Fault::Device | Fault::OutOfMemory => 3,
+        }
+    }
+}
+
+/// Tells how a run ended, and answers its exit status.
+pub fn finish<E: Write>(errors: &mut E, end: Result<(), Fault>) -> u8
+    ensures status { result ≡ status_at end }
+    ensures told { (count : ℕ)
+        × Appends (E.contents errors.old) (E.contents errors.new) (take count (fault_line_at end)) }
+{
+    match end {
+        Ok(()) => 0,
+        Err(fault) => {
+            report(errors, fault);
+            fault.status()
+        }
+    }
+}
+
+/// Writes a fault's line, which takes no memory. A fault of this writer is passed over.
+pub fn report<E: Write>(errors: &mut E, fault: Fault)
+    ensures { (count : ℕ)
+        × Appends (E.contents errors.old) (E.contents errors.new) (take count (fault_text fault)) }
+{
+    let _ = match fault {
+        Fault::BadLine(number) => report_line(errors, number),
+        Fault::BadInput => put_all(errors, b"bad input\n"),
+        Fault::Device => put_all(errors, b"device\n"),
+        Fault::OutOfMemory => put_all(errors, b"out of memory\n"),
+    };
+}
+
+// Writes `bad line N`, or a front of it where the writer fails.
+fn report_line<E: Write>(errors: &mut E, number: u64) -> Result<(), DeviceFault>
+    ensures { (count : ℕ) × Appends (E.contents errors.old) (E.contents errors.new)
+        (take count (fault_text (Fault.BadLine number))) }
+{
+    let mut digits = Buffer::new();
+    put_all(errors, b"bad line ")?;
+    put_all(errors, digits.format(number).as_bytes())?;
+    put_all(errors, b"\n")
+}

@@ -1,0 +1,10 @@
+//! The program `supctl` but for its `main`: from its words and its input to its output and status.
+#![tactic(auto)]
+
+pub mod fault;
+pub mod input;
+pub mod options;
+pub mod output;
+mod place;
+pub mod run;
+pub mod words;
