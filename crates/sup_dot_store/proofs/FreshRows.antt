@@ -1,8 +1,11 @@
 -- Rows of others put in where their dots are new.
-use Rattle.std.proofs.Common.{◌≡◌, Bool, true, false, ◌&&◌, ◌||◌, cond, List, [], ◌∷◌, ◌++◌, Option, Some, None, IsSome, refl, sym, ap, ◌∙◌, subst}
+use Rattle.std.proofs.Common.{◌≡◌, Bool, true, false, ◌&&◌, ◌||◌, cond, not, List, [], ◌∷◌, ◌++◌, ◌+◌, ◌<◌, ℕ, length, get_or, take, suc, zero, Option, Some, None, IsSome, refl, sym, ap, ◌∙◌, subst}
 use Rattle.std.specs.declared.cmp.Ordering.{Ordering}
 use Rattle.std.specs.Ordering.{eq_by_cmp}
 use Rattle.std.specs.Option.{option_or}
+use Rattle.std.specs.Prelude.{OnErr}
+use Rattle.std.specs.declared.result.Result.{Result}
+use Rattle.std.specs.declared.result.Result.TheVariants.{Ok, Err}
 use Rattle.std.specs.Cmp.{IsTotalOrder}
 use Rattle.std.specs.BTreeMap.{BTreeMap, get}
 use Rattle.std.specs.List.{list_any}
@@ -14,8 +17,12 @@ use Rattle.sup_causal.specs.declared.dot.Dot.{Dot}
 use Rattle.sup_causal.specs.Dots.{dot_cmp, dot_eq}
 use Rattle.sup_causal.specs.DotLaws.{dot_total}
 use Rattle.sup_dot_store.specs.declared.dot_fun.DotFun.{DotFun}
-use Rattle.sup_dot_store.specs.Index.{IsIndex, PutsRow, HasSameRows, StopsAt, row_value, value_under}
+use Rattle.sup_dot_store.specs.Index.{IsIndex, PutsRow, TakesDots, HasSameRows, HasFreshRow, StopsAt, row_value, value_under}
 use mathlib.Core.Bool.{false≢true}
+use Rattle.std.proofs.Common.{arith}
+use Rattle.std.proofs.Math.Bool.{or-false}
+use Rattle.std.proofs.lemmas.List.Folds.{list_any-append, list_any_more}
+use Rattle.sup_specs.specs.Rising.{among}
 
 -- of two dots that a test tells apart, neither is the other
 apart : (test : Dot → Bool) (a b : Dot) → test a ≡ true → test b ≡ false → dot_eq a b ≡ false
@@ -39,6 +46,11 @@ or_brought (Some x) p q e s = subst IsSome e refl
 none_unless : {T : Type 0} (o : Option T) (b : Bool) → (IsSome o → b ≡ true) → b ≡ false → o ≡ None
 none_unless None b h e = refl
 none_unless (Some x) b h e = absurd (false≢true (sym e ∙ h refl))
+
+-- what holds anyway holds of a refusal
+pub on_err : {T E A : Type 0} (r : Result T E) → A → OnErr r A
+on_err (Ok x) a = tt
+on_err (Err e) a = a
 
 -- which rows are there, where the rows that are left have still to be put in
 pub record IsPutSoFar {K V : Type 0} (cmp : K → K → Ordering) (mine : Dot → Bool) (all left : List (K × Dot × V)) (old now : BTreeMap K (DotFun V)) : Type 0 where
@@ -180,3 +192,93 @@ module _ {K V : Type 0} {cmp : K → K → Ordering} (total : IsTotalOrder cmp) 
     values = h.fresh;
     taken = unlisted h.put row.1 (λ k. sym (h.fresh k row.1 fresh) ∙ none k);
   }
+
+  -- what is said where it stopped holds where no row has changed since
+  pub stops_same : (is_taken : Bool) (now new : BTreeMap K (DotFun V)) → HasSameRows cmp now new → StopsAt cmp mine all is_taken now → StopsAt cmp mine all is_taken new
+  stops_same is_taken now new same s = record {
+    put = s.put;
+    next = s.next;
+    rest = s.rest;
+    cut = s.cut;
+    fresh = s.fresh;
+    values = λ k d outside. same k d ∙ s.values k d outside;
+    taken = s.taken;
+  }
+
+  -- the row at which it stopped
+  pub stopped_row : (is_taken : Bool) (now : BTreeMap K (DotFun V)) → StopsAt cmp mine all is_taken now → HasFreshRow mine all is_taken
+  stopped_row is_taken now s = record { before = s.put; row = s.next; rest = s.rest; cut = s.cut; fresh = s.fresh; taken = s.taken }
+
+  -- what was put in and is taken out again leaves what was there
+  pub all_undone : (now again : BTreeMap K (DotFun V)) (taken : Dot → Bool)
+      → ((k : K) (d : Dot) → IsSome (value_under cmp old k d) → mine d ≡ true)
+      → ((k : K) (d : Dot) → mine d ≡ true → value_under cmp now k d ≡ value_under cmp old k d)
+      → ((k : K) (d : Dot) → mine d ≡ false → IsSome (value_under cmp now k d) → IsSome (row_value cmp all k d))
+      → ((d : Dot) → taken d ≡ (not (mine d) && list_any (λ r. dot_eq d r.1) all))
+      → TakesDots cmp taken now again → HasSameRows cmp old again
+  all_undone now again taken within known brought is takes k d = at (mine d) refl
+    where
+      without : (o : Option V) (b : Bool) → (IsSome o → b ≡ true) → cond b None o ≡ None
+      without o true h = refl
+      without None false h = refl
+      without (Some x) false h = absurd (false≢true (h refl))
+
+      at : (b : Bool) → mine d ≡ b → value_under cmp again k d ≡ value_under cmp old k d
+      at true inside = takes k d ∙ ap (λ b. cond b None (value_under cmp now k d)) (is d ∙ ap (λ b. not b && list_any (λ r. dot_eq d r.1) all) inside) ∙ known k d inside
+      at false outside =
+          takes k d
+          ∙ ap (λ b. cond b None (value_under cmp now k d)) (is d ∙ ap (λ b. not b && list_any (λ r. dot_eq d r.1) all) outside)
+          ∙ without (value_under cmp now k d) (list_any (λ r. dot_eq d r.1) all) (λ some. listed all k d (brought k d outside some))
+          ∙ sym (none_unless (value_under cmp old k d) (mine d) (within k d) outside)
+
+step_more : (m l e : Bool) → ((not m && l) || (not m && e)) ≡ (not m && (l || e))
+step_more true l e = refl
+step_more false l e = refl
+
+-- the dots of the rows that are looked at, but those that are known
+module _ (known : Dot → Bool) where
+  -- a known dot is none of those, and another is added
+  pub known_stays : (dots : List Dot) (dot d : Dot) → known dot ≡ true → among dot_cmp dots d ≡ (among dot_cmp dots d || (not (known d) && dot_eq d dot))
+  known_stays dots dot d inside = at (known d) refl
+    where
+      at : (b : Bool) → known d ≡ b → among dot_cmp dots d ≡ (among dot_cmp dots d || (not b && dot_eq d dot))
+      at true e = sym (or-false (among dot_cmp dots d))
+      at false e = sym (ap (λ b. among dot_cmp dots d || b) (turned d dot ∙ apart known dot d inside e) ∙ or-false (among dot_cmp dots d))
+
+  pub fresh_added : (dots : List Dot) (dot d : Dot) → known dot ≡ false → among dot_cmp (dots ++ dot ∷ []) d ≡ (among dot_cmp dots d || (not (known d) && dot_eq d dot))
+  fresh_added dots dot d outside = list_any-append (eq_by_cmp dot_cmp d) dots (dot ∷ []) ∙ ap (λ b. among dot_cmp dots d || b) (or-false (dot_eq d dot) ∙ at (known d) refl)
+    where
+      at : (b : Bool) → known d ≡ b → dot_eq d dot ≡ (not b && dot_eq d dot)
+      at true e = apart known d dot e outside
+      at false e = refl
+
+-- where a row's dot is not known, there is a first such row
+module _ {K V : Type 0} (known : Dot → Bool) where
+  fresh_first : (r : K × Dot × V) (rs : List (K × Dot × V)) → known r.1 ≡ false → HasFreshRow known (r ∷ rs) false
+  fresh_first r rs fresh = record { before = []; row = r; rest = rs; cut = refl; fresh = fresh; taken = refl }
+
+  fresh_later : (r : K × Dot × V) (rs : List (K × Dot × V)) → HasFreshRow known rs false → (b : Bool) → known r.1 ≡ b → HasFreshRow known (r ∷ rs) false
+  fresh_later r rs h false outside = fresh_first r rs outside
+  fresh_later r rs h true inside = record {
+    before = r ∷ h.before;
+    row = h.row;
+    rest = h.rest;
+    cut = ap (λ qs. r ∷ qs) h.cut;
+    fresh = h.fresh;
+    taken = (λ i. (turned h.row.1 r.1 ∙ apart known r.1 h.row.1 inside h.fresh) i || h.taken i);
+  }
+
+  pub fresh_row_at : (rows : List (K × Dot × V)) (i : ℕ) (row : K × Dot × V) → i < length rows → row ≡ get_or rows i row → known row.1 ≡ false → HasFreshRow known rows false
+  fresh_row_at [] i row within is fresh = absurd (omega arith)
+  fresh_row_at (r ∷ rs) zero row within is fresh = fresh_first r rs (ap (λ (q : K × Dot × V). known q.1) (sym is) ∙ fresh)
+  fresh_row_at (r ∷ rs) (suc i) row within is fresh = fresh_later r rs (fresh_row_at rs i row (omega arith) is fresh) (known r.1) refl
+
+  -- one row more is looked at
+  pub dots_more : (rows : List (K × Dot × V)) (i : ℕ) (row : K × Dot × V) (before now : Bool) (d : Dot) → i < length rows → row ≡ get_or rows i row
+      → before ≡ (not (known d) && list_any (λ r. dot_eq d r.1) (take i rows)) → now ≡ (before || (not (known d) && dot_eq d row.1))
+      → now ≡ (not (known d) && list_any (λ r. dot_eq d r.1) (take (i + 1) rows))
+  dots_more rows i row before now d within is so_far adds =
+      adds
+      ∙ ap (λ b. b || (not (known d) && dot_eq d row.1)) so_far
+      ∙ step_more (known d) (list_any (λ r. dot_eq d r.1) (take i rows)) (dot_eq d row.1)
+      ∙ ap (λ b. not (known d) && b) (sym (list_any_more (λ r. dot_eq d r.1) rows i row within ∙ ap (λ (q : K × Dot × V). list_any (λ r. dot_eq d r.1) (take i rows) || dot_eq d q.1) (sym is)))

@@ -65,6 +65,15 @@ abbrev pub row_value : {K V : Type 0} → (K → K → Ordering) → List (K × 
 row_value cmp [] k d = None
 row_value cmp (r ∷ rs) k d = cond (eq_by_cmp cmp k r.0 && dot_eq d r.1) (Some r.2) (row_value cmp rs k d)
 
+-- a row of a dot that is not known; taken says whether its dot stands among the rows before it
+pub record HasFreshRow {K V : Type 0} (known : Dot → Bool) (rows : List (K × Dot × V)) (is_taken : Bool) : Type 0 where
+  pub before : List (K × Dot × V)
+  pub row : K × Dot × V
+  pub rest : List (K × Dot × V)
+  pub cut : rows ≡ before ++ row ∷ rest
+  pub fresh : known row.1 ≡ false
+  pub taken : list_any (λ r. dot_eq row.1 r.1) before ≡ is_taken
+
 -- The rows are put in up to one that isn't: those of them whose dots are not known are there, and no others. The dot
 -- of that one is not known; taken says whether it stands among the rows before it.
 pub record StopsAt {K V : Type 0} (cmp : K → K → Ordering) (known : Dot → Bool) (rows : List (K × Dot × V)) (is_taken : Bool) (new : BTreeMap K (DotFun V)) : Type 0 where

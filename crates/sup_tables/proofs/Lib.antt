@@ -12,6 +12,7 @@ pub mod CoverLaws
 pub mod KnowledgeLaws
 pub mod RemovalLaws
 pub mod WinnerLaws
+pub mod ReaderLaws
 pub mod GreatestLaws
 pub mod CoverTests
 pub mod WorkedRows

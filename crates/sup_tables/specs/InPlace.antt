@@ -1,15 +1,24 @@
 -- What becomes of stored values while a join changes them in place (this project).
-use Rattle.std.specs.Prelude.{◌≡◌, Bool, true, false, cond, None, IsSome}
+use Rattle.std.specs.Prelude.{◌≡◌, ◌⊎◌, Bool, true, false, cond, None, IsSome}
 use Rattle.std.specs.declared.cmp.Ordering.{Ordering}
+use Rattle.std.specs.BTreeMap.{BTreeMap}
 use Rattle.sup_specs.specs.Values.{Bytes, text_cmp}
+use Rattle.sup_specs.specs.declared.child.ChildSpec.{ChildSpec}
+use Rattle.sup_specs.specs.declared.child.MemberInfo.{MemberInfo}
 use Rattle.sup_specs.specs.contracts.child.ChildSpecOrd.TheImpl as child_spec_ord
 use Rattle.sup_specs.specs.contracts.child.MemberInfoOrd.TheImpl as member_info_ord
 use Rattle.sup_causal.specs.declared.dot.Dot.{Dot}
 use Rattle.sup_causal.specs.Dots.{Context, has}
 use Rattle.sup_causal.specs.Join.{lesser}
+use Rattle.sup_dot_store.specs.declared.dot_fun.DotFun.{DotFun}
+use Rattle.sup_dot_store.specs.Index.{HasTwoKeys}
 use Rattle.sup_dot_store.specs.Points.{standing, higher, value_at}
 use Rattle.sup_tables.specs.declared.in_place.opened.Opened.{Opened}
 use Rattle.sup_tables.specs.Stored.{Values, Stored, stored, value_in}
+
+-- a dot has values under two keys of one of the tables
+abbrev pub HasDotUnderTwoKeys : BTreeMap Bytes (DotFun MemberInfo) → BTreeMap Bytes (DotFun ChildSpec) → BTreeMap Bytes (DotFun Bytes) → Type 0
+HasDotUnderTwoKeys members children names = HasTwoKeys text_cmp members ⊎ (HasTwoKeys text_cmp children ⊎ HasTwoKeys text_cmp names)
 
 -- the values of rows that are open to change
 abbrev pub stored_open : Opened → Stored

@@ -5,7 +5,8 @@ use Rattle.std.specs.Ordering.{eq_by_cmp}
 use Rattle.std.specs.declared.cmp.PartialEq.{Ghosts as EqGhosts}
 use Rattle.std.specs.declared.cmp.PartialOrd.{Ghosts as PartialOrdGhosts}
 use Rattle.std.specs.declared.cmp.Ord.{Ghosts as OrdGhosts}
-use Rattle.std.specs.Map.{lookup, keys_of, values_of}
+use Rattle.std.specs.Map.{lookup, keys_of}
+use Rattle.std.specs.Map.{values_of as all_values}
 use Rattle.std.specs.BTreeMap.{BTreeMap, get, is_at}
 use Rattle.sup_specs.specs.Values.{Bytes, text_cmp}
 use Rattle.sup_specs.specs.declared.child.ChildSpec.{ChildSpec}
@@ -16,7 +17,7 @@ use Rattle.sup_dot_store.specs.declared.dot_store.DotStore.{Ghosts as StoreGhost
 use Rattle.sup_dot_store.specs.declared.dot_fun.DotFun.{DotFun}
 use Rattle.sup_dot_store.specs.declared.dot_map.DotMap.{DotMap}
 use Rattle.sup_dot_store.specs.declared.both.Both.{Both}
-use Rattle.sup_dot_store.specs.Contents.{stores_of}
+use Rattle.sup_dot_store.specs.Contents.{stores_of, values_of}
 use Rattle.sup_dot_store.specs.Index.{count_in}
 use Rattle.sup_dot_store.specs.Places.{optional_held}
 use Rattle.sup_tables.specs.declared.row.Entry.{Entry}
@@ -68,11 +69,11 @@ as_name r = name_of r.dot r.entry
 -- the rows of a table, in the order of its maps
 abbrev pub rows_in : {K V : Type 0} → (K → Dot → V → Row) → List (K × DotFun V) → List Row
 rows_in make [] = []
-rows_in make (e ∷ es) = map (λ f. make e.0 f.0 f.1) e.1.values.entries ++ rows_in make es
+rows_in make (e ∷ es) = map (λ f. make e.0 f.0 f.1) (values_of e.1).entries ++ rows_in make es
 
 -- the value at a key and a dot
 abbrev pub value_in : {V : Type 0} → Values V → Dot → Bytes → Option V
-value_in es d k = optional_held (λ f d (p : Unit {0}). get dot_cmp f.values d) (lookup (is_at (text_cmp k)) es) d tt
+value_in es d k = optional_held (λ f d (p : Unit {0}). get dot_cmp (values_of f) d) (lookup (is_at (text_cmp k)) es) d tt
 
 pub record Stored : Type 0 where
   pub member_values : Values MemberInfo
@@ -90,7 +91,7 @@ stored_in s = stored (stores_of s.first) (stores_of s.second.first) (stores_of s
 
 -- how many values the three tables have
 abbrev pub count_stored : Stored → ℕ
-count_stored s = count_in (values_of s.member_values) + (count_in (values_of s.child_values) + count_in (values_of s.name_values))
+count_stored s = count_in (all_values s.member_values) + (count_in (all_values s.child_values) + count_in (all_values s.name_values))
 
 -- all rows, by table, key and dot
 abbrev pub stored_rows : Stored → List Row
@@ -110,19 +111,19 @@ pub record AreCovered (context : Context) (s : Stored) : Type 0 where
 pub record IsOneRow {K V : Type 0} (es : List (K × DotFun V)) (key : K) (dot : Dot) (value : V) : Type 0 where
   pub values : DotFun V
   pub entry : es ≡ (key, values) ∷ []
-  pub row : values.values.entries ≡ (dot, value) ∷ []
+  pub row : (values_of values).entries ≡ (dot, value) ∷ []
 
 -- the values of a key, by dot, and none where there is no such key
 abbrev pub values_under : {V : Type 0} → Option (DotFun V) → List (Dot × V)
 values_under None = []
-values_under (Some f) = f.values.entries
+values_under (Some f) = (values_of f).entries
 
 -- the dots of the names whose value is the child
 abbrev pub dots_to : Bytes → List (Dot × Bytes) → List Dot
 dots_to id es = keys_of (filter (λ e. eq_by_cmp text_cmp id e.1) es)
 
 abbrev pub dots_to_in : Bytes → List (DotFun Bytes) → List Dot
-dots_to_in id fs = flat_map (λ f. dots_to id f.values.entries) fs
+dots_to_in id fs = flat_map (λ f. dots_to id (values_of f).entries) fs
 
 -- what is lent of a row
 abbrev pub triple : {K V : Type 0} → K → Dot → V → K × Dot × V
@@ -133,4 +134,4 @@ pair d v = (d, v)
 
 -- the first value of each key
 abbrev pub firsts_in : {K V R : Type 0} → (K → Dot → V → R) → List (K × DotFun V) → List R
-firsts_in make es = filter_map (λ e. option_map (λ f. make e.0 f.0 f.1) (slice_get e.1.values.entries 0)) es
+firsts_in make es = filter_map (λ e. option_map (λ f. make e.0 f.0 f.1) (slice_get (values_of e.1).entries 0)) es

@@ -3,6 +3,7 @@ ghost use Rattle.std.specs.Prelude.{◌≡◌, ◌∷◌, [], ◌||◌, false, A
 ghost use Rattle.sup_specs.specs.Rising.{among};
 ghost use Rattle.sup_causal.specs.declared.dot.Dot.{Dot as DotValue};
 ghost use Rattle.sup_causal.specs.Dots.{has, dot_cmp, dot_eq, IsCounted};
+ghost use Rattle.sup_dot_store.specs.Contents.{stores_of};
 ghost use Rattle.sup_tables.specs.Makers.{adding, removing};
 ghost use Rattle.sup_tables.specs.Stored.{IsOneRow};
 ghost use Rattle.sup_tables.specs.States.{StandsFor};
@@ -21,7 +22,7 @@ fn one_row<K: Plain, V: Plain>(
     dot: &Dot,
     value: V,
 ) -> Result<Table<K, V>, AllocError>
-    ensures { IfOk result (λ m. IsOneRow m.stores.entries key dot.now value) }
+    ensures { IfOk result (λ m. IsOneRow (stores_of m).entries key dot.now value) }
 {
     let values = DotFun::single(alloc, *dot, value)?;
     let stores = DotMap::single(alloc, key, values)?;

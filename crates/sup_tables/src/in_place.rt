@@ -4,6 +4,7 @@ ghost use Rattle.std.specs.Prelude.{◌≡◌, ◌≤◌, ◌||◌, IfOk, OnOk, 
 ghost use Rattle.sup_causal.specs.declared.dot.Dot.{Dot as DotValue};
 ghost use Rattle.sup_causal.specs.Dots.{has};
 ghost use Rattle.sup_specs.specs.Values.{text_cmp};
+ghost use Rattle.sup_dot_store.specs.Contents.{stores_of, store_of, context_of};
 ghost use Rattle.sup_dot_store.specs.Index.{IsIndex};
 ghost use Rattle.sup_tables.specs.Stored.{AreCovered, stored_in, count_stored, state_of};
 ghost use Rattle.sup_tables.specs.States.{knowledge, together};
@@ -69,7 +70,10 @@ impl Tables {
             alloc: own,
         } = self;
         match index {
-            Some(index) => joined_with(alloc, own, state, count, index, other),
+            Some(index) => {
+                let (opened, context) = opened_state(state, count, index);
+                joined_with(alloc, own, opened, context, other)
+            }
             None => (unindexed(own, state, count), Err(NotJoined::ByMerge)),
         }
     }
@@ -77,8 +81,8 @@ impl Tables {
 
 // The tables of a state, without an index.
 fn unindexed(alloc: Global, state: Causal<Stores>, count: usize) -> Tables
-    requires { count ≡ count_stored (stored_in state.store) }
-    ensures { result ≡ state_of state.context (stored_in state.store) }
+    requires { count ≡ count_stored (stored_in (store_of state)) }
+    ensures { result ≡ state_of (context_of state) (stored_in (store_of state)) }
 {
     Tables {
         state,
@@ -88,31 +92,41 @@ fn unindexed(alloc: Global, state: Causal<Stores>, count: usize) -> Tables
     }
 }
 
-// The tables of a state and its index with what others know. An `Err` gives the tables of the state. The count is asked
-// for because it says that the rows can be counted.
+// The rows of a state, open to change, and the context that covers them. The count is asked for because it says that the
+// rows can be counted.
+fn opened_state(state: Causal<Stores>, _count: usize, index: Index) -> (Opened, CausalContext)
+    requires members { IsIndex text_cmp (stores_of (store_of state).first) index.members }
+    requires children { IsIndex text_cmp (stores_of (store_of state).second.first) index.children }
+    requires names { IsIndex text_cmp (stores_of (store_of state).second.second) index.names }
+    requires count { _count ≡ count_stored (stored_in (store_of state)) }
+    ensures rows { stored_open result.0 ≡ stored_in (store_of state) }
+    ensures context { result.1 ≡ context_of state }
+    ensures covered { AreCovered result.1 (stored_open result.0) }
+    ensures count { count_stored (stored_open result.0) ≤ usize.MAX }
+{
+    let (store, context) = state.into_parts();
+    (Opened::of(store, index), context)
+}
+
+// The tables of rows and a context with what others know. An `Err` gives the tables of the rows and the context.
 fn joined_with(
     alloc: Global,
     own: Global,
-    state: Causal<Stores>,
-    _count: usize,
-    index: Index,
+    mut opened: Opened,
+    mut context: CausalContext,
     other: &Tables,
 ) -> (Tables, Result<(), NotJoined>)
-    requires members { IsIndex text_cmp state.store.first.stores index.members }
-    requires children { IsIndex text_cmp state.store.second.first.stores index.children }
-    requires names { IsIndex text_cmp state.store.second.second.stores index.names }
-    requires count { _count ≡ count_stored (stored_in state.store) }
-    ensures knowledge { OnOk result.1 (knowledge result.0 ≡ together (knowledge (state_of state.context (stored_in state.store))) (knowledge other.now)) }
-    ensures err { OnErr result.1 (result.0 ≡ state_of state.context (stored_in state.store)) }
+    requires covered { AreCovered context (stored_open opened) }
+    requires count { count_stored (stored_open opened) ≤ usize.MAX }
+    ensures knowledge { OnOk result.1 (knowledge result.0 ≡ together (knowledge (state_of context (stored_open opened))) (knowledge other.now)) }
+    ensures err { OnErr result.1 (result.0 ≡ state_of context (stored_open opened)) }
 {
-    let (store, mut context) = state.into_parts();
-    let mut opened = Opened::of(store, index);
     let joined = join(
         alloc,
         &mut opened,
         &mut context,
-        other.state.store(),
-        other.state.context(),
+        other.stores(),
+        other.context(),
     );
     (opened.closed(own, context), joined)
 }

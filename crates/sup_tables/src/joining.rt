@@ -1,5 +1,5 @@
 //! The tables as a lattice, and their copies.
-ghost use Rattle.std.specs.Prelude.{◌≡◌, ◌↔◌, ◌++◌, List, IsTrue, IfOk, IfSome, OnOk, OnErr};
+ghost use Rattle.std.specs.Prelude.{◌≡◌, ◌<◌, ◌↔◌, ◌++◌, List, IsTrue, IfOk, IfSome, IfNone, OnOk, OnErr};
 ghost use Rattle.sup_causal.specs.declared.dot.Dot.{Dot as DotValue};
 ghost use Rattle.sup_causal.specs.Dots.{has};
 ghost use Rattle.sup_tables.specs.Operations.{Operation, Covers, NoClash};
@@ -9,7 +9,7 @@ ghost use Rattle.sup_tables.specs.States.{StandsFor, Knowledge, knowledge, toget
 use crate::in_place::NotJoined;
 use crate::index::found_index;
 use crate::table::count_with;
-use crate::tables::{Stores, Tables};
+use crate::tables::{Stores, Tables, store_in};
 use std::alloc::{AllocError, Global};
 use std::mem::replace;
 use sup_causal::Lattice;
@@ -29,7 +29,7 @@ impl Lattice for Tables {
         ensures stands { IfOk result (λ t. (ops others : List Operation) → StandsFor self.now ops → StandsFor other.now others → NoClash (ops ++ others) → StandsFor t (ops ++ others)) }
     {
         let state = self.state.joined(alloc, &other.state)?;
-        let count = match count_of(state.store()) {
+        let count = match count_of(store_in(&state)) {
             Some(count) => count,
             None => return Err(AllocError),
         };
@@ -110,7 +110,7 @@ impl Tables {
         ensures { self.new ≡ self.old }
     {
         if self.index.is_none() {
-            self.index = found_index(alloc, self.state.store())?;
+            self.index = found_index(alloc, store_in(&self.state))?;
         }
         Ok(())
     }
@@ -133,6 +133,7 @@ impl Tables {
 // How many rows the stores have. None only where there are more than a count can say.
 fn count_of(store: &Stores) -> Option<usize>
     ensures some { IfSome result (λ n. n ≡ count_stored (stored_in store.now)) }
+    ensures none { IfNone result (usize.MAX < count_stored (stored_in store.now)) }
 {
     let names = count_with(0, &store.second.second)?;
     let children = count_with(names, &store.second.first)?;

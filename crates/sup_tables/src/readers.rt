@@ -18,28 +18,28 @@ impl Tables {
     pub fn member(&self, m: &NodeName) -> Option<(Dot, &MemberInfo)>
         ensures { option_map (λ r. member_row m.now r.0 r.1.now) result ≡ winner self.now.rows members m.now }
     {
-        first_under(&self.state.store().first, m)
+        first_under(&self.stores().first, m)
     }
 
     /// The dot and the value of a child's winner.
     pub fn child(&self, id: &ChildId) -> Option<(Dot, &ChildSpec)>
         ensures { option_map (λ r. child_row id.now r.0 r.1.now) result ≡ winner self.now.rows children id.now }
     {
-        first_under(&self.state.store().second.first, id)
+        first_under(&self.stores().second.first, id)
     }
 
     /// The dot and the value of a name's winner.
     pub fn name(&self, name: &Name) -> Option<(Dot, &ChildId)>
         ensures { option_map (λ r. name_row name.now r.0 r.1.now) result ≡ winner self.now.rows names name.now }
     {
-        first_under(&self.state.store().second.second, name)
+        first_under(&self.stores().second.second, name)
     }
 
     /// The members, each with its winner, by the bytes of the key. An `Err` where a growth was refused.
     pub fn members(&self) -> Result<Vec<Winner<'_, NodeName, MemberInfo>>, AllocError>
         ensures { IfOk result (λ found. map (λ w. member_row w.key.now w.dot.now w.value.now) found.items ≡ winners self.now.rows members) }
     {
-        let found = firsts_of(self.alloc, &self.state.store().first)?;
+        let found = firsts_of(self.alloc, &self.stores().first)?;
         Ok(found)
     }
 
@@ -47,7 +47,7 @@ impl Tables {
     pub fn children(&self) -> Result<Vec<Winner<'_, ChildId, ChildSpec>>, AllocError>
         ensures { IfOk result (λ found. map (λ w. child_row w.key.now w.dot.now w.value.now) found.items ≡ winners self.now.rows children) }
     {
-        let found = firsts_of(self.alloc, &self.state.store().second.first)?;
+        let found = firsts_of(self.alloc, &self.stores().second.first)?;
         Ok(found)
     }
 
@@ -55,7 +55,7 @@ impl Tables {
     pub fn names(&self) -> Result<Vec<Winner<'_, Name, ChildId>>, AllocError>
         ensures { IfOk result (λ found. map (λ w. name_row w.key.now w.dot.now w.value.now) found.items ≡ winners self.now.rows names) }
     {
-        let found = firsts_of(self.alloc, &self.state.store().second.second)?;
+        let found = firsts_of(self.alloc, &self.stores().second.second)?;
         Ok(found)
     }
 
@@ -63,7 +63,7 @@ impl Tables {
     pub fn member_losers(&self, m: &NodeName) -> Result<Vec<Loser<'_, MemberInfo>>, AllocError>
         ensures { IfOk result (λ found. map (λ l. member_row m.now l.dot.now l.value.now) found.items ≡ losers self.now.rows members m.now) }
     {
-        let found = rest_under(self.alloc, &self.state.store().first, m)?;
+        let found = rest_under(self.alloc, &self.stores().first, m)?;
         Ok(found)
     }
 
@@ -71,7 +71,7 @@ impl Tables {
     pub fn child_losers(&self, id: &ChildId) -> Result<Vec<Loser<'_, ChildSpec>>, AllocError>
         ensures { IfOk result (λ found. map (λ l. child_row id.now l.dot.now l.value.now) found.items ≡ losers self.now.rows children id.now) }
     {
-        let found = rest_under(self.alloc, &self.state.store().second.first, id)?;
+        let found = rest_under(self.alloc, &self.stores().second.first, id)?;
         Ok(found)
     }
 
@@ -79,7 +79,7 @@ impl Tables {
     pub fn name_losers(&self, name: &Name) -> Result<Vec<Loser<'_, ChildId>>, AllocError>
         ensures { IfOk result (λ found. map (λ l. name_row name.now l.dot.now l.value.now) found.items ≡ losers self.now.rows names name.now) }
     {
-        let found = rest_under(self.alloc, &self.state.store().second.second, name)?;
+        let found = rest_under(self.alloc, &self.stores().second.second, name)?;
         Ok(found)
     }
 
@@ -90,7 +90,7 @@ impl Tables {
         ensures in_order { IfOk result (λ rows. AreInOrder rows.items) }
         ensures covered { IfOk result (λ rows. HasDotsOf self.now.context rows.items) }
     {
-        let store = self.state.store();
+        let store = self.stores();
         let mut rows = Vec::with_capacity(self.alloc, self.count)?;
         add_rows(self.alloc, &mut rows, &store.first)?;
         add_rows(self.alloc, &mut rows, &store.second.first)?;

@@ -70,7 +70,7 @@ impl Tables {
     fn member_dots(&self, m: &NodeName) -> Result<Vec<Dot>, AllocError>
         ensures { IfOk result (λ dots. dots.items ≡ live_dots self.now.rows members m.now) }
     {
-        let dots = dots_under(self.alloc, &self.state.store().first, m)?;
+        let dots = dots_under(self.alloc, &self.stores().first, m)?;
         Ok(dots)
     }
 
@@ -80,7 +80,7 @@ impl Tables {
         ensures counted { IfOk result (λ dots. All IsCounted dots.items) }
         ensures known { IfOk result (λ dots. (d : DotValue) → has self.now.context d ≡ false → among dot_cmp dots.items d ≡ false) }
     {
-        let dots = dots_under(self.alloc, &self.state.store().second.first, id)?;
+        let dots = dots_under(self.alloc, &self.stores().second.first, id)?;
         // For its clause: the counters of known dots are in their limits.
         self.context().counted();
         Ok(dots)
@@ -90,7 +90,7 @@ impl Tables {
     fn name_dots(&self, name: &Name) -> Result<Vec<Dot>, AllocError>
         ensures { IfOk result (λ dots. dots.items ≡ live_dots self.now.rows names name.now) }
     {
-        let dots = dots_under(self.alloc, &self.state.store().second.second, name)?;
+        let dots = dots_under(self.alloc, &self.stores().second.second, name)?;
         Ok(dots)
     }
 
@@ -99,7 +99,7 @@ impl Tables {
         ensures { IfOk result (λ dots. dots.items ≡ child_and_names self.now.rows id.now) }
     {
         let mut dots = self.child_dots(id)?;
-        add_dots_to(&mut dots, &self.state.store().second.second, id)?;
+        add_dots_to(&mut dots, &self.stores().second.second, id)?;
         let sorted = rising_dots(self.alloc, &dots)?;
         Ok(sorted)
     }

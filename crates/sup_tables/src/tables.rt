@@ -3,6 +3,7 @@ ghost use Rattle.std.specs.Prelude.{◌≡◌, [], length, IfSome};
 ghost use Rattle.sup_specs.specs.Values.{text_cmp};
 ghost use Rattle.std.proofs.Props.{props};
 ghost use Rattle.sup_tables.specs.Stored.{AreCovered, stored, stored_in, count_stored, state_of};
+ghost use Rattle.sup_dot_store.specs.Contents.{stores_of, store_of, context_of};
 ghost use Rattle.sup_dot_store.specs.Index.{IsIndex};
 ghost use Rattle.sup_tables.specs.States.{StandsFor, IsKept};
 
@@ -34,17 +35,18 @@ pub struct Tables {
     // Where the rows' dots stand. None until a join in place wants it.
     pub(crate) index: Option<Index>,
     pub(crate) alloc: Global,
-    pub ghost counted: { count ≡ count_stored (stored_in state.store) },
-    pub ghost indexed: { IfSome index (λ i. IsIndex text_cmp state.store.first.stores i.members × (IsIndex text_cmp state.store.second.first.stores i.children × IsIndex text_cmp state.store.second.second.stores i.names)) } by { Prim.hlevel props },
+    pub ghost counted: { count ≡ count_stored (stored_in (store_of state)) },
+    pub ghost indexed: { IfSome index (λ i. IsIndex text_cmp (stores_of (store_of state).first) i.members × (IsIndex text_cmp (stores_of (store_of state).second.first) i.children × IsIndex text_cmp (stores_of (store_of state).second.second) i.names)) } by { Prim.hlevel props },
 }
 
 impl Model for Tables {
     ghost use Rattle.sup_tables.specs.States.{State};
+    ghost use Rattle.sup_dot_store.specs.Contents.{store_of, context_of};
     ghost use Rattle.sup_tables.specs.Stored.{stored_in, state_of};
 
     ghost Value = { State };
 
-    ghost view = { λ t. state_of t.state.context (stored_in t.state.store) };
+    ghost view = { λ t. state_of (context_of t.state) (stored_in (store_of t.state)) };
 }
 
 impl Tables {
@@ -73,6 +75,14 @@ impl Tables {
         self.state.context()
     }
 
+    // The stores, whose rows are the state's.
+    pub(crate) fn stores(&self) -> &Stores
+        ensures state { self.now ≡ state_of self.now.context (stored_in result.now) }
+        ensures covered { AreCovered self.now.context (stored_in result.now) }
+    {
+        store_in(&self.state)
+    }
+
     /// How many rows there are, losers among them.
     pub fn row_count(&self) -> usize
         ensures { result ≡ length self.now.rows }
@@ -90,9 +100,9 @@ pub(crate) fn tables_of(
     context: CausalContext,
     count: usize,
 ) -> Tables
-    requires covered { AreCovered context (stored members.stores children.stores names.stores) }
-    requires counted { count ≡ count_stored (stored members.stores children.stores names.stores) }
-    ensures { result ≡ state_of context (stored members.stores children.stores names.stores) }
+    requires covered { AreCovered context (stored (stores_of members) (stores_of children) (stores_of names)) }
+    requires counted { count ≡ count_stored (stored (stores_of members) (stores_of children) (stores_of names)) }
+    ensures { result ≡ state_of context (stored (stores_of members) (stores_of children) (stores_of names)) }
 {
     let store = Both {
         first: members,
@@ -102,9 +112,26 @@ pub(crate) fn tables_of(
         },
     };
     Tables {
-        state: Causal::new(store, context),
+        state: state_with(store, context),
         count,
         index: None,
         alloc,
     }
+}
+
+// The stores under a context that covers them.
+pub(crate) fn state_with(store: Stores, context: CausalContext) -> Causal<Stores>
+    requires { AreCovered context (stored_in store) }
+    ensures store { store_of result ≡ store }
+    ensures context { context_of result ≡ context }
+{
+    Causal::new(store, context)
+}
+
+// The stores of a state, which its context covers.
+pub(crate) fn store_in(state: &Causal<Stores>) -> &Stores
+    ensures store { result.now ≡ store_of state.now }
+    ensures covered { AreCovered (context_of state.now) (stored_in result.now) }
+{
+    state.store()
 }

@@ -1,14 +1,15 @@
 //! The rows of others, taken in where they are new, and rows taken away where others know that they are gone.
 
-ghost use Rattle.std.specs.Prelude.{◌≡◌, ◌≤◌, true, false, IsSome, IfOk, IfErr, IfSome, IfNone, OnOk};
+ghost use Rattle.std.specs.Prelude.{◌≡◌, ◌≤◌, ◌&&◌, not, true, false, None, IsSome, IfOk, IfErr, IfSome, IfNone, OnOk, OnErr};
 ghost use Rattle.std.specs.Option.{option_copied};
-ghost use Rattle.std.specs.BTreeMap.{values};
+ghost use Rattle.std.specs.BTreeMap.{get, values};
+ghost use Rattle.std.specs.List.{list_any};
 ghost use Rattle.sup_specs.specs.Rising.{among};
 ghost use Rattle.sup_causal.specs.declared.dot.Dot.{Dot as DotValue};
 ghost use Rattle.sup_causal.specs.Join.{lesser};
-ghost use Rattle.sup_causal.specs.Dots.{has, dot_cmp};
+ghost use Rattle.sup_causal.specs.Dots.{has, dot_cmp, dot_eq};
 ghost use Rattle.sup_dot_store.specs.Contents.{stores_of};
-ghost use Rattle.sup_dot_store.specs.Index.{AreGone, HasLesser, StopsAt, TakesDots, count_in, row_value, value_under};
+ghost use Rattle.sup_dot_store.specs.Index.{AreGone, HasFreshRow, HasLesser, HasSameRows, PutsRow, StopsAt, TakesDots, count_in, row_value, value_under};
 ghost use Rattle.sup_dot_store.specs.declared.indexed.join.NotPut.TheVariants.{TwoKeys, OutOfMemory};
 ghost use Rattle.sup_dot_store.specs.Outcomes.{outcome};
 
@@ -40,9 +41,31 @@ impl From<AllocError> for NotPut {
 }
 
 impl<K: Plain, V: Plain> Indexed<K, V> {
-    /// Puts in those of the rows whose dots the context lacks. An `Err` stops at such a row, with those before it put
-    /// in: `TwoKeys` where its dot stands among the rows before it, `OutOfMemory` only where it doesn't.
+    /// Puts in those of the rows whose dots the context lacks. An `Err` changes no row, and comes at such a row: `TwoKeys`
+    /// where its dot stands among the rows before it, `OutOfMemory` where it doesn't.
     pub fn put_fresh(
+        &mut self,
+        alloc: Global,
+        rows: Vec<(K, Dot, V)>,
+        mine: &CausalContext,
+    ) -> Result<(), NotPut>
+        requires { (k : K) (d : DotValue) → IsSome (value_under K.cmp self.old.stores k d) → has mine.now d ≡ true }
+        ensures known { (k : K) (d : DotValue) → has mine.now d ≡ true → value_under K.cmp self.new.stores k d ≡ value_under K.cmp self.old.stores k d }
+        ensures fresh { OnOk result ((k : K) (d : DotValue) → has mine.now d ≡ false → value_under K.cmp self.new.stores k d ≡ row_value K.cmp rows.items k d) }
+        ensures err { OnErr result (HasSameRows K.cmp self.old.stores self.new.stores) }
+        ensures two_keys { IfErr result (λ fault. fault ≡ TwoKeys → HasFreshRow (has mine.now) rows.items true) }
+        ensures no_memory { IfErr result (λ fault. fault ≡ OutOfMemory → HasFreshRow (has mine.now) rows.items false) }
+    {
+        let fresh = fresh_dots(alloc, &rows, mine)?;
+        if let Err(fault) = self.put_rows(alloc, rows, mine) {
+            self.take_dots(&fresh);
+            return Err(fault);
+        }
+        Ok(())
+    }
+
+    // Puts in those of the rows whose dots the context lacks. An `Err` stops at such a row, with those before it put in.
+    fn put_rows(
         &mut self,
         alloc: Global,
         rows: Vec<(K, Dot, V)>,
@@ -59,11 +82,23 @@ impl<K: Plain, V: Plain> Indexed<K, V> {
             if mine.contains(&dot) {
                 continue;
             }
-            if self.keys.contains_key(&dot) {
-                return Err(NotPut::TwoKeys);
-            }
-            self.put(alloc, key, dot, value)?;
+            self.put_new(alloc, key, dot, value)?;
         }
+        Ok(())
+    }
+
+    // Puts in a row. `TwoKeys` exactly where its dot has a value. An `Err` changes no row.
+    fn put_new(&mut self, alloc: Global, key: K, dot: Dot, value: V) -> Result<(), NotPut>
+        ensures put { OnOk result (PutsRow K.cmp key dot value self.old.stores self.new.stores) }
+        ensures free { OnOk result (get dot_cmp self.old.keys dot ≡ None) }
+        ensures err { OnErr result (HasSameRows K.cmp self.old.stores self.new.stores) }
+        ensures two_keys { IfErr result (λ fault. fault ≡ TwoKeys → IsSome (get dot_cmp self.old.keys dot)) }
+        ensures no_memory { IfErr result (λ fault. fault ≡ OutOfMemory → get dot_cmp self.old.keys dot ≡ None) }
+    {
+        if self.keys.contains_key(&dot) {
+            return Err(NotPut::TwoKeys);
+        }
+        self.put(alloc, key, dot, value)?;
         Ok(())
     }
 
@@ -100,6 +135,25 @@ impl<K: Plain, V: Plain> Indexed<K, V> {
         }
         Ok(Some(gone))
     }
+}
+
+// The dots of the rows that the context lacks. An `Err` comes only where there is one.
+fn fresh_dots<K: Plain, V: Plain>(
+    alloc: Global,
+    rows: &[(K, Dot, V)],
+    mine: &CausalContext,
+) -> Result<Vec<Dot>, AllocError>
+    ensures dots { IfOk result (λ dots. (d : DotValue) → among dot_cmp dots.items d ≡ (not (has mine.now d) && list_any (λ r. dot_eq d r.1) rows.now)) }
+    ensures err { OnErr result (HasFreshRow (has mine.now) rows.now false) }
+{
+    let mut dots = Vec::new(alloc);
+    for (_, dot, _) in rows {
+        if mine.contains(dot) {
+            continue;
+        }
+        dots.push(*dot)?;
+    }
+    Ok(dots)
 }
 
 // What becomes of a value here whose dot is known there.

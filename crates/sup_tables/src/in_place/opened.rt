@@ -5,16 +5,17 @@ ghost use Rattle.sup_specs.specs.Rising.{among};
 ghost use Rattle.sup_specs.specs.Values.{text_cmp};
 ghost use Rattle.sup_causal.specs.Dots.{has, dot_cmp};
 ghost use Rattle.sup_causal.specs.Join.{lesser};
+ghost use Rattle.sup_dot_store.specs.Contents.{stores_of};
 ghost use Rattle.sup_dot_store.specs.Index.{IsIndex, AreGone};
 ghost use Rattle.sup_tables.specs.Stored.{AreCovered, stored_in, count_stored, state_of};
 ghost use Rattle.sup_tables.specs.InPlace.{stored_open, AtAll, StayKnown, AreFresh, AreBrought, AreTaken};
 
 use crate::in_place::NotJoined;
 use crate::index::Index;
-use crate::tables::{Stores, Tables};
+use crate::tables::{Stores, Tables, state_with};
 use std::alloc::Global;
 use sup_causal::{CausalContext, Dot};
-use sup_dot_store::{Both, Causal, DotMap, Indexed};
+use sup_dot_store::{Both, DotMap, Indexed};
 use sup_specs::{ChildId, ChildSpec, MemberInfo, Name, NodeName};
 
 // The rows of the three tables, found by their dots.
@@ -36,12 +37,12 @@ pub(crate) struct Gone {
 impl Opened {
     // The rows of stores with their index.
     pub(crate) fn of(store: Stores, index: Index) -> Opened
-        requires members { IsIndex text_cmp store.first.stores index.members }
-        requires children { IsIndex text_cmp store.second.first.stores index.children }
-        requires names { IsIndex text_cmp store.second.second.stores index.names }
-        ensures members { result.members.stores ≡ store.first.stores }
-        ensures children { result.children.stores ≡ store.second.first.stores }
-        ensures names { result.names.stores ≡ store.second.second.stores }
+        requires members { IsIndex text_cmp (stores_of store.first) index.members }
+        requires children { IsIndex text_cmp (stores_of store.second.first) index.children }
+        requires names { IsIndex text_cmp (stores_of store.second.second) index.names }
+        ensures members { result.members.stores ≡ stores_of store.first }
+        ensures children { result.children.stores ≡ stores_of store.second.first }
+        ensures names { result.names.stores ≡ stores_of store.second.second }
     {
         let Both {
             first: members,
@@ -91,7 +92,7 @@ impl Opened {
             },
         };
         Tables {
-            state: Causal::new(store, context),
+            state: state_with(store, context),
             count,
             index: Some(index),
             alloc,
@@ -101,6 +102,7 @@ impl Opened {
     // How many rows there are. None only where there are more than a count can say.
     pub(crate) fn count(&self) -> Option<usize>
         ensures some { IfSome result (λ n. n ≡ count_stored (stored_open self.now)) }
+        ensures none { IfNone result (usize.MAX < count_stored (stored_open self.now)) }
     {
         let others = self.children.len().checked_add(self.names.len())?;
         self.members.len().checked_add(others)
@@ -156,9 +158,9 @@ impl Opened {
         shared: &[Dot],
         theirs: &Stores,
     ) -> Result<Gone, NotJoined>
-        ensures members { IfOk result (λ gone. AreGone (lesser (⟦<MemberInfo as Ord>⟧.cmp)) text_cmp (among dot_cmp shared.now) (among dot_cmp gone.members.items) self.now.members.stores theirs.now.first.stores) }
-        ensures children { IfOk result (λ gone. AreGone (lesser (⟦<ChildSpec as Ord>⟧.cmp)) text_cmp (among dot_cmp shared.now) (among dot_cmp gone.children.items) self.now.children.stores theirs.now.second.first.stores) }
-        ensures names { IfOk result (λ gone. AreGone (lesser text_cmp) text_cmp (among dot_cmp shared.now) (among dot_cmp gone.names.items) self.now.names.stores theirs.now.second.second.stores) }
+        ensures members { IfOk result (λ gone. AreGone (lesser (⟦<MemberInfo as Ord>⟧.cmp)) text_cmp (among dot_cmp shared.now) (among dot_cmp gone.members.items) self.now.members.stores (stores_of theirs.now.first)) }
+        ensures children { IfOk result (λ gone. AreGone (lesser (⟦<ChildSpec as Ord>⟧.cmp)) text_cmp (among dot_cmp shared.now) (among dot_cmp gone.children.items) self.now.children.stores (stores_of theirs.now.second.first)) }
+        ensures names { IfOk result (λ gone. AreGone (lesser text_cmp) text_cmp (among dot_cmp shared.now) (among dot_cmp gone.names.items) self.now.names.stores (stores_of theirs.now.second.second)) }
     {
         let members = found(self.members.gone(alloc, shared, &theirs.first)?)?;
         let children = found(self.children.gone(alloc, shared, &theirs.second.first)?)?;

@@ -1,87 +1,22 @@
-use Rattle.std.proofs.Common.{◌≡◌, ◌∷◌, true, false, None, IsSome, ◌∙◌, ap, subst, length, arith, rules}
-use Rattle.std.specs.BTreeMap.{get}
-use Rattle.std.specs.Vec.Iter.{into_iter_items}
-use Rattle.sup_causal.specs.declared.dot.Dot.{Dot}
-use Rattle.sup_causal.specs.Dots.{has, dot_cmp}
-use Rattle.sup_dot_store.specs.Index.{StopsAt}
-use Rattle.sup_dot_store.proofs.FreshRows.{IsPutSoFar, row_passed, row_put, same_put, put_are_listed, stops_at_taken, stops_at_free}
-use Rattle.sup_dot_store.proofs.JoinedInPlace.{no_key}
+use Rattle.std.proofs.Common.{true, false, ap, ◌∙◌}
+use Rattle.sup_specs.specs.Rising.{among}
+use Rattle.std.specs.List.{list_any}
+use Rattle.std.proofs.Common.{◌&&◌, not}
+use Rattle.sup_causal.specs.Dots.{has, dot_cmp, dot_eq}
+use Rattle.sup_dot_store.proofs.FreshRows.{stopped_row, all_undone}
 use Rattle.sup_dot_store.proofs.indexed.Indexed.put_fresh.Goals as goal
 
-pub loop-key-preserved-then-contains : goal.loop-key-preserved-then-contains
-loop-key-preserved-then-contains g c =
+pub returns-in-Err-clause-err : goal.returns-in-Err-clause-err
+returns-in-Err-clause-err g c =
     let mine = has c.args.mine.now in
-    let row : g.row.K.Denot × Dot × g.row.V.Denot = (c.in-Some.key, c.in-Some.dot, c.in-Some.value) in
-    let left = into_iter_items c.next.new.self in
-    let known : mine c.in-Some.dot ≡ true = search rules in
-    let steps : into_iter_items c.loop-key.key-iterator ≡ row ∷ left = c.in-Some.ensures.steps.0 in record {
-      put =
-          row_passed g.met.K.Ord.total mine c.args.rows.items c.args.self.now.stores c.loop-key.self.stores row left
-          (subst (λ rows. IsPutSoFar g.K.Ord.cmp mine c.args.rows.items rows c.args.self.now.stores c.loop-key.self.stores) steps c.loop-key.invariant.put) known;
-      counted =
-          let was = c.loop-key.invariant.counted in
-          let one = c.in-Some.ensures.steps.1 in
-          let short = ap length steps in
-          omega arith;
-    }
+    let rows = c.args.rows.items in
+    all_undone g.met.K.Ord.total mine rows c.args.self.now.stores c.put_rows.new.self.stores c.take_dots.new.self.stores (among dot_cmp c.deref-in-Err.result.now)
+    c.requires c.in-Err.ensures.known c.in-Err.ensures.brought
+    (λ d. ap (λ ds. among dot_cmp ds d) c.deref-in-Err.ensures.value ∙ c.in_ok-fresh.ensures.dots d ∙ ap (λ rs. not (mine d) && list_any (λ r. dot_eq d r.1) rs) c.deref.ensures.value)
+    c.take_dots.ensures.taken
 
-pub loop-key-preserved : goal.loop-key-preserved
-loop-key-preserved g c =
-    let mine = has c.args.mine.now in
-    let row : g.row.K.Denot × Dot × g.row.V.Denot = (c.in-Some.key, c.in-Some.dot, c.in-Some.value) in
-    let left = into_iter_items c.next.new.self in
-    let now = c.loop-key.self in
-    let fresh : mine c.in-Some.dot ≡ false = search rules in
-    let none : get dot_cmp now.keys c.in-Some.dot ≡ None = search rules in
-    let steps : into_iter_items c.loop-key.key-iterator ≡ row ∷ left = c.in-Some.ensures.steps.0 in record {
-      put =
-          row_put g.met.K.Ord.total mine c.args.rows.items c.args.self.now.stores now.stores c.put.new.self.stores row left
-          (subst (λ rows. IsPutSoFar g.K.Ord.cmp mine c.args.rows.items rows c.args.self.now.stores now.stores) steps c.loop-key.invariant.put) fresh
-          (no_key g.K.Ord.cmp now.stores now.keys now.indexed c.in-Some.dot none) c.in_ok-put.ensures.put;
-      counted =
-          let was = c.loop-key.invariant.counted in
-          let one = c.in-Some.ensures.steps.1 in
-          let short = ap length steps in
-          omega arith;
-    }
+pub returns-in-Err-clause-two_keys : goal.returns-in-Err-clause-two_keys
+returns-in-Err-clause-two_keys g c told = stopped_row g.met.K.Ord.total (has c.args.mine.now) c.args.rows.items c.args.self.now.stores true c.put_rows.new.self.stores (c.in-Err.ensures.two_keys told)
 
-pub returns-then-contains_key-clause-brought : goal.returns-then-contains_key-clause-brought
-returns-then-contains_key-clause-brought g c =
-    put_are_listed g.met.K.Ord.total (has c.args.mine.now) c.args.rows.items c.args.self.now.stores c.loop-key.self.stores (into_iter_items c.loop-key.key-iterator) c.loop-key.invariant.put
-
-pub returns-then-contains_key-clause-two_keys : goal.returns-then-contains_key-clause-two_keys
-returns-then-contains_key-clause-two_keys g c told =
-    let mine = has c.args.mine.now in
-    let row : g.row.K.Denot × Dot × g.row.V.Denot = (c.in-Some.key, c.in-Some.dot, c.in-Some.value) in
-    let left = into_iter_items c.next.new.self in
-    let now = c.loop-key.self in
-    let fresh : mine c.in-Some.dot ≡ false = search rules in
-    let there : IsSome (get dot_cmp now.keys c.in-Some.dot) = search rules in
-    let steps : into_iter_items c.loop-key.key-iterator ≡ row ∷ left = c.in-Some.ensures.steps.0 in
-    stops_at_taken g.met.K.Ord.total mine c.args.rows.items c.args.self.now.stores now.stores now.keys now.indexed row left
-    (subst (λ rows. IsPutSoFar g.K.Ord.cmp mine c.args.rows.items rows c.args.self.now.stores now.stores) steps c.loop-key.invariant.put) fresh there
-
-pub returns-in_err-put-clause-brought : goal.returns-in_err-put-clause-brought
-returns-in_err-put-clause-brought g c =
-    let mine = has c.args.mine.now in
-    let left = into_iter_items c.loop-key.key-iterator in
-    let put = same_put g.met.K.Ord.total mine c.args.rows.items c.args.self.now.stores c.loop-key.self.stores c.put.new.self.stores left c.in_err-put.ensures.err c.loop-key.invariant.put in
-    put_are_listed g.met.K.Ord.total mine c.args.rows.items c.args.self.now.stores c.put.new.self.stores left put
-
-pub returns-in_err-put-clause-no_memory : goal.returns-in_err-put-clause-no_memory
-returns-in_err-put-clause-no_memory g c =
-    let mine = has c.args.mine.now in
-    let row : g.row.K.Denot × Dot × g.row.V.Denot = (c.in-Some.key, c.in-Some.dot, c.in-Some.value) in
-    let left = into_iter_items c.next.new.self in
-    let now = c.loop-key.self in
-    let new = c.put.new.self in
-    let fresh : mine c.in-Some.dot ≡ false = search rules in
-    let none : get dot_cmp now.keys c.in-Some.dot ≡ None = search rules in
-    let steps : into_iter_items c.loop-key.key-iterator ≡ row ∷ left = c.in-Some.ensures.steps.0 in
-    let put : IsPutSoFar g.K.Ord.cmp mine c.args.rows.items (row ∷ left) c.args.self.now.stores now.stores =
-    subst (λ rows. IsPutSoFar g.K.Ord.cmp mine c.args.rows.items rows c.args.self.now.stores now.stores) steps c.loop-key.invariant.put in
-    let stops : StopsAt g.K.Ord.cmp mine c.args.rows.items false new.stores =
-    stops_at_free g.met.K.Ord.total mine c.args.rows.items c.args.self.now.stores new.stores row left
-    (same_put g.met.K.Ord.total mine c.args.rows.items c.args.self.now.stores now.stores new.stores (row ∷ left) c.in_err-put.ensures.err put) fresh
-    (λ k. c.in_err-put.ensures.err k c.in-Some.dot ∙ no_key g.K.Ord.cmp now.stores now.keys now.indexed c.in-Some.dot none k) in
-    search rules
+pub returns-in-Err-clause-no_memory : goal.returns-in-Err-clause-no_memory
+returns-in-Err-clause-no_memory g c told = stopped_row g.met.K.Ord.total (has c.args.mine.now) c.args.rows.items c.args.self.now.stores false c.put_rows.new.self.stores (c.in-Err.ensures.no_memory told)

@@ -1,6 +1,6 @@
 use Rattle.std.proofs.Common.{ap, inl, inr, ◌∙◌}
 use Rattle.sup_tables.specs.States.{knowledge, together}
-use Rattle.sup_tables.specs.Stored.{stored_in}
+use Rattle.sup_tables.specs.Stored.{stored_in, count_stored}
 use Rattle.sup_tables.proofs.JoinLaws.{join_stands}
 use Rattle.sup_tables.proofs.MappedLaws.{knows_together}
 use Rattle.sup_tables.proofs.joining.TablesLattice.joined.Goals as goal
@@ -27,3 +27,6 @@ returns-clause-knowledge c =
 
 pub returns-clause-stands : goal.returns-clause-stands
 returns-clause-stands c ops others sa sb clear = join_stands c.args.self.now c.args.other.now _ ops others sa sb clear c.context.ensures.kept (returns-clause-knowledge c)
+
+pub invariant_of-tables-inside : goal.invariant_of-tables-inside
+invariant_of-tables-inside c = (c.in-Some.ensures.some ∙ ap (λ s. count_stored (stored_in s)) c.store_in.ensures.store, (tt, tt))

@@ -1,20 +1,16 @@
-use Rattle.std.proofs.Common.{sym, ap, ◌∙◌}
+use Rattle.std.proofs.Common.{ap}
 use Rattle.std.specs.Map.{lookup}
 use Rattle.std.specs.BTreeMap.{is_at as is_key}
 use Rattle.sup_causal.specs.Dots.{dot_cmp}
-use Rattle.sup_tables.specs.Rows.{names}
-use Rattle.sup_tables.specs.Readers.{winners}
-use Rattle.sup_tables.specs.Stored.{Stored, stored_in, name_row, firsts_in, triple}
+use Rattle.sup_tables.specs.Stored.{Stored, stored_in, triple}
 use Rattle.sup_tables.proofs.StoredLaws.{IsOrderedStored}
-use Rattle.sup_tables.proofs.WinnerLaws.{name_winners, shown_winners}
+use Rattle.sup_tables.proofs.ReaderLaws.{names_won}
 use Rattle.sup_tables.proofs.tables.Tables.names.Goals as goal
 
 pub returns : goal.returns
 returns c =
-    let s = c.self.inside.state in
-    let st : Stored = stored_in s.store in
-    let o : IsOrderedStored st = record { member_values = s.store.first.ordered; child_values = s.store.second.first.ordered; name_values = s.store.second.second.ordered } in
-    shown_winners name_row (λ w. triple w.key.now w.dot.now w.value.now) c.in_ok-found.found.items c.store.result.now.second.second.stores.entries c.in_ok-found.ensures
-    ∙ ap (λ q. firsts_in name_row q.second.second.stores.entries) c.store.ensures
-    ∙ sym (name_winners s.context st o (λ k f found none. s.store.second.second.none_empty k f found (λ d p. ap (lookup (is_key (dot_cmp d))) none)))
-    ∙ ap (λ t. winners t.rows names) c.self.view_is
+    let q = c.stores.result.now in
+    let st : Stored = stored_in q in
+    let o : IsOrderedStored st = record { member_values = q.first.ordered; child_values = q.second.first.ordered; name_values = q.second.second.ordered } in
+    names_won c.args.self.now st o c.stores.ensures.state (λ w. triple w.key.now w.dot.now w.value.now) c.in_ok-found.found.items c.in_ok-found.ensures
+    (λ k f found none. q.second.second.none_empty k f found (λ d p. ap (lookup (is_key (dot_cmp d))) none))

@@ -4,21 +4,17 @@ use Rattle.std.proofs.Common.{ap, subst, sym, ◌∙◌}
 use Rattle.sup_specs.specs.Values.{text_cmp}
 use Rattle.sup_dot_store.specs.Index.{IsIndex, count_in}
 use Rattle.sup_tables.specs.Stored.{AreCovered, stored}
-use Rattle.sup_tables.proofs.MappedLaws.{at_places}
 use Rattle.sup_tables.proofs.in_place.opened.Opened.closed.Goals as goal
 
-pub new-requires : goal.new-requires
-new-requires c d =
-    let covered : AreCovered c.args.context (stored c.of_stores.result.stores c.of_stores-2.result.stores c.of_stores-3.result.stores) =
-    subst (AreCovered c.args.context) (λ i. stored (sym c.of_stores.ensures i) (sym c.of_stores-2.ensures i) (sym c.of_stores-3.ensures i)) c.requires.covered in
-    at_places _ (λ p. covered.at_members d p.0) (at_places _ (λ p. covered.at_children d p.0) (λ p. covered.at_names d p.0))
+pub state_with-requires : goal.state_with-requires
+state_with-requires c = subst (AreCovered c.args.context) (λ i. stored (sym c.of_stores.ensures i) (sym c.of_stores-2.ensures i) (sym c.of_stores-3.ensures i)) c.requires.covered
 
 pub invariant_of-result : goal.invariant_of-result
 invariant_of-result c =
-    let members : c.args.self.members.stores ≡ c.new.result.store.first.stores = sym (ap (λ s. s.first.stores) c.new.ensures.store ∙ c.of_stores.ensures) in
-    let children : c.args.self.children.stores ≡ c.new.result.store.second.first.stores = sym (ap (λ s. s.second.first.stores) c.new.ensures.store ∙ c.of_stores-2.ensures) in
-    let names : c.args.self.names.stores ≡ c.new.result.store.second.second.stores = sym (ap (λ s. s.second.second.stores) c.new.ensures.store ∙ c.of_stores-3.ensures) in
-    let counted : c.len.result + (c.len-2.result + c.len-3.result) ≡ count_in (values c.new.result.store.first.stores) + (count_in (values c.new.result.store.second.first.stores) + count_in (values c.new.result.store.second.second.stores)) =
+    let members : c.args.self.members.stores ≡ c.state_with.result.store.first.stores = sym (ap (λ s. s.first.stores) c.state_with.ensures.store ∙ c.of_stores.ensures) in
+    let children : c.args.self.children.stores ≡ c.state_with.result.store.second.first.stores = sym (ap (λ s. s.second.first.stores) c.state_with.ensures.store ∙ c.of_stores-2.ensures) in
+    let names : c.args.self.names.stores ≡ c.state_with.result.store.second.second.stores = sym (ap (λ s. s.second.second.stores) c.state_with.ensures.store ∙ c.of_stores-3.ensures) in
+    let counted : c.len.result + (c.len-2.result + c.len-3.result) ≡ count_in (values c.state_with.result.store.first.stores) + (count_in (values c.state_with.result.store.second.first.stores) + count_in (values c.state_with.result.store.second.second.stores)) =
     (λ i. c.len.ensures i + (c.len-2.ensures i + c.len-3.ensures i)) ∙ (λ i. count_in (values (members i)) + (count_in (values (children i)) + count_in (values (names i)))) in (
       counted,
       (

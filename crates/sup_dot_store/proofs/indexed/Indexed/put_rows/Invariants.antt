@@ -2,7 +2,7 @@ use Rattle.std.proofs.Common.{◌≡◌, length}
 use Rattle.std.specs.Vec.Iter.{into_iter_items, into_iter_len}
 use Rattle.sup_causal.specs.Dots.{has}
 use Rattle.sup_dot_store.proofs.FreshRows.{IsPutSoFar}
-use Rattle.sup_dot_store.proofs.indexed.Indexed.put_fresh.Given as goal
+use Rattle.sup_dot_store.proofs.indexed.Indexed.put_rows.Given as goal
 
 abbrev pub invariant-loop-key : goal.invariant-loop-key
 invariant-loop-key g l = record {
