@@ -7,6 +7,7 @@ ghost use Rattle.sup_causal.specs.Dots.{has, dot_cmp, IsCounted};
 ghost use Rattle.sup_tables.specs.Rows.{members, children, names};
 ghost use Rattle.sup_tables.specs.Readers.{live_dots};
 ghost use Rattle.sup_tables.specs.Makers.{finish_child, drop_child, drop_member, drop_name, child_and_names};
+ghost use Rattle.sup_tables.specs.OneOperation.{state_of_one};
 ghost use Rattle.sup_tables.specs.States.{StandsFor};
 
 use crate::delta::removal;
@@ -23,11 +24,13 @@ impl Tables {
     pub fn drop_member(&self, m: &NodeName) -> Result<(Tables, Vec<Dot>), AllocError>
         ensures dots { IfOk result (λ r. r.1.items ≡ live_dots self.now.rows members m.now) }
         ensures stands { IfOk result (λ r. StandsFor r.0 (drop_member self.now.rows m.now ∷ [])) }
+        ensures state { IfOk result (λ r. r.0 ≡ state_of_one (drop_member self.now.rows m.now)) }
     {
         let dots = self.member_dots(m)?;
         // For its clause: the counters of known dots are in their limits.
         self.context().counted();
         let delta = removal(self.alloc, &dots)?;
+        delta.are_of_one();
         Ok((delta, dots))
     }
 
@@ -36,11 +39,13 @@ impl Tables {
     pub fn drop_child(&self, id: &ChildId) -> Result<(Tables, Vec<Dot>), AllocError>
         ensures dots { IfOk result (λ r. r.1.items ≡ child_and_names self.now.rows id.now) }
         ensures stands { IfOk result (λ r. StandsFor r.0 (drop_child self.now.rows id.now ∷ [])) }
+        ensures state { IfOk result (λ r. r.0 ≡ state_of_one (drop_child self.now.rows id.now)) }
     {
         let dots = self.child_and_name_dots(id)?;
         // For its clause: the counters of known dots are in their limits.
         self.context().counted();
         let delta = removal(self.alloc, &dots)?;
+        delta.are_of_one();
         Ok((delta, dots))
     }
 
@@ -48,9 +53,12 @@ impl Tables {
     /// The dot passes [`Dot::is_counted`]. An `Err` where a growth was refused.
     pub fn finish_child(&self, dot: Dot) -> Result<Tables, AllocError>
         requires { IsCounted dot }
-        ensures { IfOk result (λ t. StandsFor t (finish_child dot ∷ [])) }
+        ensures stands { IfOk result (λ t. StandsFor t (finish_child dot ∷ [])) }
+        ensures state { IfOk result (λ t. t ≡ state_of_one (finish_child dot)) }
     {
-        removal(self.alloc, &[dot])
+        let delta = removal(self.alloc, &[dot])?;
+        delta.are_of_one();
+        Ok(delta)
     }
 
     /// The tables of the one operation that takes a name back, and the dots that it names: none where there is no such
@@ -58,11 +66,13 @@ impl Tables {
     pub fn drop_name(&self, name: &Name) -> Result<(Tables, Vec<Dot>), AllocError>
         ensures dots { IfOk result (λ r. r.1.items ≡ live_dots self.now.rows names name.now) }
         ensures stands { IfOk result (λ r. StandsFor r.0 (drop_name self.now.rows name.now ∷ [])) }
+        ensures state { IfOk result (λ r. r.0 ≡ state_of_one (drop_name self.now.rows name.now)) }
     {
         let dots = self.name_dots(name)?;
         // For its clause: the counters of known dots are in their limits.
         self.context().counted();
         let delta = removal(self.alloc, &dots)?;
+        delta.are_of_one();
         Ok((delta, dots))
     }
 

@@ -3,6 +3,7 @@ use Rattle.sup_tables.specs.States.{knowledge, together}
 use Rattle.sup_tables.specs.Stored.{stored_in}
 use Rattle.sup_tables.proofs.JoinLaws.{join_stands}
 use Rattle.sup_tables.proofs.MappedLaws.{knows_together}
+use Rattle.sup_tables.proofs.StateJoins.{joined_is}
 use Rattle.sup_tables.proofs.joining.TablesLattice.joined.Goals as goal
 
 pub returns-clause-knowledge : goal.returns-clause-knowledge
@@ -27,3 +28,6 @@ returns-clause-knowledge c =
 
 pub returns-clause-stands : goal.returns-clause-stands
 returns-clause-stands c ops others sa sb clear = join_stands c.args.self.now c.args.other.now _ ops others sa sb clear c.context.ensures.kept (returns-clause-knowledge c)
+
+pub returns-clause-state : goal.returns-clause-state
+returns-clause-state c = joined_is c.args.self.now c.args.other.now _ c.context.ensures.tables (returns-clause-knowledge c)
