@@ -8,3 +8,4 @@ pub mod Sorted
 pub mod CutLemmas
 pub mod CutLaws
 pub mod InPlace
+pub mod GreatestLaws

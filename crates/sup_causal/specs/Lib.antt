@@ -4,3 +4,4 @@ pub mod Walk
 pub mod Dots
 pub mod DotLaws
 pub mod Cut
+pub mod Greatest

@@ -6,6 +6,7 @@ ghost use Rattle.sup_specs.specs.Rising.{among, IsRising};
 ghost use Rattle.sup_causal.specs.Cut.{IsVector, IsCloud, IsCanonical, in_parts};
 ghost use Rattle.sup_causal.specs.declared.parts.PartsFault.TheVariants.{NotCanonical};
 ghost use Rattle.sup_causal.specs.Dots.{has, dot_cmp, dot_eq, IsCounted, IsCountOf, IsGreatest, IsNext};
+ghost use Rattle.sup_causal.specs.Greatest.{greatest_in};
 
 use crate::cut::{cloud_of, runs_of, vector_of};
 use crate::dot::Dot;
@@ -123,6 +124,7 @@ impl CausalContext {
     /// The greatest counter of the node's dots, 0 where there is none.
     pub fn greatest(&self, node: &NodeName) -> u64
         ensures greatest { IsGreatest (has self.now) node.now result }
+        ensures value { result ≡ greatest_in self.now node.now }
         ensures counted { result ≤ MAX }
     {
         greatest_of(&self.dots, node)

@@ -13,7 +13,7 @@ use Rattle.sup_tables.proofs.CoverLaws.{one_of_all, absorbed-true, known-append,
 use Rattle.sup_tables.proofs.GreatestLaws.{known_among}
 
 -- a test that each element of a list passes is passed by all
-all_from_each : {X : Type 0} (p : X → Bool) (eq : X → X → Bool) → ((x : X) → eq x x ≡ true) → (xs : List X) → ((x : X) → list_any (eq x) xs ≡ true → p x ≡ true) → list_all p xs ≡ true
+pub all_from_each : {X : Type 0} (p : X → Bool) (eq : X → X → Bool) → ((x : X) → eq x x ≡ true) → (xs : List X) → ((x : X) → list_any (eq x) xs ≡ true → p x ≡ true) → list_all p xs ≡ true
 all_from_each p eq itself [] h = refl
 all_from_each p eq itself (x ∷ xs) h =
     let here : p x ≡ true = h x (or-left _ _ (itself x)) in
@@ -30,7 +30,7 @@ Covers-from_test ops others e = record {
   live_stays = covers-live ops others e;
 }
 
-same_rows_itself : (rows : List Row) → same_rows rows rows ≡ true
+pub same_rows_itself : (rows : List Row) → same_rows rows rows ≡ true
 same_rows_itself rows =
     let h : list_all (among row_cmp rows) rows ≡ true = all_from_each (among row_cmp rows) (eq_by_cmp row_cmp) row_itself rows (λ r e. e) in
     λ i. h i && h i

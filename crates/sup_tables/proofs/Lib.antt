@@ -19,3 +19,7 @@ pub mod WorkedRows
 pub mod PlacedRows
 pub mod InPlaceLaws
 pub mod OpenedLaws
+pub mod OneForm
+pub mod StateJoins
+pub mod OneOperationLaws
+pub mod CountedRows

@@ -1,7 +1,7 @@
 //! Tables from a context and rows.
 ghost use Rattle.std.specs.Prelude.{◌≡◌, ◌↔◌, IsTrue, IfOk, IsErrOf};
 ghost use Rattle.sup_tables.specs.Rows.{AreInOrder};
-ghost use Rattle.sup_tables.specs.States.{HasDotsOf};
+ghost use Rattle.sup_tables.specs.States.{HasDotsOf, with_rows};
 
 use crate::fault::RowsFault;
 use crate::row::Row;
@@ -23,6 +23,7 @@ impl Tables {
     ) -> Result<Tables, RowsFault>
         ensures in_order { IfOk result (λ _. AreInOrder rows.items) }
         ensures covered { IfOk result (λ _. HasDotsOf context rows.items) }
+        ensures state { IfOk result (λ t. t ≡ with_rows context rows.items) }
         ensures rows { IfOk result (λ t. t.rows ≡ rows.items) }
         ensures context { IfOk result (λ t. t.context ≡ context) }
         ensures not_canonical { IsErrOf result RowsFault.NotCanonical ↔ ¬ AreInOrder rows.items }

@@ -5,6 +5,7 @@ ghost use Rattle.sup_causal.specs.Dots.{has};
 ghost use Rattle.sup_tables.specs.Operations.{Operation, Covers, NoClash};
 ghost use Rattle.sup_tables.specs.Stored.{stored_in, count_stored};
 ghost use Rattle.sup_tables.specs.States.{StandsFor, Knowledge, knowledge, together, together_laws};
+ghost use Rattle.sup_tables.specs.Joined.{join_states, covers_state};
 
 use crate::in_place::NotJoined;
 use crate::index::found_index;
@@ -26,6 +27,7 @@ impl Lattice for Tables {
     /// The tables that know what both know: they stand for the operations of both.
     fn joined(&self, alloc: Global, other: &Tables) -> Result<Tables, AllocError>
         ensures knowledge { IfOk result (λ t. knowledge t ≡ together (knowledge self.now) (knowledge other.now)) }
+        ensures state { IfOk result (λ t. t ≡ join_states self.now other.now) }
         ensures stands { IfOk result (λ t. (ops others : List Operation) → StandsFor self.now ops → StandsFor other.now others → NoClash (ops ++ others) → StandsFor t (ops ++ others)) }
     {
         let state = self.state.joined(alloc, &other.state)?;
@@ -47,6 +49,7 @@ impl Lattice for Tables {
     /// Whether the other tables know all that these know: whether their operations cover those of these.
     fn leq(&self, other: &Tables) -> bool
         ensures below { IsTrue result ↔ (together (knowledge self.now) (knowledge other.now) ≡ knowledge other.now) }
+        ensures value { result ≡ covers_state other.now self.now }
         ensures covers { (ops others : List Operation) → StandsFor self.now ops → StandsFor other.now others → NoClash (others ++ ops) → (IsTrue result ↔ Covers others ops) }
     {
         // For its clause: the other state is kept as a state is.
@@ -57,6 +60,7 @@ impl Lattice for Tables {
     /// Takes in what other tables know. An `Err` changes nothing.
     fn join_from(&mut self, alloc: Global, other: &Tables) -> Result<(), AllocError>
         ensures knowledge { OnOk result (knowledge self.new ≡ together (knowledge self.old) (knowledge other.now)) }
+        ensures state { OnOk result (self.new ≡ join_states self.old other.now) }
         ensures stands { OnOk result ((ops others : List Operation) → StandsFor self.old ops → StandsFor other.now others → NoClash (ops ++ others) → StandsFor self.new (ops ++ others)) }
         ensures err { OnErr result (self.new ≡ self.old) }
     {
@@ -117,6 +121,7 @@ impl Tables {
 
     /// The same tables once more.
     pub fn try_clone(&self, alloc: Global) -> Result<Tables, AllocError>
+        ensures state { IfOk result (λ copy. copy ≡ self.now) }
         ensures rows { IfOk result (λ copy. copy.rows ≡ self.now.rows) }
         ensures context { IfOk result (λ copy. (d : DotValue) → has copy.context d ≡ has self.now.context d) }
     {

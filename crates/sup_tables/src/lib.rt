@@ -9,6 +9,9 @@ mod in_place;
 mod index;
 mod joining;
 pub mod laws;
+pub mod lent;
+mod one_operation;
+mod putting;
 mod readers;
 mod removing;
 pub mod row;
@@ -18,6 +21,7 @@ mod table;
 pub mod tables;
 
 pub use fault::{PutFault, RowsFault};
+pub use lent::{LentEntry, LentRow};
 pub use row::{Entry, Row};
 pub use table::{Loser, Winner};
 pub use tables::Tables;

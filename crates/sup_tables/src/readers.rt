@@ -1,6 +1,7 @@
 //! What the tables answer: of the live entries of a key the one with the least dot wins.
-ghost use Rattle.std.specs.Prelude.{◌≡◌, IfOk, map};
+ghost use Rattle.std.specs.Prelude.{◌≡◌, All, IfOk, IfSome, map};
 ghost use Rattle.std.specs.Option.{option_map};
+ghost use Rattle.sup_causal.specs.Dots.{IsCounted};
 ghost use Rattle.sup_tables.specs.Rows.{members, children, names, AreInOrder};
 ghost use Rattle.sup_tables.specs.Readers.{winner, winners, losers};
 ghost use Rattle.sup_tables.specs.States.{HasDotsOf};
@@ -21,10 +22,13 @@ impl Tables {
         first_under(&self.stores().first, m)
     }
 
-    /// The dot and the value of a child's winner.
+    /// The dot and the value of a child's winner. The dot passes [`Dot::is_counted`].
     pub fn child(&self, id: &ChildId) -> Option<(Dot, &ChildSpec)>
-        ensures { option_map (λ r. child_row id.now r.0 r.1.now) result ≡ winner self.now.rows children id.now }
+        ensures winner { option_map (λ r. child_row id.now r.0 r.1.now) result ≡ winner self.now.rows children id.now }
+        ensures counted { IfSome result (λ r. IsCounted r.0) }
     {
+        // For its clause: the counters of known dots are in their limits.
+        self.context().counted();
         first_under(&self.stores().second.first, id)
     }
 
@@ -43,10 +47,14 @@ impl Tables {
         Ok(found)
     }
 
-    /// The children, each with its winner, by the bytes of the key. An `Err` where a growth was refused.
+    /// The children, each with its winner, by the bytes of the key; each dot passes [`Dot::is_counted`]. An `Err` where
+    /// a growth was refused.
     pub fn children(&self) -> Result<Vec<Winner<'_, ChildId, ChildSpec>>, AllocError>
-        ensures { IfOk result (λ found. map (λ w. child_row w.key.now w.dot.now w.value.now) found.items ≡ winners self.now.rows children) }
+        ensures winners { IfOk result (λ found. map (λ w. child_row w.key.now w.dot.now w.value.now) found.items ≡ winners self.now.rows children) }
+        ensures counted { IfOk result (λ found. All (λ w. IsCounted w.dot.now) found.items) }
     {
+        // For its clause: the counters of known dots are in their limits.
+        self.context().counted();
         let found = firsts_of(self.alloc, &self.stores().second.first)?;
         Ok(found)
     }

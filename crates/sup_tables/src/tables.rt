@@ -6,6 +6,7 @@ ghost use Rattle.sup_tables.specs.Stored.{AreCovered, stored, stored_in, count_s
 ghost use Rattle.sup_dot_store.specs.Contents.{stores_of, store_of, context_of};
 ghost use Rattle.sup_dot_store.specs.Index.{IsIndex};
 ghost use Rattle.sup_tables.specs.States.{StandsFor, IsKept};
+ghost use Rattle.sup_tables.specs.Joined.{IsTables, no_state};
 
 use crate::index::Index;
 use std::alloc::Global;
@@ -52,27 +53,35 @@ impl Model for Tables {
 impl Tables {
     /// The tables that know nothing.
     pub fn empty(alloc: Global) -> Tables
-        ensures { StandsFor result [] }
+        ensures stands { StandsFor result [] }
+        ensures state { result ≡ no_state }
     {
         let members = DotMap::new(alloc);
         let children = DotMap::new(alloc);
         let names = DotMap::new(alloc);
-        tables_of(
+        let tables = tables_of(
             alloc,
             members,
             children,
             names,
             CausalContext::empty(alloc),
             0,
-        )
+        );
+        // For its clause: tables are in their one form.
+        tables.context();
+        tables
     }
 
     /// The dots that the tables know.
     pub fn context(&self) -> &CausalContext
         ensures value { result.now ≡ self.now.context }
         ensures kept { IsKept self.now }
+        ensures tables { IsTables self.now }
     {
-        self.state.context()
+        let context = self.state.context();
+        // For its clause: a context's dots stand in order.
+        context.in_order();
+        context
     }
 
     // The stores, whose rows are the state's.

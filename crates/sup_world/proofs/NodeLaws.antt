@@ -29,7 +29,8 @@ use Rattle.sup_world.specs.Steps.{may_change, changed, changes, command_at}
 use Rattle.sup_world.specs.Stands.{NodeStandsFor, NodeBecomes, Gives, put_refusal}
 use Rattle.sup_world.specs.Issuing.{LacksMemory}
 use Rattle.sup_world.specs.Sound.{HasRow}
-use Rattle.sup_tables.proofs.GreatestLaws.{here_greatest, one_greatest, stood_next, added_greatest}
+use Rattle.sup_causal.proofs.GreatestLaws.{one_greatest}
+use Rattle.sup_tables.proofs.GreatestLaws.{here_greatest, stood_next, added_greatest}
 use Rattle.sup_world.proofs.RowSets.{row-append, row-one, some_same, none_some}
 
 -- a check that fails, and one that doesn't

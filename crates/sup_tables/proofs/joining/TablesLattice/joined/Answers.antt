@@ -3,6 +3,7 @@ use Rattle.sup_tables.specs.States.{knowledge, together}
 use Rattle.sup_tables.specs.Stored.{stored_in, count_stored}
 use Rattle.sup_tables.proofs.JoinLaws.{join_stands}
 use Rattle.sup_tables.proofs.MappedLaws.{knows_together}
+use Rattle.sup_tables.proofs.StateJoins.{joined_is}
 use Rattle.sup_tables.proofs.joining.TablesLattice.joined.Goals as goal
 
 pub returns-clause-knowledge : goal.returns-clause-knowledge
@@ -30,3 +31,6 @@ returns-clause-stands c ops others sa sb clear = join_stands c.args.self.now c.a
 
 pub invariant_of-tables-inside : goal.invariant_of-tables-inside
 invariant_of-tables-inside c = (c.in-Some.ensures.some ∙ ap (λ s. count_stored (stored_in s)) c.store_in.ensures.store, (tt, tt))
+
+pub returns-clause-state : goal.returns-clause-state
+returns-clause-state c = joined_is c.args.self.now c.args.other.now _ c.context.ensures.tables (returns-clause-knowledge c)
