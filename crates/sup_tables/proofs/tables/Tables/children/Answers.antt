@@ -2,7 +2,8 @@ use Rattle.std.proofs.Common.{ap, ◌∙◌}
 use Rattle.std.specs.Map.{lookup}
 use Rattle.std.specs.BTreeMap.{is_at as is_key}
 use Rattle.sup_causal.specs.Dots.{dot_cmp}
-use Rattle.sup_tables.specs.Stored.{Stored, stored_in, triple}
+use Rattle.sup_tables.specs.Rows.{children}
+use Rattle.sup_tables.specs.Stored.{Stored, stored_in, triple, child_row}
 use Rattle.sup_tables.proofs.StoredLaws.{IsOrderedStored}
 use Rattle.sup_tables.proofs.ReaderLaws.{children_won}
 use Rattle.sup_causal.specs.Dots.{has, IsCounted}
