@@ -36,7 +36,7 @@ impl Tables {
         ensures in_order { IfOk result (λ rows. AreInOrder (rows_lent rows.items)) }
         ensures covered { IfOk result (λ rows. HasDotsOf self.now.context (rows_lent rows.items)) }
     {
-        let store = self.state.store();
+        let store = self.stores();
         let mut rows = Vec::with_capacity(self.alloc, self.count)?;
         lend_rows(&mut rows, &store.first)?;
         lend_rows(&mut rows, &store.second.first)?;
