@@ -27,7 +27,7 @@ use Rattle.sup_tables.proofs.CoverLaws.{one_of_all, absorbed-true, same_rows-amo
 use Rattle.sup_tables.proofs.CoverTests.{all_from_each, same_rows_itself}
 use Rattle.sup_tables.proofs.OneForm.{has_among, has_rising, dots_again, same_parts, same_state, nothing_stands}
 
-pub has_both : (a b : State) (d : Dot) → has (join_states a b).context d ≡ (has a.context d || has b.context d)
+has_both : (a b : State) (d : Dot) → has (join_states a b).context d ≡ (has a.context d || has b.context d)
 has_both a b d =
     has_rising (a.context ++ b.context) d
     ∙ list_any-append (eq_by_cmp dot_cmp d) a.context b.context
