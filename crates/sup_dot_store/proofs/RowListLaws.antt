@@ -1,6 +1,6 @@
 -- The rows of functions under keys rise: by key, and under one key by dot.
 use Rattle.std.specs.Prelude.{◌≡◌, List, [], ◌∷◌, ◌++◌}
-use Rattle.std.proofs.Common.{◌∙◌, ap}
+use Rattle.std.proofs.Common.{◌∙◌, ap, sym, append_assoc}
 use Rattle.std.specs.declared.cmp.Ordering.{Ordering}
 use Rattle.std.specs.declared.cmp.Ordering.TheVariants.{Less, Equal}
 use Rattle.std.specs.Ordering.{ordering_then}
@@ -57,3 +57,12 @@ module _ {K V : Type 0} {cmp : K → K → Ordering} (total : IsTotalOrder cmp) 
   rows_rise [] s = tt
   rows_rise (e ∷ es) s =
       rising_append (row_cmp cmp) (rows_under e.0 e.1.values.entries) (rows_of es) (values_rise e.0 e.1.values.entries e.1.ordered) (rows_rise es s.1) (each_above e.0 e.1.values.entries es s.0)
+
+-- a copy of one row more is pushed
+pub row_pushed : {K V : Type 0} (key copy : K) (dot : Dot) (value copied : V) (rows pushed all : List (K × Dot × V)) (left es : List (Dot × V))
+    → pushed ≡ rows ++ (copy, dot, copied) ∷ [] → copy ≡ key → copied ≡ value → es ≡ (dot, value) ∷ left → rows ++ rows_under key es ≡ all → pushed ++ rows_under key left ≡ all
+row_pushed key copy dot value copied rows pushed all left es push same_key same_value step so_far =
+    ap (λ rs. rs ++ rows_under key left) (push ∙ (λ i. rows ++ (same_key i, dot, same_value i) ∷ []))
+    ∙ append_assoc rows ((key, dot, value) ∷ []) (rows_under key left)
+    ∙ ap (λ fs. rows ++ rows_under key fs) (sym step)
+    ∙ so_far

@@ -1,7 +1,12 @@
 -- A rising list of rows, cut from its end into the runs of its keys.
-use Rattle.std.specs.Prelude.{◌≡◌, ◌⊎◌, Bool, true, false, cond, List, [], ◌∷◌, ◌++◌, length, Some, refl}
+use Rattle.std.specs.Prelude.{◌≡◌, ◌⊎◌, ◌-◌, Bool, true, false, not, cond, List, [], ◌∷◌, ◌++◌, length, slice_get, Some, refl}
 use Rattle.std.proofs.Common.{sym, ap, ◌∙◌, subst, inl, inr, append_assoc, arith}
-use Rattle.std.proofs.lemmas.List.{append-nil}
+use Rattle.std.proofs.lemmas.List.{append-nil, length-append}
+use Rattle.std.proofs.lemmas.Option.{same_Some, slice_get-get_or}
+use Rattle.std.proofs.Math.Seq.{get_or-append_seam}
+use mathlib.Core.Bool.{false≢true, true≢false}
+use Rattle.sup_specs.specs.Exact.{IsExact}
+use Rattle.sup_dot_store.proofs.IndexLaws.{same}
 use Rattle.std.specs.declared.cmp.Ordering.{Ordering}
 use Rattle.std.specs.declared.cmp.Ordering.TheVariants.{Less, Equal, Greater}
 use Rattle.std.specs.Ordering.{ordering_then, is_eq, match_ordering}
@@ -149,3 +154,32 @@ module _ {K V : Type 0} where
   pub each_has_row : (test : K → Bool) (es : List (K × DotFun V)) (f : DotFun V) → AllByRecursion HasValue es → lookup test es ≡ Some f → HasRow (λ d (p : Unit {0}). get dot_cmp f.values d)
   each_has_row test [] f some found = absurd cc
   each_has_row test (e ∷ es) f some found = found_has_row test e es f some.0 (each_has_row test es f some.1) (test e.0) found
+
+-- the last element
+last_at : {X : Type 0} (xs : List X) (x : X) → slice_get (xs ++ x ∷ []) (length (xs ++ x ∷ []) - 1) ≡ Some x
+last_at xs x =
+    ap (slice_get (xs ++ x ∷ [])) (omega (arith, length-append xs (x ∷ [])))
+    ∙ slice_get-get_or (xs ++ x ∷ []) (length xs) x (omega (arith, length-append xs (x ∷ [])))
+    ∙ ap (λ y. Some y) (get_or-append_seam xs x [] x)
+
+is_last : {X : Type 0} (read rows front : List X) (x last : X) → Some last ≡ slice_get read (length read - 1) → read ≡ rows → rows ≡ front ++ x ∷ [] → last ≡ x
+is_last read rows front x last found is cut = same_Some _ _ (found ∙ ap (λ xs. slice_get xs (length xs - 1)) (is ∙ cut) ∙ last_at front x)
+
+not_false : (b : Bool) → not b ≡ false → b ≡ true
+not_false true e = refl
+not_false false e = absurd (true≢false e)
+
+not_true : (b : Bool) → not b ≡ true → b ≡ false
+not_true false e = refl
+not_true true e = absurd (false≢true e)
+
+-- the last row, where a test compares its key with another
+module _ {K V : Type 0} (cmp : K → K → Ordering) (equal : K → K → Bool) (matches : (x y : K) → equal x y ≡ is_eq (cmp x y)) (key : K) (read rows : List (K × Dot × V)) (last : K × Dot × V) (found : Some last ≡ slice_get read (length read - 1)) (is : read ≡ rows) (differ : Bool) (compared : differ ≡ not (equal last.0 key)) where
+  pub row_popped : IsExact cmp → differ ≡ false → (rest : List (K × Dot × V)) (k : K) (d : Dot) (v : V) → rows ≡ rest ++ (k, d, v) ∷ [] → rows ≡ rest ++ (key, d, v) ∷ []
+  row_popped exact e rest k d v cut =
+      let own : last ≡ (k, d, v) = is_last read rows rest (k, d, v) last found is cut in
+      cut ∙ ap (λ q. rest ++ (q, d, v) ∷ []) (sym (ap (λ r. r.0) own) ∙ same exact last.0 key (sym (matches last.0 key) ∙ not_false (equal last.0 key) (sym compared ∙ e)))
+
+  pub ends_off : differ ≡ true → EndsOff cmp key rows
+  ends_off e front row cut =
+      sym (matches row.0 key) ∙ ap (λ r. equal r.0 key) (sym (is_last read rows front row last found is cut)) ∙ not_true (equal last.0 key) (sym compared ∙ e)
