@@ -1,4 +1,5 @@
 pub mod Playing
 pub mod Fronts
+pub mod Takings
 pub mod Endings
 pub mod Requests

@@ -1,7 +1,9 @@
 -- How a command that reads an input ends, and what the writer has got then (this project).
-use Rattle.std.specs.Prelude.{◌≡◌, ℕ, ◌<◌, ◌≤◌, ◌⊎◌, List, length, take, Option, Result, Ok, Err, IfSome}
-use Rattle.std.specs.Io.KnownBytes.{Appends, Consumes, Keeps}
+use Rattle.std.specs.Prelude.{◌≡◌, ℕ, ◌<◌, ◌≤◌, ◌⊎◌, List, length, Option, Result, Ok, Err, IfSome}
+use Rattle.std.specs.Io.KnownBytes.{Consumes, Keeps}
 use Rattle.sup_program.specs.Faults.{status_at, fault_line_at}
+use Rattle.sup_program.specs.Tells.{Tells}
+use Rattle.sup_program.specs.declared.fault.Ended.{Ended}
 use Rattle.sup_program.specs.declared.fault.Fault.{Fault}
 use Rattle.sup_program.specs.declared.fault.Fault.TheVariants.{BadLine, BadInput, Device, OutOfMemory}
 
@@ -32,12 +34,25 @@ EndsAt {A} {X} job input before written (Err BadInput) = (1048576 < length input
 EndsAt {A} {X} job input before written (Err Device) = StopsAt job input before written
 EndsAt {A} {X} job input before written (Err OutOfMemory) = StopsAt job input before written
 
--- The status tells how the run ended, and the error writer has got that end's fault line or a front of it.
-abbrev pub Does : {A : Type 0} → Job A → Bytes → Bytes → Bytes → Bytes → Bytes → ℕ → Type 0
-Does job input before written errors_before errors_written status =
-    (end : Result (Unit {0}) Fault) × (count : ℕ)
-    × (status ≡ status_at end)
-    × Appends errors_before errors_written (take count (fault_line_at end))
+-- One byte more than an input may have was taken, exactly where the run ended with that; else no more than it may have.
+abbrev pub IsTaken : {X : Type 0} → Result X Fault → List ℕ → Type 0
+IsTaken (Ok x) taken = length taken ≤ 1048576
+IsTaken (Err (BadLine number)) taken = length taken ≤ 1048576
+IsTaken (Err BadInput) taken = length taken ≡ 1048577
+IsTaken (Err Device) taken = length taken ≤ 1048576
+IsTaken (Err OutOfMemory) taken = length taken ≤ 1048576
+
+-- What was taken from the reader fits the end of the run.
+abbrev pub TakesFor : {X : Type 0} → Result X Fault → Bytes → Bytes → Type 0
+TakesFor end before after = (taken : List ℕ) × IsTaken end taken × Consumes before after taken
+
+-- The status tells how the run ended, and the error writer was told of that end.
+abbrev pub Does : {A : Type 0} → Job A → Bytes → Bytes → Bytes → Bytes → Bytes → Bytes → Ended → Type 0
+Does job input left before written errors_before errors_written ended =
+    (end : Result (Unit {0}) Fault)
+    × (ended.status ≡ status_at end)
+    × Tells ended.told errors_before errors_written (fault_line_at end)
+    × TakesFor end input left
     × IfSome input (λ bytes. EndsAt job bytes before written end)
 
 -- At most so many bytes were taken from a reader.

@@ -48,3 +48,7 @@ of_input input.OutOfMemory = OutOfMemory
 abbrev pub of_script : ScriptFault → Fault
 of_script (script.BadLine number) = BadLine number
 of_script script.OutOfMemory = OutOfMemory
+
+-- the line on standard error where the words of the command line are no text
+abbrev pub no_text_line : List ℕ
+no_text_line = codes "error: invalid UTF-8 was detected in one or more arguments\n"

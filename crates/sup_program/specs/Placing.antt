@@ -10,6 +10,7 @@ use Rattle.sup_script.specs.Forms.{distinct_names_of}
 use Rattle.sup_script.specs.Script.{is_plain, words_of, numbered_lines, opened}
 use Rattle.sup_script.specs.Text.{text}
 use Rattle.sup_program.specs.Ends.{Bytes, Job, Does}
+use Rattle.sup_program.specs.declared.fault.Ended.{Ended}
 
 -- members NAME.., 0 to 16 distinct names
 unfoldable pub members_of : List Word → Option (List Name)
@@ -53,6 +54,6 @@ placement weight = record {
   PrintsFront = λ placing before written. (count : ℕ) × Appends before written (take count (placing_text weight placing));
 }
 
--- The status tells how the run ended, and the error writer has got that end's fault line or a front of it.
-abbrev pub Places : Weigher → Bytes → Bytes → Bytes → Bytes → Bytes → ℕ → Type 0
-Places weight input before written errors_before errors_written status = Does (placement weight) input before written errors_before errors_written status
+-- The status tells how the run ended, and the error writer was told of that end.
+abbrev pub Places : Weigher → Bytes → Bytes → Bytes → Bytes → Bytes → Bytes → Ended → Type 0
+Places weight input left before written errors_before errors_written ended = Does (placement weight) input left before written errors_before errors_written ended

@@ -3,6 +3,7 @@ use Rattle.std.specs.Prelude.{◌≡◌, ℕ, ◌⊎◌, List, [], ◌∷◌, �
 use Rattle.std.specs.Io.KnownBytes.{Appends}
 use Rattle.sup_placement.specs.Place.{Weigher}
 pub use Rattle.sup_program.specs.Ends.{Bytes, TakesAtMost}
+use Rattle.sup_program.specs.Tells.{Tells}
 use Rattle.sup_program.specs.Ends.{Job, Does, EndsAt}
 use Rattle.sup_script.specs.Script.{ScriptText, script_of}
 use Rattle.sup_script.specs.Text.{answer_text}
@@ -15,8 +16,7 @@ use Rattle.sup_world.specs.declared.step.Step.{Step}
 use Rattle.sup_world.specs.declared.answer.Answer.{Answer}
 use Rattle.sup_program.specs.declared.fault.Fault.{Fault}
 use Rattle.sup_program.specs.declared.fault.Fault.TheVariants.{OutOfMemory}
-use Rattle.sup_program.specs.declared.run.Ran.{Ran}
-use Rattle.sup_program.specs.declared.run.Ran.TheVariants.{Status}
+use Rattle.sup_program.specs.declared.fault.Ended.{Ended}
 
 -- From this world these steps may print this and leave that world.
 abbrev pub Plays : Weigher → World → List Step → List ℕ → World → Type 0
@@ -65,25 +65,20 @@ simulation weight = record {
 abbrev pub Ends : {X : Type 0} → Weigher → List ℕ → Bytes → Bytes → Result X Fault → Type 0
 Ends weight input before written end = EndsAt (simulation weight) input before written end
 
--- The status tells how the run ended, and the error writer has got that end's fault line or a front of it.
-abbrev pub Simulates : Weigher → Bytes → Bytes → Bytes → Bytes → Bytes → ℕ → Type 0
-Simulates weight input before written errors_before errors_written status = Does (simulation weight) input before written errors_before errors_written status
+-- The status tells how the run ended, and the error writer was told of that end.
+abbrev pub Simulates : Weigher → Bytes → Bytes → Bytes → Bytes → Bytes → Bytes → Ended → Type 0
+Simulates weight input left before written errors_before errors_written ended = Does (simulation weight) input left before written errors_before errors_written ended
 
--- Memory was refused before anything was read or written, and that was said.
-abbrev pub WantsMemory : Bytes → Bytes → ℕ → Type 0
-WantsMemory errors_before errors_written status =
-    (status ≡ status_of OutOfMemory)
-    × ((count : ℕ) × Appends errors_before errors_written (take count (fault_text OutOfMemory)))
+-- Memory was refused before anything was read or written, and that was told.
+abbrev pub WantsMemory : Bytes → Bytes → Ended → Type 0
+WantsMemory errors_before errors_written ended =
+    (ended.status ≡ status_of OutOfMemory) × Tells ended.told errors_before errors_written (fault_text OutOfMemory)
 
--- The words were refused, and something was said of that.
-abbrev pub TellsUsage : Bytes → Bytes → ℕ → Type 0
-TellsUsage errors_before errors_written status =
-    (status ≡ 2) × ((said : List ℕ) × Appends errors_before errors_written said)
+-- The words were refused, and this was told.
+abbrev pub TellsUsage : List ℕ → Bytes → Bytes → Ended → Type 0
+TellsUsage said errors_before errors_written ended = (ended.status ≡ 2) × Tells ended.told errors_before errors_written said
 
 -- The words are no command: the status and the error writer say so, or that memory was refused.
-abbrev pub Refuses : Bytes → Bytes → ℕ → Type 0
-Refuses errors_before errors_written status =
-    TellsUsage errors_before errors_written status ⊎ WantsMemory errors_before errors_written status
-
-abbrev pub status_in : Ran → ℕ
-status_in (Status status) = status
+abbrev pub Refuses : Bytes → Bytes → Ended → Type 0
+Refuses errors_before errors_written ended =
+    ((said : List ℕ) × TellsUsage said errors_before errors_written ended) ⊎ WantsMemory errors_before errors_written ended

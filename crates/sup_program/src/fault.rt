@@ -1,8 +1,8 @@
 //! The faults that end a run, and how they are told.
 
-ghost use Rattle.std.specs.Prelude.{◌≡◌, ℕ, take};
-ghost use Rattle.std.specs.Io.KnownBytes.{Appends};
+ghost use Rattle.std.specs.Prelude.{◌≡◌};
 ghost use Rattle.sup_program.specs.Faults.{fault_line_at, fault_text, of_input, of_script, status_at, status_of};
+ghost use Rattle.sup_program.specs.Tells.{Tells};
 
 use crate::input::InputFault;
 use crate::output::{DeviceFault, put_all};
@@ -84,38 +84,48 @@ impl Fault {
     }
 }
 
-/// Tells how a run ended, and answers its exit status.
-pub fn finish<E: Write>(errors: &mut E, end: Result<(), Fault>) -> u8
-    ensures status { result ≡ status_at end }
-    ensures told { (count : ℕ)
-        × Appends (E.contents errors.old) (E.contents errors.new) (take count (fault_line_at end)) }
+/// How a run ended.
+#[derive(Clone, Copy, Debug, PartialEq, Eq)]
+pub struct Ended {
+    /// The exit status.
+    pub status: u8,
+    /// Whether the error writer took all of the fault's line.
+    pub told: Result<(), DeviceFault>,
+}
+
+/// Tells how a run ended, and answers that with its exit status.
+pub fn finish<E: Write>(errors: &mut E, end: Result<(), Fault>) -> Ended
+    ensures status { result.status ≡ status_at end }
+    ensures told { Tells result.told (E.contents errors.old) (E.contents errors.new) (fault_line_at end) }
 {
     match end {
-        Ok(()) => 0,
-        Err(fault) => {
-            report(errors, fault);
-            fault.status()
-        }
+        Ok(()) => Ended {
+            status: 0,
+            told: Ok(()),
+        },
+        Err(fault) => Ended {
+            status: fault.status(),
+            told: report(errors, fault),
+        },
     }
 }
 
-/// Writes a fault's line, which takes no memory. A fault of this writer is passed over.
-pub fn report<E: Write>(errors: &mut E, fault: Fault)
-    ensures { (count : ℕ)
-        × Appends (E.contents errors.old) (E.contents errors.new) (take count (fault_text fault)) }
+/// Writes a fault's line, which takes no memory.
+pub fn report<E: Write>(errors: &mut E, fault: Fault) -> Result<(), DeviceFault>
+    ensures { Tells result (E.contents errors.old) (E.contents errors.new) (fault_text fault) }
 {
-    let _ = match fault {
+    match fault {
         Fault::BadLine(number) => report_line(errors, number),
         Fault::BadInput => put_all(errors, b"bad input\n"),
         Fault::Device => put_all(errors, b"device\n"),
         Fault::OutOfMemory => put_all(errors, b"out of memory\n"),
-    };
+    }
 }
 
-// Writes `bad line N`, or a front of it where the writer fails.
+// Writes `bad line N`.
 fn report_line<E: Write>(errors: &mut E, number: u64) -> Result<(), DeviceFault>
-    ensures { (count : ℕ) × Appends (E.contents errors.old) (E.contents errors.new)
-        (take count (fault_text (Fault.BadLine number))) }
+    ensures { Tells result (E.contents errors.old) (E.contents errors.new)
+        (fault_text (Fault.BadLine number)) }
 {
     let mut digits = Buffer::new();
     put_all(errors, b"bad line ")?;

@@ -1,7 +1,6 @@
 //! Writing whole texts.
 
-ghost use Rattle.std.specs.Prelude.{ℕ, OnOk, take};
-ghost use Rattle.std.specs.Io.KnownBytes.{Appends};
+ghost use Rattle.sup_program.specs.Tells.{Tells};
 
 use std::io::{ErrorKind, Write};
 use thiserror::Error;
@@ -13,9 +12,7 @@ pub struct DeviceFault;
 
 /// Writes all of the bytes. A fault leaves a front of them written.
 pub fn put_all<W: Write>(writer: &mut W, bytes: &[u8]) -> Result<(), DeviceFault>
-    ensures ok { OnOk result (Appends (W.contents writer.old) (W.contents writer.new) bytes.now) }
-    ensures front { (count : ℕ)
-        × Appends (W.contents writer.old) (W.contents writer.new) (take count bytes.now) }
+    ensures { Tells result (W.contents writer.old) (W.contents writer.new) bytes.now }
 {
     let mut done = 0;
     for _ in 0..u64::MAX {

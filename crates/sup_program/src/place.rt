@@ -1,13 +1,13 @@
 //! The command `place`: where each of some children is placed.
 
 ghost use Rattle.std.specs.Prelude.{◌≤◌, ◌+◌, length, IfSome};
-ghost use Rattle.sup_program.specs.Ends.{EndsAt, TakesAtMost};
+ghost use Rattle.sup_program.specs.Ends.{EndsAt, TakesAtMost, TakesFor};
 ghost use Rattle.sup_program.specs.Placing.{Places, placement};
 
 mod placing;
 mod text;
 
-use crate::fault::{Fault, finish};
+use crate::fault::{Ended, Fault, finish};
 use crate::input::{LIMIT, read_input};
 use crate::output::put_all;
 use placing::{Placing, read_placing};
@@ -16,17 +16,18 @@ use std::io::{Read, Write};
 use sup_placement::Weigh;
 use text::placing_text;
 
-/// Places the children that the reader names among the members that it names, and answers the exit
-/// status.
+/// Places the children that the reader names among the members that it names, and answers how
+/// that ended.
 pub fn place_children<G: Weigh, R: Read, W: Write, E: Write>(
     alloc: Global,
     weigher: &G,
     reader: &mut R,
     writer: &mut W,
     errors: &mut E,
-) -> u8
-    ensures places { Places G.weight_of (R.remaining reader.old) (W.contents writer.old)
-        (W.contents writer.new) (E.contents errors.old) (E.contents errors.new) result }
+) -> Ended
+    ensures places { Places G.weight_of (R.remaining reader.old) (R.remaining reader.new)
+        (W.contents writer.old) (W.contents writer.new) (E.contents errors.old)
+        (E.contents errors.new) result }
     ensures taken { TakesAtMost (LIMIT + 1) (R.remaining reader.old) (R.remaining reader.new) }
 {
     let end = place_input(alloc, weigher, reader, writer);
@@ -41,10 +42,9 @@ fn place_input<G: Weigh, R: Read, W: Write>(
 ) -> Result<(), Fault>
     ensures ends { IfSome (R.remaining reader.old) (λ bytes.
         EndsAt (placement G.weight_of) bytes (W.contents writer.old) (W.contents writer.new) result) }
-    ensures taken { TakesAtMost (LIMIT + 1) (R.remaining reader.old) (R.remaining reader.new) }
+    ensures taken { TakesFor result (R.remaining reader.old) (R.remaining reader.new) }
 {
-    let mut asked = 0;
-    let input = read_input(alloc, reader, &mut asked)?;
+    let input = read_input(alloc, reader)?;
     place_bytes(alloc, weigher, input.as_slice(), writer)
 }
 

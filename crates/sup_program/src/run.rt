@@ -1,14 +1,16 @@
 //! The program's run, from its words and input to its output and status.
 
-ghost use Rattle.std.specs.Prelude.{◌≡◌, ◌≢◌, ◌≤◌, ◌+◌, length, OnOk, IfErr, IfSome, map};
+ghost use Rattle.std.specs.Prelude.{◌≡◌, ◌≤◌, ◌+◌, length, OnOk, IfErr, IfSome, map};
 ghost use Rattle.sup_program.specs.CommandLine.{AsksFor, IsNoCommand, weight_of};
 ghost use Rattle.sup_program.specs.Faults.{IsOutside};
 ghost use Rattle.sup_world.specs.Stands.{WorldStandsFor};
 ghost use Rattle.sup_world.specs.Worlds.{World as Model};
 ghost use Rattle.sup_program.specs.Placing.{Places};
-ghost use Rattle.sup_program.specs.Run.{Ends, PlaysOne, PrintsAll, PrintsFront, Refuses, Simulates, TakesAtMost, WantsMemory, status_in};
+ghost use Rattle.sup_program.specs.Ends.{TakesAtMost, TakesFor};
+ghost use Rattle.sup_program.specs.Run.{Ends, PlaysOne, PrintsAll, PrintsFront, Refuses, Simulates, WantsMemory};
+ghost use Rattle.sup_program.specs.Runs.{Runs, status_in};
 
-use crate::fault::{Fault, finish, report};
+use crate::fault::{Ended, Fault, finish};
 use crate::input::{LIMIT, read_input};
 use crate::options::{Request, Task, Weighing, is_want_of_memory, read_words};
 use crate::output::put_all;
@@ -32,6 +34,7 @@ pub enum Ran {
 }
 
 /// Runs the program, and answers its exit status. The words are those after the program's name.
+/// Faults of the error writer are passed over.
 pub fn run<S: AsStr, R: Read, W: Write, E: Write>(
     alloc: Global,
     words: &[S],
@@ -39,20 +42,8 @@ pub fn run<S: AsStr, R: Read, W: Write, E: Write>(
     writer: &mut W,
     errors: &mut E,
 ) -> u8
-    // Words that ask for a task.
-    ensures simulates { (weighing : Weighing) → AsksFor (map S.text words.now) Task.Simulate weighing
-        → Simulates (weight_of weighing) (R.remaining reader.old) (W.contents writer.old)
-        (W.contents writer.new) (E.contents errors.old) (E.contents errors.new) result }
-    ensures places { (weighing : Weighing) → AsksFor (map S.text words.now) Task.Place weighing
-        → Places (weight_of weighing) (R.remaining reader.old) (W.contents writer.old)
-        (W.contents writer.new) (E.contents errors.old) (E.contents errors.new) result }
-    ensures taken { TakesAtMost (LIMIT + 1) (R.remaining reader.old) (R.remaining reader.new) }
-
-    // Other words.
-    ensures refused { IsNoCommand (map S.text words.now)
-        → Refuses (E.contents errors.old) (E.contents errors.new) result }
-    ensures unread { IsNoCommand (map S.text words.now) → reader.new ≡ reader.old }
-    ensures unwritten { IsNoCommand (map S.text words.now) → writer.new ≡ writer.old }
+    ensures { Runs R.remaining W.contents E.contents (map S.text words.now) reader.old reader.new
+        writer.old writer.new errors.old errors.new result }
 {
     match run_plain(alloc, words, reader, writer, errors) {
         Ran::Status(status) => status,
@@ -67,25 +58,39 @@ pub fn run_plain<S: AsStr, R: Read, W: Write, E: Write>(
     writer: &mut W,
     errors: &mut E,
 ) -> Ran
+    ensures { Runs R.remaining W.contents E.contents (map S.text words.now) reader.old reader.new
+        writer.old writer.new errors.old errors.new (status_in result) }
+{
+    let ended = run_words(alloc, words, reader, writer, errors);
+    Ran::Status(ended.status)
+}
+
+fn run_words<S: AsStr, R: Read, W: Write, E: Write>(
+    alloc: Global,
+    words: &[S],
+    reader: &mut R,
+    writer: &mut W,
+    errors: &mut E,
+) -> Ended
     // Words that ask for a task.
     ensures simulates { (weighing : Weighing) → AsksFor (map S.text words.now) Task.Simulate weighing
-        → Simulates (weight_of weighing) (R.remaining reader.old) (W.contents writer.old)
-        (W.contents writer.new) (E.contents errors.old) (E.contents errors.new) (status_in result) }
+        → Simulates (weight_of weighing) (R.remaining reader.old) (R.remaining reader.new)
+        (W.contents writer.old) (W.contents writer.new) (E.contents errors.old) (E.contents errors.new) result }
     ensures places { (weighing : Weighing) → AsksFor (map S.text words.now) Task.Place weighing
-        → Places (weight_of weighing) (R.remaining reader.old) (W.contents writer.old)
-        (W.contents writer.new) (E.contents errors.old) (E.contents errors.new) (status_in result) }
+        → Places (weight_of weighing) (R.remaining reader.old) (R.remaining reader.new)
+        (W.contents writer.old) (W.contents writer.new) (E.contents errors.old) (E.contents errors.new) result }
     ensures taken { TakesAtMost (LIMIT + 1) (R.remaining reader.old) (R.remaining reader.new) }
 
     // Other words.
     ensures refused { IsNoCommand (map S.text words.now)
-        → Refuses (E.contents errors.old) (E.contents errors.new) (status_in result) }
+        → Refuses (E.contents errors.old) (E.contents errors.new) result }
     ensures unread { IsNoCommand (map S.text words.now) → reader.new ≡ reader.old }
     ensures unwritten { IsNoCommand (map S.text words.now) → writer.new ≡ writer.old }
 {
     match read_words(alloc, words) {
-        Ok(request) => Ran::Status(perform(alloc, request, reader, writer, errors)),
-        Err(error) if is_want_of_memory(&error) => Ran::Status(want_of_memory(errors)),
-        Err(error) => Ran::Status(refuse(alloc, &error, errors)),
+        Ok(request) => perform(alloc, request, reader, writer, errors),
+        Err(error) if is_want_of_memory(&error) => want_of_memory(errors),
+        Err(error) => refuse(alloc, &error, errors),
     }
 }
 
@@ -96,13 +101,13 @@ fn perform<R: Read, W: Write, E: Write>(
     reader: &mut R,
     writer: &mut W,
     errors: &mut E,
-) -> u8
+) -> Ended
     ensures simulates { request.task ≡ Task.Simulate
-        → Simulates (weight_of request.weighing) (R.remaining reader.old) (W.contents writer.old)
-        (W.contents writer.new) (E.contents errors.old) (E.contents errors.new) result }
+        → Simulates (weight_of request.weighing) (R.remaining reader.old) (R.remaining reader.new)
+        (W.contents writer.old) (W.contents writer.new) (E.contents errors.old) (E.contents errors.new) result }
     ensures places { request.task ≡ Task.Place
-        → Places (weight_of request.weighing) (R.remaining reader.old) (W.contents writer.old)
-        (W.contents writer.new) (E.contents errors.old) (E.contents errors.new) result }
+        → Places (weight_of request.weighing) (R.remaining reader.old) (R.remaining reader.new)
+        (W.contents writer.old) (W.contents writer.new) (E.contents errors.old) (E.contents errors.new) result }
     ensures taken { TakesAtMost (LIMIT + 1) (R.remaining reader.old) (R.remaining reader.new) }
 {
     match request.weighing {
@@ -120,13 +125,13 @@ fn perform_with<G: Weigh, R: Read, W: Write, E: Write>(
     reader: &mut R,
     writer: &mut W,
     errors: &mut E,
-) -> u8
+) -> Ended
     ensures simulates { task ≡ Task.Simulate
-        → Simulates G.weight_of (R.remaining reader.old) (W.contents writer.old)
-        (W.contents writer.new) (E.contents errors.old) (E.contents errors.new) result }
+        → Simulates G.weight_of (R.remaining reader.old) (R.remaining reader.new)
+        (W.contents writer.old) (W.contents writer.new) (E.contents errors.old) (E.contents errors.new) result }
     ensures places { task ≡ Task.Place
-        → Places G.weight_of (R.remaining reader.old) (W.contents writer.old)
-        (W.contents writer.new) (E.contents errors.old) (E.contents errors.new) result }
+        → Places G.weight_of (R.remaining reader.old) (R.remaining reader.new)
+        (W.contents writer.old) (W.contents writer.new) (E.contents errors.old) (E.contents errors.new) result }
     ensures taken { TakesAtMost (LIMIT + 1) (R.remaining reader.old) (R.remaining reader.new) }
 {
     match task {
@@ -136,24 +141,23 @@ fn perform_with<G: Weigh, R: Read, W: Write, E: Write>(
 }
 
 // Tells why the words are refused, or that memory was.
-fn refuse<E: Write>(alloc: Global, error: &Error, errors: &mut E) -> u8
+fn refuse<E: Write>(alloc: Global, error: &Error, errors: &mut E) -> Ended
     ensures { Refuses (E.contents errors.old) (E.contents errors.new) result }
 {
     match format!(in alloc; "{error}") {
-        Ok(text) => {
-            let _ = put_all(errors, text.as_bytes());
-            USAGE
-        }
+        Ok(text) => Ended {
+            status: USAGE,
+            told: put_all(errors, text.as_bytes()),
+        },
         Err(_) => want_of_memory(errors),
     }
 }
 
 /// Tells that memory was refused.
-pub fn want_of_memory<E: Write>(errors: &mut E) -> u8
+pub fn want_of_memory<E: Write>(errors: &mut E) -> Ended
     ensures { WantsMemory (E.contents errors.old) (E.contents errors.new) result }
 {
-    report(errors, Fault::OutOfMemory);
-    Fault::OutOfMemory.status()
+    finish(errors, Err(Fault::OutOfMemory))
 }
 
 // Runs the script that the reader has.
@@ -163,9 +167,9 @@ fn simulate<G: Weigh, R: Read, W: Write, E: Write>(
     reader: &mut R,
     writer: &mut W,
     errors: &mut E,
-) -> u8
-    ensures simulates { Simulates G.weight_of (R.remaining reader.old) (W.contents writer.old)
-        (W.contents writer.new) (E.contents errors.old) (E.contents errors.new) result }
+) -> Ended
+    ensures simulates { Simulates G.weight_of (R.remaining reader.old) (R.remaining reader.new)
+        (W.contents writer.old) (W.contents writer.new) (E.contents errors.old) (E.contents errors.new) result }
     ensures taken { TakesAtMost (LIMIT + 1) (R.remaining reader.old) (R.remaining reader.new) }
 {
     let end = run_script(alloc, weigher, reader, writer);
@@ -180,10 +184,9 @@ fn run_script<G: Weigh, R: Read, W: Write>(
 ) -> Result<(), Fault>
     ensures ends { IfSome (R.remaining reader.old)
         (λ bytes. Ends G.weight_of bytes (W.contents writer.old) (W.contents writer.new) result) }
-    ensures taken { TakesAtMost (LIMIT + 1) (R.remaining reader.old) (R.remaining reader.new) }
+    ensures taken { TakesFor result (R.remaining reader.old) (R.remaining reader.new) }
 {
-    let mut asked = 0;
-    let input = read_input(alloc, reader, &mut asked)?;
+    let input = read_input(alloc, reader)?;
     run_bytes(alloc, weigher, input.as_slice(), writer)
 }
 

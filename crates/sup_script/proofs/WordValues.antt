@@ -1,6 +1,6 @@
--- What a stripped prefix and a parsed number are, as the definitions say it.
+-- What a stripped prefix, a parsed number and a name that was read are, as the definitions say it.
 use Rattle.std.proofs.Common.{◌≡◌, ℕ, ◌+◌, ◌<◌, ◌^◌, ◌∙◌, true, false, List, length, drop, refl, ap, arith, rules, option_map, Option, Some, None, Result}
-use Rattle.std.specs.Prelude.{◌≤◌, nat_le, Err}
+use Rattle.std.specs.Prelude.{◌≤◌, ◌≢◌, nat_le, Err}
 use Rattle.std.proofs.lemmas.Bool.Decides.{nat_tests}
 use Rattle.std.specs.Option.{MatchOption}
 use Rattle.std.specs.Result.{OkIff}
@@ -11,7 +11,11 @@ use Rattle.std.specs.Str.Pattern.{FindsTextPrefix}
 use Rattle.std.specs.Str.Parse.{ParsesUnsigned, digits_value}
 use Rattle.std.proofs.lemmas.Str.Pattern.{starts_text}
 use Rattle.std.proofs.lemmas.Str.Parse.{IsNumeralModel, numerals_by_value, parse_digits}
-use Rattle.sup_script.specs.Values.{is_numeral, number_of}
+use Rattle.sup_specs.specs.Texts.{text_fault}
+use Rattle.sup_specs.specs.declared.texts.Alphabet.TheVariants.{NodeBytes}
+use Rattle.sup_specs.specs.declared.texts.TextFault.{TextFault}
+use Rattle.sup_script.specs.Words.{Word}
+use Rattle.sup_script.specs.Values.{is_numeral, node_name_of, number_of, unless_faulty}
 use Rattle.sup_script.specs.Options.{value_after}
 
 pub stripped : (key word : List ℕ) (r : Option (Bor (List ℕ))) → MatchOption r (FindsTextPrefix key word None) (λ x. (n : ℕ) × FindsTextPrefix key word (Some n) × (x.now ≡ drop n word) × (length x.now + n ≡ length word)) → option_map (λ v. v.now) r ≡ value_after key word
@@ -37,3 +41,12 @@ unparsed {E} greatest word e fits p h =
 
     over : (n g : ℕ) → (n ≤ g → ⊥) → nat_le n g ≡ false
     over n g h = grind (arith, nat_tests)
+
+kept : (fault : Option TextFault) (word : Word) → unless_faulty fault word ≢ None → unless_faulty fault word ≡ Some word
+kept None word h = refl
+kept (Some fault) word h = absurd (h refl)
+
+-- a name is the word that it was read from
+pub named : (word : Word) → node_name_of word ≢ None → node_name_of word ≡ Some word
+unfolding node_name_of
+named word h = kept (text_fault NodeBytes 1 64 word) word h

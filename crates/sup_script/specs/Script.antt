@@ -1,9 +1,12 @@
 -- A script: its lines, and the number of the first bad one (this project's script format).
-use Rattle.std.specs.Prelude.{◌≡◌, ℕ, Bool, not, ◌&&◌, ◌||◌, ◌==◌, nat_le, List, [], ◌∷◌, length, slice_index, filter, Option, Some, None, Result, Ok, Err, if◌then◌else◌}
+use Rattle.std.specs.Prelude.{◌≡◌, ℕ, Bool, true, not, ◌&&◌, ◌||◌, ◌==◌, nat_le, List, [], ◌∷◌, length, slice_index, filter, Option, Some, None, Result, Ok, Err, if◌then◌else◌}
 use Rattle.std.specs.List.{slice_split, enumerate_from, list_all}
 use Rattle.sup_script.specs.Words.{Word, Name}
 use Rattle.sup_script.specs.Forms.{form_of, nodes_of}
 use Rattle.sup_world.specs.declared.step.Step.{Step}
+use Rattle.sup_script.specs.declared.script.fault.LineFault.{LineFault}
+use Rattle.sup_script.specs.declared.script.fault.LineFault.TheVariants.{Bad}
+use Rattle.sup_script.specs.declared.script.fault.LineFault.TheVariants as line_fault
 use Rattle.sup_script.specs.declared.script.fault.ScriptFault.{ScriptFault}
 use Rattle.sup_script.specs.declared.script.fault.ScriptFault.TheVariants.{BadLine, OutOfMemory}
 
@@ -63,6 +66,12 @@ ScriptText = List Name × List Step
 -- the script that the bytes say, or the number of the first bad line, 0 where all lines are skipped
 abbrev pub script_of : List ℕ → Result ScriptText ℕ
 script_of bytes = opened opening_of step_of (numbered_lines bytes)
+
+-- What was answered is what reading the line gives, unless memory was refused, to list its words or to what has a form. A line that isn't plain is always bad.
+abbrev pub ReadsLine : {X Y : Type 0} → (X → Y) → List ℕ → Result X LineFault → Option Y → Type 0
+ReadsLine view line (Ok x) read = read ≡ Some (view x)
+ReadsLine view line (Err Bad) read = read ≡ None
+ReadsLine view line (Err line_fault.OutOfMemory) read = is_plain line ≡ true
 
 -- What was answered is what reading gives, unless memory was refused.
 abbrev pub ReadsAll : {X Y : Type 0} → (X → Y) → Result X ScriptFault → Result Y ℕ → Type 0

@@ -1,5 +1,5 @@
 -- Words of a line, and what reading some of them may answer (this project).
-use Rattle.std.specs.Prelude.{◌≡◌, ℕ, List, map, Option, Some, None, Result, Ok, Err, option_and_then}
+use Rattle.std.specs.Prelude.{◌≡◌, ◌≢◌, ℕ, List, map, Option, Some, None, Result, Ok, Err, option_and_then}
 use Rattle.std.specs.Borrow.{Bor}
 use Rattle.sup_specs.specs.declared.texts.TextFault.{TextFault}
 use Rattle.sup_specs.specs.declared.texts.TextFault.TheVariants as text
@@ -18,11 +18,11 @@ Name = List ℕ
 abbrev pub texts : List (Bor Word) → List Word
 texts words = map (λ w. w.now) words
 
--- What was answered is what reading gives, unless memory was refused.
+-- What was answered is what reading gives, unless memory was refused to what has a form: what has none is always bad.
 abbrev pub Reads : {X Y : Type 0} → (X → Y) → Result X LineFault → Option Y → Type 0
 Reads view (Ok x) read = read ≡ Some (view x)
 Reads view (Err Bad) read = read ≡ None
-Reads view (Err OutOfMemory) read = Unit {0}
+Reads view (Err OutOfMemory) read = read ≢ None
 
 -- first one reading, then what depends on it
 infixl 10 ◌>>=◌

@@ -1,10 +1,8 @@
 //! The program `supctl`: scripts of a supervisor cluster, run on standard input.
 #![tactic(auto)]
 
-use std::env;
-use std::io;
 use std::process::ExitCode;
-use sup_program::words::run_with;
+use sup_program::words::{run_with, words_of};
 
 fn main(rt: HostRuntime) -> ExitCode {
     let status = run_with(
@@ -15,10 +13,4 @@ fn main(rt: HostRuntime) -> ExitCode {
         &mut rt.stderr(),
     );
     ExitCode::from(status)
-}
-
-// The words after the program's name.
-fn words_of(rt: &HostRuntime) -> io::Result<Vec<String>> {
-    let words = env::args(rt)?.skip(1).collect(rt.alloc())?;
-    Ok(words)
 }

@@ -2,7 +2,7 @@
 
 ghost use Rattle.std.specs.Prelude.{map};
 ghost use Rattle.sup_script.specs.Words.{Reads, texts};
-ghost use Rattle.sup_script.specs.Script.{ReadsAll, each_of};
+ghost use Rattle.sup_script.specs.Script.{ReadsAll, ReadsLine, each_of};
 ghost use Rattle.sup_program.specs.Placing.{id_in, members_in, members_of, placing_of};
 
 use std::alloc::Global;
@@ -65,7 +65,7 @@ fn read_id(alloc: Global, line: &[u8]) -> Result<ChildId, LineFault>
 
 #[tactic(auto, unfolding(crate::specs::Placing::members_in))]
 fn read_members_line(alloc: Global, line: &[u8]) -> Result<Vec<NodeName>, LineFault>
-    ensures { Reads (λ v. v.items) result (members_in line.now) }
+    ensures { ReadsLine (λ v. v.items) line.now result (members_in line.now) }
 {
     match plain_text(line) {
         Some(text) => {

@@ -1,4 +1,5 @@
-//! The lines of commands, each by its form.
+//! The lines of commands, each by its form. All of a line is judged before memory is taken for a
+//! part of it, so that a line of no form is a bad one whatever memory there is.
 
 ghost use Rattle.std.specs.Prelude.{◌≡◌, IfErr};
 ghost use Rattle.sup_script.specs.Words.{Reads, texts};
@@ -7,8 +8,8 @@ ghost use Rattle.sup_script.specs.Forms.{delete_of, info_of, join_of, leave_of, 
 use crate::script::LineFault;
 use crate::script::options::option_at;
 use crate::script::values::{
-    read_child_id, read_kind, read_node_name, read_registered_name, read_restart, read_shutdown,
-    read_text,
+    check_child_id, check_registered_name, check_text, read_child_id, read_kind, read_node_name,
+    read_registered_name, read_restart, read_shutdown, read_text,
 };
 use std::alloc::Global;
 use sup_specs::{ChildSpec, MemberInfo};
@@ -55,8 +56,9 @@ pub fn read_start(alloc: Global, words: &[&str]) -> Result<Step, LineFault>
     match words {
         [node, id, options @ ..] => {
             let node = read_node_name(node)?;
-            let id = read_child_id(alloc, id)?;
+            check_child_id(id)?;
             let spec = read_spec(alloc, options)?;
+            let id = read_child_id(alloc, id)?;
             let command = Command::Start { id, spec };
             Ok(Step::Act { node, command })
         }
@@ -72,8 +74,9 @@ pub fn read_replace(alloc: Global, words: &[&str]) -> Result<Step, LineFault>
     match words {
         [node, id, options @ ..] => {
             let node = read_node_name(node)?;
-            let id = read_child_id(alloc, id)?;
+            check_child_id(id)?;
             let spec = read_spec(alloc, options)?;
+            let id = read_child_id(alloc, id)?;
             let command = Command::Replace { id, spec };
             Ok(Step::Act { node, command })
         }
@@ -105,8 +108,9 @@ pub fn read_register(alloc: Global, words: &[&str]) -> Result<Step, LineFault>
     match words {
         [node, name, id] => {
             let node = read_node_name(node)?;
-            let name = read_registered_name(alloc, name)?;
+            check_registered_name(name)?;
             let id = read_child_id(alloc, id)?;
+            let name = read_registered_name(alloc, name)?;
             let command = Command::Register { name, id };
             Ok(Step::Act { node, command })
         }
@@ -135,10 +139,10 @@ fn read_info(alloc: Global, words: &[&str]) -> Result<MemberInfo, LineFault>
     ensures { Reads (λ info. info) result (info_of (texts words.now)) }
 {
     let (label, words) = option_at(words, "label=", "");
-    let label = read_text(alloc, label)?;
     if !words.is_empty() {
         return Err(LineFault::Bad);
     }
+    let label = read_text(alloc, label)?;
     Ok(MemberInfo { label })
 }
 
@@ -150,13 +154,14 @@ fn read_spec(alloc: Global, words: &[&str]) -> Result<ChildSpec, LineFault>
     let (arg, words) = option_at(words, "arg=", "");
     let (restart, words) = option_at(words, "restart=", "permanent");
     let (shutdown, words) = option_at(words, "shutdown=", "5000");
-    let kind = read_kind(alloc, kind)?;
-    let arg = read_text(alloc, arg)?;
+    check_text(arg)?;
     let restart = read_restart(restart)?;
     let shutdown = read_shutdown(shutdown)?;
     if !words.is_empty() {
         return Err(LineFault::Bad);
     }
+    let kind = read_kind(alloc, kind)?;
+    let arg = read_text(alloc, arg)?;
     Ok(ChildSpec {
         kind,
         arg,

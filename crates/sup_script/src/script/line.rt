@@ -3,7 +3,7 @@
 ghost use Rattle.std.specs.Prelude.{◌≡◌, IfErr};
 ghost use Rattle.sup_script.specs.Words.{Reads, texts};
 ghost use Rattle.sup_script.specs.Forms.{deliver_of, form_of, ship_of, show_of};
-ghost use Rattle.sup_script.specs.Script.{step_of};
+ghost use Rattle.sup_script.specs.Script.{ReadsLine, step_of};
 
 use crate::script::LineFault;
 use crate::script::commands::{
@@ -18,7 +18,7 @@ use sup_world::Step;
 /// The step that a line asks for.
 #[tactic(auto, unfolding(crate::specs::Script::step_of))]
 pub fn read_step(alloc: Global, line: &[u8]) -> Result<Step, LineFault>
-    ensures { Reads (λ step. step) result (step_of line.now) }
+    ensures { ReadsLine (λ step. step) line.now result (step_of line.now) }
 {
     match plain_text(line) {
         Some(text) => {

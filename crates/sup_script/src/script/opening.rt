@@ -1,9 +1,9 @@
 //! The first line of a script: its nodes.
 
-ghost use Rattle.std.specs.Prelude.{◌≡◌, ◌<◌, ◌≤◌};
+ghost use Rattle.std.specs.Prelude.{◌≡◌, ◌≢◌, IfErr, None};
 ghost use Rattle.sup_script.specs.Words.{Reads, texts};
 ghost use Rattle.sup_script.specs.Forms.{are_distinct, distinct_names_of, names_of, nodes_of};
-ghost use Rattle.sup_script.specs.Script.{opening_of};
+ghost use Rattle.sup_script.specs.Script.{ReadsLine, opening_of};
 
 use crate::script::LineFault;
 use crate::script::values::read_node_name;
@@ -17,7 +17,7 @@ pub const MOST_NODES: usize = 16;
 /// The nodes of a script, 1 to 16 distinct ones.
 #[tactic(auto, unfolding(crate::specs::Script::opening_of))]
 pub fn read_opening(alloc: Global, line: &[u8]) -> Result<Vec<NodeName>, LineFault>
-    ensures { Reads (λ v. v.items) result (opening_of line.now) }
+    ensures { ReadsLine (λ v. v.items) line.now result (opening_of line.now) }
 {
     match plain_text(line) {
         Some(text) => {
@@ -41,18 +41,33 @@ fn read_nodes(alloc: Global, words: &[&str]) -> Result<Vec<NodeName>, LineFault>
     read_distinct(alloc, words)
 }
 
-/// The names that the words are, no two of them equal.
+/// The names that the words are, no two of them equal. All words are judged before memory is taken.
 pub fn read_distinct(alloc: Global, words: &[&str]) -> Result<Vec<NodeName>, LineFault>
     ensures { Reads (λ v. v.items) result (distinct_names_of (texts words.now)) }
 {
-    let names = read_names(alloc, words)?;
-    if !are_distinct(names.as_slice()) {
+    check_names(words)?;
+    if !are_distinct(words) {
         return Err(LineFault::Bad);
     }
-    Ok(names)
+    read_names(alloc, words)
+}
+
+// Sixteen words at most, as below.
+#[tactic(auto, using(crate::proofs::WordValues::named))]
+fn check_names(words: &[&str]) -> Result<(), LineFault>
+    ensures names { Reads (λ _. texts words.now) result (names_of (texts words.now)) }
+    ensures bad { IfErr result (λ e. e ≡ LineFault.Bad) }
+{
+    let Some((word, others)) = words.split_first() else {
+        return Ok(());
+    };
+    read_node_name(word)?;
+    check_names(others)?;
+    Ok(())
 }
 
 fn read_names(alloc: Global, words: &[&str]) -> Result<Vec<NodeName>, LineFault>
+    requires { names_of (texts words.now) ≢ None }
     ensures { Reads (λ v. v.items) result (names_of (texts words.now)) }
 {
     let mut names = Vec::new(alloc);
@@ -62,12 +77,12 @@ fn read_names(alloc: Global, words: &[&str]) -> Result<Vec<NodeName>, LineFault>
     Ok(names)
 }
 
-// Sixteen names at most: each is looked for among the later ones.
-fn are_distinct(names: &[NodeName]) -> bool
-    ensures { result ≡ are_distinct names.now }
+// Sixteen words at most: each is looked for among the later ones.
+fn are_distinct(words: &[&str]) -> bool
+    ensures { result ≡ are_distinct (texts words.now) }
 {
-    let Some((name, others)) = names.split_first() else {
+    let Some((word, others)) = words.split_first() else {
         return true;
     };
-    !others.contains(name) && are_distinct(others)
+    !others.contains(word) && are_distinct(others)
 }

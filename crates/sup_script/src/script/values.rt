@@ -3,11 +3,13 @@
 ghost use Rattle.std.specs.Prelude.{◌≡◌, ◌<◌, ◌≤◌, ◌^◌, IfOk, IfErr};
 ghost use Rattle.std.specs.List.{list_all};
 ghost use Rattle.std.specs.Char.{is_ascii_digit};
+ghost use Rattle.sup_specs.specs.Texts.{text_fault};
 ghost use Rattle.sup_script.specs.Words.{Reads};
-ghost use Rattle.sup_script.specs.Values.{child_id_of, is_numeral, kind_of, node_name_of, number_of, registered_name_of, restart_of, shutdown_of, text_of};
+ghost use Rattle.sup_script.specs.Values.{child_id_of, is_numeral, kind_of, node_name_of, number_of, registered_name_of, restart_of, shutdown_of, text_of, unless_faulty};
 
 use crate::script::LineFault;
 use std::alloc::Global;
+use sup_specs::texts::{Alphabet, fault_in};
 use sup_specs::{ChildId, Kind, Name, NodeName, Restart, Shutdown, Text};
 
 /// The greatest number of milliseconds.
@@ -30,12 +32,30 @@ pub fn read_child_id(alloc: Global, word: &str) -> Result<ChildId, LineFault>
     Ok(ChildId::parse(alloc, word)?)
 }
 
+/// Whether a word is the id of a child, which takes no memory to tell.
+#[tactic(auto, unfolding(crate::specs::Values::child_id_of))]
+pub fn check_child_id(word: &str) -> Result<(), LineFault>
+    ensures id { Reads (λ _. word.now) result (child_id_of word.now) }
+    ensures bad { IfErr result (λ e. e ≡ LineFault.Bad) }
+{
+    check_visible(word, 1, 128)
+}
+
 /// The name for a child that a word is.
 #[tactic(auto, unfolding(crate::specs::Values::registered_name_of))]
 pub fn read_registered_name(alloc: Global, word: &str) -> Result<Name, LineFault>
     ensures { Reads (λ name. name) result (registered_name_of word.now) }
 {
     Ok(Name::parse(alloc, word)?)
+}
+
+/// Whether a word is a name for a child, which takes no memory to tell.
+#[tactic(auto, unfolding(crate::specs::Values::registered_name_of))]
+pub fn check_registered_name(word: &str) -> Result<(), LineFault>
+    ensures name { Reads (λ _. word.now) result (registered_name_of word.now) }
+    ensures bad { IfErr result (λ e. e ≡ LineFault.Bad) }
+{
+    check_visible(word, 1, 128)
 }
 
 /// The kind of a child that a word is.
@@ -52,6 +72,26 @@ pub fn read_text(alloc: Global, word: &str) -> Result<Text, LineFault>
     ensures { Reads (λ text. text) result (text_of word.now) }
 {
     Ok(Text::parse(alloc, word)?)
+}
+
+/// Whether a word is a text, which takes no memory to tell.
+#[tactic(auto, unfolding(crate::specs::Values::text_of))]
+pub fn check_text(word: &str) -> Result<(), LineFault>
+    ensures text { Reads (λ _. word.now) result (text_of word.now) }
+    ensures bad { IfErr result (λ e. e ≡ LineFault.Bad) }
+{
+    check_visible(word, 0, 1024)
+}
+
+fn check_visible(word: &str, least: usize, most: usize) -> Result<(), LineFault>
+    ensures text { Reads (λ _. word.now) result
+        (unless_faulty (text_fault Alphabet.Visible least most word.now) word.now) }
+    ensures bad { IfErr result (λ e. e ≡ LineFault.Bad) }
+{
+    match fault_in(word, Alphabet::Visible, least, most) {
+        Some(_) => Err(LineFault::Bad),
+        None => Ok(()),
+    }
 }
 
 /// The number that a word is: decimal digits without needless zeros.
