@@ -1,0 +1,71 @@
+//! A run of the program: what it is given, and what has to come of it.
+use crate::outcome::Outcome;
+use std::alloc::Global;
+use std::fs;
+use std::io::{self, ErrorKind};
+use std::rt::Files;
+use sup_program::run::{USAGE, run};
+
+#[derive(Drop)]
+pub(crate) struct Case {
+    words: String,
+    input: Vec<u8>,
+    pub(crate) wanted: Outcome,
+}
+
+impl Case {
+    /// Reads the files of the case of this name.
+    pub(crate) fn read(rt: &(impl Files + AllocGlobal), name: &str) -> io::Result<Case> {
+        Ok(Case {
+            words: read_text(rt, name, "args")?,
+            input: read_part(rt, name, "stdin")?,
+            wanted: Outcome {
+                status: read_text(rt, name, "status")?,
+                output: read_part(rt, name, "stdout")?,
+                errors: read_part(rt, name, "stderr")?,
+            },
+        })
+    }
+
+    /// Runs the program, and answers what came of it.
+    pub(crate) fn play(&self, alloc: Global) -> io::Result<Outcome> {
+        let words: Vec<&str> = self.words.lines().collect(alloc)?;
+        let mut reader = self.input.as_slice();
+        let mut output = Vec::new(alloc);
+        let mut errors = Vec::new(alloc);
+        let status = run(
+            alloc,
+            words.as_slice(),
+            &mut reader,
+            &mut output,
+            &mut errors,
+        );
+        // `clap` words why it refuses words: any reason will do, if nothing was read.
+        if status == USAGE && !errors.is_empty() && reader.len() == self.input.len() {
+            errors.clear();
+            errors.extend_from_slice(b"usage\n")?;
+        }
+        Ok(Outcome {
+            status: format!(in alloc; "{status}\n")?,
+            output,
+            errors,
+        })
+    }
+}
+
+// A file that isn't there is empty.
+fn read_part(rt: &(impl Files + AllocGlobal), name: &str, part: &str) -> io::Result<Vec<u8>> {
+    match fs::read(rt, path_of(rt.alloc(), name, part)?) {
+        Err(error) if error.kind() == ErrorKind::NotFound => Ok(Vec::new(rt.alloc())),
+        read => read,
+    }
+}
+
+fn read_text(rt: &(impl Files + AllocGlobal), name: &str, part: &str) -> io::Result<String> {
+    fs::read_to_string(rt, path_of(rt.alloc(), name, part)?)
+}
+
+fn path_of(alloc: Global, name: &str, part: &str) -> io::Result<String> {
+    let path = format!(in alloc; "{name}/{part}")?;
+    Ok(path)
+}

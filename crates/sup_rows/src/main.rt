@@ -1,0 +1,42 @@
+//! Plays the runs of the program that lie in `data/`, and prints for each whether it went as its files say.
+//!
+//! `cases` lists their names, one a line. The folder of that name has the files of the run: `args`, the words of the
+//! command line, one a line; `stdin`; and what has to come of them: `status`, `stdout` and `stderr`. Where
+//! `clap` words why the words are refused, `stderr` is `usage`. One of `stdin`, `stdout` and `stderr` that isn't there is
+//! empty.
+#![tactic(auto)]
+
+mod case;
+mod outcome;
+
+use case::Case;
+use std::alloc::Global;
+use std::fs;
+use std::io::{self, Write};
+use std::process::ExitCode;
+
+fn main(rt: HostRuntime) -> io::Result<ExitCode> {
+    let names = fs::read_to_string(&rt, "cases")?;
+    let mut status = ExitCode::SUCCESS;
+    for name in names.lines() {
+        let case = Case::read(&rt, name)?;
+        if !goes_well(rt.alloc(), name, &case, &mut rt.stdout())? {
+            status = ExitCode::FAILURE;
+        }
+    }
+    Ok(status)
+}
+
+// Plays a case, and tells how it went.
+fn goes_well<W: Write>(alloc: Global, name: &str, case: &Case, writer: &mut W) -> io::Result<bool> {
+    let outcome = case.play(alloc)?;
+    let Some(difference) = case.wanted.difference(&outcome) else {
+        writeln!(writer, "{name} ok")?;
+        return Ok(true);
+    };
+    writeln!(writer, "{name} differs in {}, wanted:", difference.part)?;
+    writer.write_all(difference.wanted)?;
+    writer.write_all(b"came:\n")?;
+    writer.write_all(difference.came)?;
+    Ok(false)
+}
