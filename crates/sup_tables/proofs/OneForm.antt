@@ -1,5 +1,5 @@
 -- States in their one form: those that know the same are equal.
-use Rattle.std.specs.Prelude.{◌≡◌, Bool, true, not, List, [], ◌++◌, filter, Option, Some, None, refl}
+use Rattle.std.specs.Prelude.{◌≡◌, true, not, List, [], filter, Option, Some, None, refl}
 use Rattle.std.proofs.Common.{sym, ap, ◌∙◌}
 use mathlib.Core.Bool.{true≢false}
 use mathlib.Core.Path.{fun_ext}

@@ -1,5 +1,5 @@
 -- The join of two states as a function of both.
-use Rattle.std.specs.Prelude.{◌≡◌, ◌↔◌, Bool, true, false, ◌||◌, ◌&&◌, cond, List, ◌++◌, Option, Some, None, IsTrue, refl}
+use Rattle.std.specs.Prelude.{◌≡◌, ◌↔◌, Bool, true, false, ◌||◌, ◌&&◌, cond, ◌++◌, Option, Some, None, IsTrue, refl}
 use Rattle.std.specs.List.{list_all}
 use Rattle.std.specs.Ordering.{eq_by_cmp}
 use Rattle.std.proofs.Common.{sym, ap, ◌∙◌, subst}

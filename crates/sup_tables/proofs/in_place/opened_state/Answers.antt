@@ -1,4 +1,4 @@
-use Rattle.std.proofs.Common.{◌≡◌, ◌≤◌, ◌∙◌, sym, ap, subst, arith, inl, inr}
+use Rattle.std.proofs.Common.{◌∙◌, sym, ap, subst, arith, inl, inr}
 use Rattle.sup_tables.specs.Stored.{stored, stored_in, count_stored, AreCovered}
 use Rattle.sup_tables.specs.InPlace.{stored_open}
 use Rattle.sup_tables.proofs.in_place.opened_state.Goals as goal
