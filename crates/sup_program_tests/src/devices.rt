@@ -1,7 +1,6 @@
 //! Readers, writers and memory that fail.
 
-use crate::runs::{OUTPUT, SCRIPT};
-use sup_program::run::run;
+use crate::runs::{OUTPUT, SCRIPT, expect_run, simulate};
 use std::alloc::Global;
 use std::io::{self, ErrorKind, Read, Write};
 
@@ -72,72 +71,41 @@ impl Write for Short {
     }
 }
 
+// A script, given a byte at a time.
+fn byte_by_byte(interrupts: u32, ends: bool) -> Slow<'static> {
+    Slow {
+        bytes: SCRIPT,
+        interrupts,
+        ends,
+    }
+}
+
 #[test]
 fn a_failing_reader_is_a_device_fault(rt: HostRuntime) {
-    for interrupts in [0, 1000, 4_000_000] {
-        let mut reader = Slow {
-            bytes: SCRIPT,
-            interrupts,
-            ends: false,
-        };
-        let mut writer = Vec::new(rt.alloc());
-        let mut errors = Vec::new(rt.alloc());
-        let status = run(
-            rt.alloc(),
-            &["simulate"],
-            &mut reader,
-            &mut writer,
-            &mut errors,
-        );
-        assert!(rt; status == 3 && writer.is_empty());
-        assert!(rt; errors.as_slice() == b"device\n".as_slice());
-        let left = reader.interrupts;
-        assert!(rt;
-            left == 0 || left == 4_000_000 - 2_097_154,
-            "{left} interrupts are left"
-        );
+    for (interrupts, left) in [(0, 0), (1000, 0), (4_000_000, 4_000_000 - 2_097_154)] {
+        let mut reader = byte_by_byte(interrupts, false);
+        expect_run(&rt, &mut reader, 3, b"", b"device\n");
+        assert!(rt; reader.interrupts == left);
     }
 }
 
 #[test]
 fn an_interrupted_reader_is_asked_again(rt: HostRuntime) {
-    let mut reader = Slow {
-        bytes: SCRIPT,
-        interrupts: 1000,
-        ends: true,
-    };
-    let mut writer = Vec::new(rt.alloc());
-    let mut errors = Vec::new(rt.alloc());
-    let status = run(
-        rt.alloc(),
-        &["simulate"],
-        &mut reader,
-        &mut writer,
-        &mut errors,
-    );
-    assert!(rt; status == 0 && errors.is_empty() && writer.as_slice() == OUTPUT);
+    expect_run(&rt, &mut byte_by_byte(1000, true), 0, OUTPUT, b"");
 }
 
 #[test]
 fn what_was_written_before_a_fault_stays(rt: HostRuntime) {
     for room in 0..OUTPUT.len() + 1 {
-        let mut reader = SCRIPT;
         let mut writer = Short::new(rt.alloc(), room);
         let mut errors = Vec::new(rt.alloc());
-        let status = run(
-            rt.alloc(),
-            &["simulate"],
-            &mut reader,
-            &mut writer,
-            &mut errors,
-        );
-        let (wanted, line) = if room == OUTPUT.len() {
-            (0, b"".as_slice())
-        } else {
-            (3, b"device\n".as_slice())
-        };
-        assert!(rt; status == wanted && errors.as_slice() == line);
+        let status = simulate(rt.alloc(), &mut SCRIPT, &mut writer, &mut errors);
         assert!(rt; writer.bytes.as_slice() == &OUTPUT[..room]);
+        if room == OUTPUT.len() {
+            assert!(rt; status == 0 && errors.is_empty());
+        } else {
+            assert!(rt; status == 3 && errors.as_slice() == b"device\n".as_slice());
+        }
     }
 }
 
@@ -148,13 +116,7 @@ fn faults_of_the_error_writer_are_passed_over(rt: HostRuntime) {
         let mut reader = b"\n\n\n\n\n\n\n\n\n\n\nshow\n".as_slice();
         let mut writer = Vec::new(rt.alloc());
         let mut errors = Short::new(rt.alloc(), room);
-        let status = run(
-            rt.alloc(),
-            &["simulate"],
-            &mut reader,
-            &mut writer,
-            &mut errors,
-        );
+        let status = simulate(rt.alloc(), &mut reader, &mut writer, &mut errors);
         assert!(rt; status == 1 && writer.is_empty());
         assert!(rt; errors.bytes.as_slice() == &line[..room]);
     }
@@ -163,18 +125,11 @@ fn faults_of_the_error_writer_are_passed_over(rt: HostRuntime) {
 // Run with each allocation refused in turn: this test takes no memory of its own.
 #[test]
 fn a_refused_allocation_ends_the_run_or_changes_nothing(rt: HostRuntime) {
-    let mut reader = SCRIPT;
     let mut printed = [0u8; 64];
     let mut told = [0u8; 32];
     let mut writer = printed.as_mut_slice();
     let mut errors = told.as_mut_slice();
-    let status = run(
-        rt.alloc(),
-        &["simulate"],
-        &mut reader,
-        &mut writer,
-        &mut errors,
-    );
+    let status = simulate(rt.alloc(), &mut SCRIPT, &mut writer, &mut errors);
     let written = 64usize.saturating_sub(writer.len());
     let told_count = 32usize.saturating_sub(errors.len());
     if status == 0 {

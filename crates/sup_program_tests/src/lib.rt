@@ -1,22 +1,13 @@
-//! The tests of the program: what it writes, and how it ends. They stand in a crate of their own, since a crate with
-//! tests is proved twice.
+//! The tests of the program that are no worked rows: devices and memory that fail, long inputs, and the texts of answers
+//! that no short script gives. The crate `sup_rows` has the others. A crate with tests is proved twice, once without and
+//! once with them: here there is nothing to prove without them.
 #![tactic(auto)]
 
 #[cfg(test)]
+mod answers;
+#[cfg(test)]
 mod devices;
 #[cfg(test)]
-mod first_path;
-#[cfg(test)]
-mod placing;
-#[cfg(test)]
-mod rows;
+mod inputs;
 #[cfg(test)]
 mod runs;
-#[cfg(test)]
-mod tables;
-#[cfg(test)]
-mod texts;
-#[cfg(test)]
-mod usage;
-#[cfg(test)]
-mod weighers;

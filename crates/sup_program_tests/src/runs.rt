@@ -1,36 +1,33 @@
-//! Runs of the program, and what they have to give.
-
+//! Runs of `simulate` over given devices, and what they have to give.
 use std::alloc::Global;
+use std::io::{Read, Write};
 use std::process::Abort;
 use sup_program::run::run;
 
 /// A script with skipped lines, and what it prints.
-pub const SCRIPT: &[u8] = b"# two nodes\nnodes a b\n\nshow b\nshow z\nshow a\n";
+pub(crate) const SCRIPT: &[u8] = b"# two nodes\nnodes a b\n\nshow b\nshow z\nshow a\n";
 
-pub const OUTPUT: &[u8] = b"node b boot 1\nrefused 3 UnknownNode\nnode a boot 1\n";
+pub(crate) const OUTPUT: &[u8] = b"node b boot 1\nrefused 3 UnknownNode\nnode a boot 1\n";
 
-/// A run, and what it has to give.
-#[derive(Clone, Copy)]
-pub struct Case<'a> {
-    pub name: &'a str,
-    pub input: &'a [u8],
-    pub output: &'a [u8],
-    pub errors: &'a [u8],
-    pub status: u8,
+pub(crate) fn simulate<R: Read, W: Write, E: Write>(
+    alloc: Global,
+    reader: &mut R,
+    writer: &mut W,
+    errors: &mut E,
+) -> u8 {
+    run(alloc, &["simulate"], reader, writer, errors)
 }
 
-// Runs `simulate` without options.
-pub fn check(rt: &impl Abort, alloc: Global, case: &Case) {
-    check_words(rt, alloc, &["simulate"], case);
-}
-
-pub fn check_words(rt: &impl Abort, alloc: Global, words: &[&str], case: &Case) {
-    let mut reader = case.input;
-    let mut writer = Vec::new(alloc);
-    let mut errors = Vec::new(alloc);
-    let status = run(alloc, words, &mut reader, &mut writer, &mut errors);
-    let name = case.name;
-    assert!(rt; status == case.status, "{name}: status {status}");
-    assert!(rt; writer.as_slice() == case.output, "{name}: output");
-    assert!(rt; errors.as_slice() == case.errors, "{name}: errors");
+/// Expects what a run over this reader writes, and its status.
+pub(crate) fn expect_run<R: Read>(
+    rt: &(impl Abort + AllocGlobal),
+    reader: &mut R,
+    status: u8,
+    output: &[u8],
+    errors: &[u8],
+) {
+    let mut written = Vec::new(rt.alloc());
+    let mut told = Vec::new(rt.alloc());
+    assert!(rt; simulate(rt.alloc(), reader, &mut written, &mut told) == status);
+    assert!(rt; written.as_slice() == output && told.as_slice() == errors);
 }

@@ -1,47 +1,14 @@
-//! What each answer prints.
+//! The text of each answer.
 
 use std::alloc::Global;
 use std::process::Abort;
 use std::test::Fail;
-use sup_causal::Dot;
 use sup_script::answer_text;
-use sup_specs::NodeName;
-use sup_world::{Answer, Dots, Letter, LetterKind, Refusal};
+use sup_world::{Answer, Dots, Refusal};
 
 fn check_text(rt: &impl Abort, alloc: Global, answer: &Answer, wanted: &str) -> Result<(), Fail> {
     let text = answer_text(alloc, answer)?;
     assert!(rt; text.as_str() == wanted, "{text}");
-    Ok(())
-}
-
-#[test]
-fn replies_print_their_dots(rt: HostRuntime) -> Result<(), Fail> {
-    let alloc = rt.alloc();
-    let a = NodeName::parse("a")?;
-    let b = NodeName::parse("b")?;
-    let first = Dot {
-        counter: 1,
-        node: a,
-    };
-    let second = Dot {
-        counter: 2,
-        node: b,
-    };
-    let none = Answer::Removed(Dots::new(Vec::new(alloc)));
-    let both = Answer::Removed(Dots::new(vec![in alloc; first, second]?));
-    check_text(&rt, alloc, &Answer::Added(first), "ok (a,1)\n")?;
-    check_text(&rt, alloc, &none, "ok removed\n")?;
-    check_text(&rt, alloc, &both, "ok removed (a,1) (b,2)\n")?;
-    check_text(&rt, alloc, &Answer::Absorbed, "ok absorbed\n")?;
-    check_text(&rt, alloc, &Answer::Known, "ok known\n")?;
-    let letter = Letter {
-        from: a,
-        k: 1,
-        to: b,
-        kind: LetterKind::Whole(3),
-    };
-    let sent = "ok sent\n  sent a 1 to b delta 3 whole\n";
-    check_text(&rt, alloc, &Answer::Sent(letter), sent)?;
     Ok(())
 }
 
@@ -67,4 +34,11 @@ fn refusals_print_their_number_and_name(rt: HostRuntime) -> Result<(), Fail> {
         check_text(&rt, rt.alloc(), &Answer::Refused(refusal), line)?;
     }
     Ok(())
+}
+
+// No step removes nothing, but an answer may say so.
+#[test]
+fn a_removal_of_no_dots_prints_none(rt: HostRuntime) -> Result<(), Fail> {
+    let none = Answer::Removed(Dots::new(Vec::new(rt.alloc())));
+    check_text(&rt, rt.alloc(), &none, "ok removed\n")
 }

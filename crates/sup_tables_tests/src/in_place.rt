@@ -1,0 +1,141 @@
+//! Joins in place beside joins by a merge: the plain way and the quick one give the same tables. `joined` is a merge.
+//! `join_from` goes in place where the other tables know at most an eighth as many dots.
+use crate::acts::{absorb, copy, delete, empty, join, merged, register, replace, start};
+use crate::reading::tables;
+use crate::seen::{Shown, expect_same, expect_shown};
+use std::process::Abort;
+use sup_tables::Tables;
+
+// Expects that joins with other tables, which know few dots beside these, give what merges give: the first one, which
+// looks for the rows' dots, and the next one, which knows them.
+fn expect_as_merged(rt: &(impl Abort + AllocGlobal), mine: &Tables, other: &Tables) {
+    assert!(rt; other.context().len() <= mine.context().len() / 8);
+    let merged = merged(rt, mine, other);
+    let mut joined = copy(rt, mine);
+    for _ in 0..2 {
+        absorb(rt, &mut joined, other);
+        expect_same(rt, &joined, &merged);
+    }
+}
+
+// What `many` shows.
+const MANY: [Shown<'static>; 5] = [
+    ("member", "many", "many", 27, "zone"),
+    ("child", "w", "many", 23, "one"),
+    ("child", "y", "many", 24, "two"),
+    ("loser", "y", "many", 25, "three"),
+    ("name", "m", "many", 26, "w"),
+];
+
+// Tables that know 27 dots, beside which a short story is small: a winner in each table, a loser, and what was removed.
+fn many(rt: &(impl Abort + AllocGlobal)) -> Tables {
+    let mut many = empty(rt);
+    for _ in 0..22 {
+        start(rt, &mut many, "many", "w", "one");
+    }
+    drop(delete(rt, &mut many, "w"));
+    for (id, kind) in [("w", "one"), ("y", "two"), ("y", "three")] {
+        start(rt, &mut many, "many", id, kind);
+    }
+    register(rt, &mut many, "many", "m", "w");
+    join(rt, &mut many, "many", "zone");
+    expect_shown(rt, &many, &MANY);
+    many
+}
+
+// Lets one of two nodes act, as a number from 0 to 7 says.
+fn act(rt: &(impl Abort + AllocGlobal), a: &mut Tables, b: &mut Tables, choice: u32) {
+    match choice {
+        0 => start(rt, a, "a", "x", "one"),
+        1 => start(rt, b, "b", "x", "two"),
+        2 => drop(replace(rt, a, "a", "x", "three")),
+        3 => drop(delete(rt, b, "x")),
+        4 => register(rt, a, "a", "n", "x"),
+        5 => join(rt, b, "b", "zone"),
+        6 => absorb(rt, a, b),
+        _ => absorb(rt, b, a),
+    }
+}
+
+// Two nodes that did what the digits of a number to the base 8 say.
+fn after(rt: &(impl Abort + AllocGlobal), story: u32) -> (Tables, Tables) {
+    let mut a = empty(rt);
+    let mut b = empty(rt);
+    for choice in [story % 8, story / 8 % 8, story / 64] {
+        act(rt, &mut a, &mut b, choice);
+    }
+    (a, b)
+}
+
+// Expects two tables to be taken in alike by ones that know many dots beside, the two's own among them.
+fn expect_alike(rt: &(impl Abort + AllocGlobal), many: &Tables, a: &Tables, b: &Tables) {
+    let more_than_a = merged(rt, a, many);
+    expect_as_merged(rt, &more_than_a, b);
+    expect_as_merged(rt, &merged(rt, b, many), a);
+    expect_as_merged(rt, &more_than_a, &empty(rt));
+    expect_as_merged(rt, many, a);
+}
+
+#[test]
+fn in_place_and_by_a_merge_all_short_stories_end_alike(rt: HostRuntime) {
+    let many = many(&rt);
+    for story in 0..512 {
+        let (a, b) = after(&rt, story);
+        expect_alike(&rt, &many, &a, &b);
+    }
+}
+
+// Tables with one name, under the dot (a,1).
+fn with_name(rt: &(impl Abort + AllocGlobal), id: &str) -> Tables {
+    tables(rt, &[("a", 1)], &[("name", "n", "a", 1, id)])
+}
+
+// Expects that tables with one name, for the first child, and many dots beside show it for child a once the other name
+// has come.
+fn expect_a_stays(rt: &(impl Abort + AllocGlobal), first: &str, other: &str) {
+    let mut mine = merged(rt, &with_name(rt, first), &many(rt));
+    let other = with_name(rt, other);
+    expect_as_merged(rt, &mine, &other);
+    absorb(rt, &mut mine, &other);
+    let [member, w, y, lost, name] = MANY;
+    let named = ("name", "n", "a", 1, "a");
+    expect_shown(rt, &mine, &[member, w, y, lost, name, named]);
+}
+
+// Of two children for one name under one dot, which no run makes, the lesser stays, whichever comes first.
+#[test]
+fn a_lesser_value_comes_in_as_by_a_merge(rt: HostRuntime) {
+    expect_a_stays(&rt, "b", "a");
+    expect_a_stays(&rt, "a", "b");
+}
+
+#[test]
+fn a_dot_under_two_keys_comes_in_as_by_a_merge(rt: HostRuntime) {
+    let mut many = many(&rt);
+    let rows = [("name", "k", "a", 1, "x"), ("name", "n", "a", 1, "x")];
+    let twice = tables(&rt, &[("a", 1)], &rows);
+    expect_as_merged(&rt, &many, &twice);
+    absorb(&rt, &mut many, &twice);
+    assert!(rt; many.row_count() == 7);
+    expect_as_merged(&rt, &many, &twice);
+    expect_as_merged(&rt, &many, &empty(&rt));
+}
+
+#[test]
+fn few_rows_join_many(rt: HostRuntime) {
+    let mut a = empty(&rt);
+    let mut b = empty(&rt);
+    for _ in 0..24 {
+        start(&rt, &mut a, "a", "x", "one");
+    }
+    start(&rt, &mut b, "b", "y", "two");
+    register(&rt, &mut b, "b", "n", "y");
+    absorb(&rt, &mut a, &b);
+    assert!(rt; a.row_count() == 26);
+    drop(delete(&rt, &mut a, "x"));
+    let left = [("child", "y", "b", 1, "two"), ("name", "n", "b", 2, "y")];
+    expect_shown(&rt, &a, &left);
+    drop(delete(&rt, &mut b, "y"));
+    absorb(&rt, &mut a, &b);
+    expect_shown(&rt, &a, &[]);
+}
