@@ -11,3 +11,5 @@ mod devices;
 mod inputs;
 #[cfg(test)]
 mod runs;
+#[cfg(test)]
+mod words;
