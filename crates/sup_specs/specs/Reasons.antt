@@ -1,5 +1,5 @@
 -- The texts of exit reasons (this project's script format; the reasons are those of Erlang/OTP's supervisor manual).
-use Rattle.std.specs.Prelude.{Bool, nat_eq, drop, ◌++◌, is_some, Option, Some, None, if◌then◌else◌, codes}
+use Rattle.std.specs.Prelude.{nat_eq, drop, ◌++◌, is_some, Option, Some, None, if◌then◌else◌, codes}
 use Rattle.std.specs.Str.{bytes_eq}
 use Rattle.std.specs.List.{starts_with}
 use Rattle.sup_specs.specs.declared.child.ExitReason.{ExitReason}

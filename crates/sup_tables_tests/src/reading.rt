@@ -1,6 +1,6 @@
 //! Tables that are made of rows.
 use crate::given::{child_id, dot, dots, labelled, node, registered, spec};
-use crate::seen::{Shown, expect_rows, knows};
+use crate::seen::{Shown, expect_lent, expect_rows, knows};
 use std::process::Abort;
 use sup_causal::CausalContext;
 use sup_specs::MAX;
@@ -64,6 +64,7 @@ fn rows_in_order_are_read_and_come_back(rt: HostRuntime) {
     ];
     let read = tables(&rt, &[("a", 1), ("b", 1), ("a", 2)], &rows);
     expect_rows(&rt, &read, &rows);
+    expect_lent(&rt, &read, &rows);
     assert!(rt; knows(&rt, &read, "a", 2) && !knows(&rt, &read, "b", 2));
 }
 

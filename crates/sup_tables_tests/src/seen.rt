@@ -2,7 +2,7 @@
 use crate::given::dot;
 use std::process::Abort;
 use sup_causal::{Dot, Lattice};
-use sup_tables::{Entry, Row, Tables};
+use sup_tables::{Entry, LentEntry, LentRow, Row, Tables};
 
 /// An entry: its table, or `loser` where another has won; its key; the node and the counter of its dot; and its value,
 /// which is a member's label, a child's kind or a name's child.
@@ -110,6 +110,24 @@ fn are_rows(rt: &(impl Abort + AllocGlobal), rows: &[Row], wanted: &[Shown<'_>])
 pub(crate) fn expect_rows(rt: &(impl Abort + AllocGlobal), tables: &Tables, wanted: &[Shown<'_>]) {
     let rows = rows_of(rt, tables);
     assert!(rt; are_rows(rt, &rows, wanted));
+}
+
+fn push_lent<'a>(rt: &impl Abort, shown: &mut Vec<Shown<'a>>, row: &LentRow<'a>) {
+    let (table, key, value) = match row.entry {
+        LentEntry::Member(m, info) => ("member", m.as_str(), info.label.as_str()),
+        LentEntry::Child(id, spec) => ("child", id.as_str(), spec.kind.as_str()),
+        LentEntry::Name(name, id) => ("name", name.as_str(), id.as_str()),
+    };
+    push(rt, shown, table, key, row.dot, value)
+}
+
+// Expects these to be all rows that are lent, in this order.
+pub(crate) fn expect_lent(rt: &(impl Abort + AllocGlobal), tables: &Tables, wanted: &[Shown<'_>]) {
+    let mut shown = Vec::new(rt.alloc());
+    for row in &tables.lent_rows().expect(rt, "rows") {
+        push_lent(rt, &mut shown, row);
+    }
+    assert!(rt; shown.as_slice() == wanted);
 }
 
 pub(crate) fn knows(rt: &impl Abort, tables: &Tables, name: &str, counter: u64) -> bool {

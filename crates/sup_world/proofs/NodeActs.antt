@@ -3,7 +3,6 @@ use Rattle.std.specs.Prelude.{◌≡◌, ◌==◌, not, Bool, true, false, List,
 use Rattle.std.proofs.Common.{sym, ap}
 use mathlib.Core.Logic.{inl}
 use Rattle.sup_specs.specs.Values.{Bytes}
-use Rattle.sup_causal.specs.declared.dot.Dot.{Dot}
 use Rattle.sup_tables.specs.declared.row.Row.{Row}
 use Rattle.sup_tables.specs.Operations.{Operation, covers}
 use Rattle.sup_placement.specs.Place.{Weigher}

@@ -1,8 +1,7 @@
-use Rattle.std.proofs.Common.{◌≡◌, ◌∷◌, true, false, None, IsSome, ap, subst, length, arith, rules}
-use Rattle.std.specs.BTreeMap.{get}
+use Rattle.std.proofs.Common.{◌≡◌, ◌∷◌, true, false, ap, subst, length, arith, rules}
 use Rattle.std.specs.Vec.Iter.{into_iter_items}
 use Rattle.sup_causal.specs.declared.dot.Dot.{Dot}
-use Rattle.sup_causal.specs.Dots.{has, dot_cmp}
+use Rattle.sup_causal.specs.Dots.{has}
 use Rattle.sup_dot_store.specs.declared.indexed.join.NotPut.TheVariants.{TwoKeys, OutOfMemory}
 use Rattle.sup_dot_store.specs.Index.{StopsAt}
 use Rattle.sup_dot_store.proofs.FreshRows.{IsPutSoFar, row_passed, row_put, same_put, put_are_listed, stops_at_taken, stops_at_free, stops_same}
