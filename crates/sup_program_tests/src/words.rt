@@ -34,7 +34,11 @@ fn the_words_are_all_that_come_after_the_name(rt: HostRuntime) {
     let words = words_of(&(started, rt.alloc()));
     assert!(rt; words.is_ok());
     let words = words.unwrap_or(Vec::new(rt.alloc()));
-    assert!(rt; words.as_slice() == ["simulate", "--weigh", "flat", "more"].as_slice());
+    let wanted = ["simulate", "--weigh", "flat", "more"];
+    assert!(rt; words.len() == wanted.len());
+    for (word, name) in words.iter().zip(&wanted) {
+        assert!(rt; word.as_str() == *name);
+    }
 }
 
 #[test]
