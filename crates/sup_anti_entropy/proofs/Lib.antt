@@ -1,0 +1,4 @@
+pub mod PeerLaws
+pub mod StepLaws
+pub mod SettleLaws
+pub mod BufferLaws
