@@ -18,7 +18,7 @@ pub(crate) fn node(rt: &impl Abort, name: &str) -> NodeName {
     NodeName::parse(name).expect(rt, "a node's name")
 }
 
-pub(crate) fn peer(rt: &(impl Abort + AllocGlobal), name: &str, capacity: usize) -> Peer {
+pub(crate) fn new_peer(rt: &(impl Abort + AllocGlobal), name: &str, capacity: usize) -> Peer {
     assert!(rt; 1 <= capacity && capacity <= 1024);
     Peer {
         name: node(rt, name),
@@ -38,7 +38,9 @@ fn spec(rt: &(impl Abort + AllocGlobal)) -> ChildSpec {
 
 // Takes the delta into the tables and the buffer.
 fn take(rt: &(impl Abort + AllocGlobal), peer: &mut Peer, delta: Tables) {
-    peer.tables.join_from(rt.alloc(), &delta).expect(rt, "a join");
+    peer.tables
+        .join_from(rt.alloc(), &delta)
+        .expect(rt, "a join");
     peer.buffer.note(delta).expect(rt, "a count")
 }
 

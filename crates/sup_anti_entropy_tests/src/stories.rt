@@ -1,6 +1,6 @@
 //! Stories of two nodes, at values that were worked out by hand.
 use crate::peers::{
-    acknowledge, exchange, expect_same, expect_sent, expect_up_to_date, knows, node, peer, restart,
+    acknowledge, exchange, expect_same, expect_sent, expect_up_to_date, knows, new_peer, node, restart,
     shipment, start,
 };
 use std::process::Abort;
@@ -10,8 +10,8 @@ use sup_tables::Tables;
 
 #[test]
 fn a_new_buffer_has_nothing_to_send(rt: HostRuntime) {
-    let a = peer(&rt, "a", 64);
-    let b = peer(&rt, "b", 64);
+    let a = new_peer(&rt, "a", 64);
+    let b = new_peer(&rt, "b", 64);
     assert!(rt; a.buffer.count() == 0 && a.buffer.held() == 0);
     assert!(rt; a.buffer.acknowledged(&b.name) == 0);
     expect_up_to_date(&rt, &a, &b);
@@ -19,8 +19,8 @@ fn a_new_buffer_has_nothing_to_send(rt: HostRuntime) {
 
 #[test]
 fn what_is_acknowledged_is_not_sent_again(rt: HostRuntime) {
-    let mut a = peer(&rt, "a", 64);
-    let mut b = peer(&rt, "b", 64);
+    let mut a = new_peer(&rt, "a", 64);
+    let mut b = new_peer(&rt, "b", 64);
     start(&rt, &mut a, "x");
     start(&rt, &mut a, "y");
     let part = expect_sent(&rt, &a, &b, 2, false);
@@ -36,8 +36,8 @@ fn what_is_acknowledged_is_not_sent_again(rt: HostRuntime) {
 
 #[test]
 fn an_overwritten_interval_is_sent_whole(rt: HostRuntime) {
-    let mut a = peer(&rt, "a", 1);
-    let mut b = peer(&rt, "b", 1);
+    let mut a = new_peer(&rt, "a", 1);
+    let mut b = new_peer(&rt, "b", 1);
     start(&rt, &mut a, "x");
     expect_sent(&rt, &a, &b, 1, false);
     exchange(&rt, &mut a, &mut b);
@@ -52,8 +52,8 @@ fn an_overwritten_interval_is_sent_whole(rt: HostRuntime) {
 
 #[test]
 fn the_newest_deltas_are_the_ones_held(rt: HostRuntime) {
-    let mut a = peer(&rt, "a", 2);
-    let b = peer(&rt, "b", 2);
+    let mut a = new_peer(&rt, "a", 2);
+    let b = new_peer(&rt, "b", 2);
     start(&rt, &mut a, "x");
     start(&rt, &mut a, "y");
     start(&rt, &mut a, "z");
@@ -65,8 +65,8 @@ fn the_newest_deltas_are_the_ones_held(rt: HostRuntime) {
 
 #[test]
 fn a_restart_forgets_acknowledgements_and_goes_on_counting(rt: HostRuntime) {
-    let mut a = peer(&rt, "a", 64);
-    let mut b = peer(&rt, "b", 64);
+    let mut a = new_peer(&rt, "a", 64);
+    let mut b = new_peer(&rt, "b", 64);
     start(&rt, &mut a, "x");
     exchange(&rt, &mut a, &mut b);
     restart(&rt, &mut a, 1);
@@ -82,9 +82,9 @@ fn a_restart_forgets_acknowledgements_and_goes_on_counting(rt: HostRuntime) {
 
 #[test]
 fn an_acknowledged_number_only_rises_and_is_kept_by_peer(rt: HostRuntime) {
-    let mut a = peer(&rt, "a", 64);
-    let b = peer(&rt, "b", 64);
-    let c = peer(&rt, "c", 64);
+    let mut a = new_peer(&rt, "a", 64);
+    let b = new_peer(&rt, "b", 64);
+    let c = new_peer(&rt, "c", 64);
     start(&rt, &mut a, "x");
     start(&rt, &mut a, "y");
     acknowledge(&rt, &mut a, &b, 2);
@@ -98,8 +98,8 @@ fn an_acknowledged_number_only_rises_and_is_kept_by_peer(rt: HostRuntime) {
 
 #[test]
 fn a_spent_count_notes_nothing(rt: HostRuntime) {
-    let mut a = peer(&rt, "a", 64);
-    let b = peer(&rt, "b", 64);
+    let mut a = new_peer(&rt, "a", 64);
+    let b = new_peer(&rt, "b", 64);
     restart(&rt, &mut a, MAX - 1);
     start(&rt, &mut a, "x");
     assert!(rt; a.buffer.count() == MAX && a.buffer.held() == 1);
