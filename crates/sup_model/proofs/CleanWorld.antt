@@ -1,4 +1,4 @@
--- After any list of steps each added row is known where its dot is from, no dot has two rows, and no reply gives a dot again.
+-- A step keeps a world clean: each added row is known where its dot is from, no dot has two rows, and no reply gives a dot again.
 use Rattle.std.specs.Prelude.{◌≡◌, ◌≢◌, ℕ, zero, suc, ◌+◌, ◌-◌, ◌==◌, ◌≤◌, ◌<◌, Bool, true, false, cond, not, ◌||◌, ◌&&◌, List, [], ◌∷◌, ◌++◌, map, find, refl, Option, Some, None, Result, Ok, Err, slice_get, unwrap_or, if◌then◌else◌, AllPairs, All, slice_index_or, length}
 use Rattle.std.proofs.Common.{sym, ap, ◌∙◌, subst, arith}
 use Rattle.std.proofs.lemmas.List.Kept.{AllPairs-cons}
@@ -20,8 +20,7 @@ use Rattle.sup_replica.specs.Steps.{reading}
 use Rattle.sup_replica.specs.Acts.{act_step, deliver, kept_by}
 use Rattle.sup_model.specs.declared.step.Step.{Step}
 use Rattle.sup_model.specs.declared.step.Step.TheVariants.{Node as AtNode, Deliver as Delivery, Raw}
-use Rattle.sup_model.specs.Runs.{world_after, run, dot_of, answers, answer_of, new_dots}
-use Rattle.sup_model.specs.Headline.{NoDotTwice}
+use Rattle.sup_model.specs.Runs.{world_after, dot_of, answer_of, new_dots}
 use Rattle.sup_model.proofs.Afters.{After, after-refused_if, after-then_do, after-or_refused}
 use Rattle.sup_anti_entropy.specs.Peers.{In}
 use Rattle.sup_anti_entropy.proofs.StepLaws.{in-last}
@@ -230,13 +229,6 @@ step_clean w st clean = go (step w st) (step_is_at w st) where
   go (Ok x) a = subst (λ (y : Stepped). Clean y.world) (sym a.is) (acted_clean w a.site a.there a.outcome a.takes clean)
   go (Err r) a = tt
 
-pub run_clean : (w : World) (steps : List Step) → Clean w → Clean (run w steps)
-run_clean w [] clean = clean
-run_clean w (st ∷ steps) clean = run_clean (world_after w (step w st)) steps (go (step w st) (step_clean w st clean)) where
-  go : (r : Result Stepped Refusal) → After (λ (x : Stepped). Clean x.world) r → Clean (world_after w r)
-  go (Ok x) c = c
-  go (Err r) c = clean
-
 new-empty : (setting : Setting) (names : List Bytes) (s : Site) → In (map (λ name. let t : Site = record { node = fresh by_operations name setting.intensity setting.period; sent = [] } in t) names) s → (x : Row) → SiteHas s x → ⊥
 new-empty setting [] s h x has = h
 new-empty setting (name ∷ names) s (inl e) x has = none x (subst (λ s. SiteHas s x) e has) where
@@ -289,12 +281,12 @@ pub record Apart (w : World) (dots : List Dot) : Type 0 where
   pub later : (d : Dot) → In dots d → (x : Row) → AtHome w x → x.dot ≢ d
   pub pairs : AllPairs (λ (d e : Dot). d ≢ e) dots
 
-no_pairs : AllPairs (λ (d e : Dot). d ≢ e) []
+pub no_pairs : AllPairs (λ (d e : Dot). d ≢ e) []
 no_pairs i j d h g = absurd (none j g) where
   none : (j : ℕ) → j < 0 → ⊥
   none j g = omega (arith, g)
 
-step_apart : (w : World) → Clean w → (r : Result Stepped Refusal) → After (StepAt w) r → (rest : List (Result Answer Refusal)) → Apart (world_after w r) (new_dots rest) → Apart w (new_dots (answer_of r ∷ rest))
+pub step_apart : (w : World) → Clean w → (r : Result Stepped Refusal) → After (StepAt w) r → (rest : List (Result Answer Refusal)) → Apart (world_after w r) (new_dots rest) → Apart w (new_dots (answer_of r ∷ rest))
 step_apart w clean (Err e) a rest next = next
 step_apart w clean (Ok x) a rest next =
     let after = acted w a.site a.outcome in
@@ -308,15 +300,6 @@ step_apart w clean (Ok x) a rest next =
       pairs = reply_pairs a.outcome.done.reply (new_dots rest) (λ d h e g same. let c = (mine d h).1 in apart.later e g c.0 c.1 (c.2 ∙ same)) apart.pairs;
     } in
     subst (λ (y : Stepped). Apart w (dot_of y.answer.done.reply ++ new_dots rest)) (sym a.is) goal
-
-pub run_apart : (w : World) (steps : List Step) → Clean w → Apart w (new_dots (answers w steps))
-run_apart w [] clean = record { later = λ d h x home. absurd h; pairs = no_pairs }
-run_apart w (st ∷ steps) clean =
-    step_apart w clean (step w st) (step_is_at w st) (answers (world_after w (step w st)) steps)
-    (run_apart (world_after w (step w st)) steps (run_clean w (st ∷ []) clean))
-
-pub no_dot_twice : NoDotTwice
-no_dot_twice setting is_message names distinct steps = (run_apart (new setting is_message names) steps (new_clean setting is_message names)).pairs
 
 -- in a clean world no dot of two lists of its operations has two adds
 pub no_clash : (w : World) → Clean w → (ops others : Ops) → ((x : Row) → HasRow ops x → Added w x) → ((x : Row) → HasRow others x → Added w x) → NoClash (ops ++ others)

@@ -19,3 +19,4 @@ pub mod TableLaws
 pub mod ShipmentLaws
 pub mod ExchangeLaws
 pub mod FollowLaws
+pub mod RunLaws

@@ -11,7 +11,7 @@ use Rattle.sup_placement.specs.Place.{Weigher}
 use Rattle.sup_model.specs.Worlds.{Setting, Ops, World, Site, Answer, Stepped, step, new}
 use Rattle.sup_replica.specs.Nodes.{Knowledge, Node, Message, by_operations, fresh}
 use Rattle.sup_model.specs.declared.step.Step.{Step}
-use Rattle.sup_model.specs.Runs.{world_after, answer_of, MayBeUpToDate, Run}
+use Rattle.sup_model.specs.Runs.{world_after, answer_of, MayBeUpToDate, Run, may_want, is_late}
 use Rattle.sup_anti_entropy.specs.Joins.{Joins, joined, newest_of}
 use Rattle.sup_anti_entropy.specs.Peers.{In, Letter, delta, push, ack, Peer, Has, Gives, Local, Between, Sound}
 use Rattle.sup_anti_entropy.proofs.StepLaws.{newest-of_none}
@@ -52,7 +52,7 @@ module _ {K : Type 0} (k : Knowledge K) (view : View K) (laws : Laws k view) whe
     pub answer : Result Answer Refusal
     pub rest : List (Result Answer Refusal)
     pub mid : World
-    pub allows : ((answer ≡ answer_of y) × (mid ≡ world_after (model_of j) y)) ⊎ ((answer ≡ Err OutOfMemory) × (mid ≡ model_of j)) ⊎ ((answer ≡ Err UpToDate) × MayBeUpToDate (model_of j) s × (mid ≡ model_of j))
+    pub allows : ((answer ≡ answer_of y) × (mid ≡ world_after (model_of j) y)) ⊎ ((answer ≡ Err OutOfMemory) × (may_want s (is_late y) ≡ true) × (mid ≡ model_of j)) ⊎ ((answer ≡ Err UpToDate) × MayBeUpToDate (model_of j) s × (mid ≡ model_of j))
     pub runs : Run mid steps rest (model_of joint)
     pub told : AnswersAlike view (real_answer_of x) answer
     pub told_rest : AllAlike view (real_answers k (real_after k (real_of j) x) steps) rest
