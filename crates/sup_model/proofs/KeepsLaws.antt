@@ -106,7 +106,7 @@ all-alike : {X : Type 0} (p q : X → Bool) → ((x : X) → p x ≡ q x) → (x
 all-alike p q same [] = refl
 all-alike p q same (x ∷ xs) = λ i. same x i && all-alike p q same xs i
 
-renewed_good : (s : Weigher) (n : Node Ops) (id : Bytes) (now : ℕ) → Good s n → Good s (record n { supervisor = restarted_with with_all n.supervisor id now })
+pub renewed_good : (s : Weigher) (n : Node Ops) (id : Bytes) (now : ℕ) → Good s n → Good s (record n { supervisor = restarted_with with_all n.supervisor id now })
 renewed_good s n id now good up =
     let g = good up in
     let ws = wanted by_operations s n in

@@ -20,3 +20,4 @@ pub mod ShipmentLaws
 pub mod ExchangeLaws
 pub mod FollowLaws
 pub mod RunLaws
+pub mod ArrivalLaws
