@@ -1,5 +1,5 @@
 -- The code's world, over tables, follows the model.
-use Rattle.std.specs.Prelude.{ℕ, ◌≡◌, ◌⊎◌, Bool, true, false, not, List, [], ◌∷◌, ◌++◌, map, Option, Some, None, Result, Ok, Err, refl}
+use Rattle.std.specs.Prelude.{ℕ, ◌≡◌, ◌⊎◌, Bool, true, false, not, List, [], ◌∷◌, ◌++◌, map, Option, Some, None, Result, Ok, Err, refl, IsOk}
 use Rattle.std.proofs.Common.{sym, ap, ◌∙◌, subst}
 use mathlib.Core.Logic.{inl, inr}
 use Rattle.sup_specs.specs.Values.{Bytes}
@@ -51,7 +51,7 @@ follows_at j h st (Err q) (Err p) e a = record {
 follows_at j h st (Ok x) (Err p) e a = absurd a
 follows_at j h st (Err q) (Ok y) e a = record {
   after = model_of j; expected = Err UpToDate; told = a.0;
-  allows = inr (inr (refl, a.1, refl));
+  allows = inr (inr (refl, subst IsOk e refl, a.1, refl));
   stands = record { joint = j; holds = h; real_is = refl; model_is = refl };
 }
 

@@ -258,7 +258,7 @@ after_good w (Err refusal) good h = good
 allowed_good : (w : World) (s : Step) (answer : Result Answer Refusal) (w' : World) → Allows w s answer w' → GoodWorld w → GoodWorld w'
 allowed_good w s answer w' (inl h) good = subst GoodWorld (sym h.1) (after_good w (step w s) good (step_good w s good))
 allowed_good w s answer w' (inr (inl h)) good = subst GoodWorld (sym h.2) good
-allowed_good w s answer w' (inr (inr h)) good = subst GoodWorld (sym h.2) good
+allowed_good w s answer w' (inr (inr h)) good = subst GoodWorld (sym h.3) good
 
 pub run_good : (w : World) (steps : List Step) (answers : List (Result Answer Refusal)) (w' : World) → Run w steps answers w' → GoodWorld w → GoodWorld w'
 run_good w [] [] w' run good = subst GoodWorld (sym run) good

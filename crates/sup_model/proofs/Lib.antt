@@ -21,3 +21,4 @@ pub mod ExchangeLaws
 pub mod FollowLaws
 pub mod RunLaws
 pub mod ArrivalLaws
+pub mod MemoryLaws

@@ -13,3 +13,4 @@ pub mod Follows
 pub mod Shipments
 pub mod Arrivals
 pub mod ChildRestarts
+pub mod Memory

@@ -3,6 +3,7 @@ ghost use Rattle.sup_model.specs.Headline.{MainTheorem, NoDotTwice, RepliesTellD
 ghost use Rattle.sup_model.specs.Follows.{StepsFollow, NewStands, WorldsStand, RunsFollow, SettlingSettles};
 ghost use Rattle.sup_model.specs.Arrivals.{BytesArrive, OtherBytesAreRefused};
 ghost use Rattle.sup_model.specs.ChildRestarts.{RestartsStay};
+ghost use Rattle.sup_model.specs.Memory.{StopsAreAnswered, FirstChecksComeFirst};
 ghost use Rattle.sup_model.specs.Shipments.{ShipmentIsEnough};
 
 /// After any list of steps from a new world, answered as they may be: nodes that absorbed the same operations agree, adds
@@ -58,4 +59,10 @@ pub fn a_restarted_child_stays()
 pub fn bytes_come_as_they_are_read()
     ensures read { BytesArrive }
     ensures other { OtherBytesAreRefused }
+{}
+
+/// Want of memory never stands in place of the answer to a stop, nor of a refusal that an event's first checks give.
+pub fn memory_is_wanted_late()
+    ensures stop { StopsAreAnswered }
+    ensures first { FirstChecksComeFirst }
 {}
