@@ -4,3 +4,4 @@ pub mod Shipments
 pub mod Contents
 pub mod Peers
 pub mod Settling
+pub mod Promises

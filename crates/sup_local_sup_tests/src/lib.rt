@@ -1,0 +1,16 @@
+//! The tests of the local supervisor, through its public calls. A crate with tests is proved twice, once without and once
+//! with them: here there is nothing to prove without them.
+#![tactic(auto)]
+
+#[cfg(test)]
+mod exits;
+#[cfg(test)]
+mod given;
+#[cfg(test)]
+mod refused;
+#[cfg(test)]
+mod restarts;
+#[cfg(test)]
+mod seen;
+#[cfg(test)]
+mod wanting;
