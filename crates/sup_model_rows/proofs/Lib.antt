@@ -1,0 +1,6 @@
+mod Words
+mod TableRows
+mod ChildRows
+mod LetterRows
+mod SaveRows
+mod FurtherRows

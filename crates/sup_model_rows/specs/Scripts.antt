@@ -1,0 +1,191 @@
+-- Scripts over a world of stations, line by line, and what each line tells: an answer without the content of its letter (this project).
+use Rattle.std.specs.Prelude.{ℕ, zero, suc, ◌+◌, ◌≡◌, Bool, true, false, not, List, [], ◌∷◌, ◌++◌, map, flat_map, length, filter, Option, Some, None, Result, Ok, Err, if◌then◌else◌}
+use Rattle.sup_specs.specs.Values.{Bytes, text_cmp}
+use Rattle.sup_specs.specs.Rising.{rising, among}
+use Rattle.sup_causal.specs.declared.dot.Dot.{Dot}
+use Rattle.sup_causal.specs.Dots.{dot_cmp}
+use Rattle.sup_tables.specs.declared.row.Row.{Row}
+use Rattle.sup_tables.specs.Rows.{names, target_of}
+use Rattle.sup_tables.specs.Operations.{dots_of}
+use Rattle.sup_tables.specs.States.{State}
+use Rattle.sup_tables.specs.Readers.{winner}
+use Rattle.sup_placement.specs.Place.{Weigher}
+use Rattle.sup_local_sup.specs.declared.effect.Effect.{Effect}
+use Rattle.sup_local_sup.specs.declared.effect.Incarnation.{Incarnation}
+use Rattle.sup_replica.specs.declared.event.Act.TheVariants.{Ship}
+use Rattle.sup_replica.specs.declared.event.Reply.{Reply}
+use Rattle.sup_replica.specs.declared.refusal.Refusal.{Refusal}
+use Rattle.sup_replica.specs.declared.refusal.Refusal.TheVariants.{UnknownNode, NoSuchMessage}
+use Rattle.sup_replica.specs.Nodes.{Knowledge, by_operations}
+use Rattle.sup_replica.specs.Stations.{Mail, a_delta, a_push, an_ack}
+use Rattle.sup_replica.specs.ByTables.{by_tables}
+use Rattle.sup_model.specs.declared.Step.{Step}
+use Rattle.sup_model.specs.declared.Step.TheVariants.{Node as AtNode, Deliver as Delivery}
+use Rattle.sup_model.specs.Worlds.{Setting}
+use Rattle.sup_refine.specs.Posts.{Post, Real, RealAnswer, RealStepped, post_of, mail_of, real_step, real_after, real_run, real_new}
+use Rattle.sup_world.specs.declared.line.Line.{Line}
+use Rattle.sup_world.specs.declared.line.Place.{Place}
+use Rattle.sup_world.specs.Shown.{lines, name_place}
+
+infix 70 ◌⇒◌
+
+-- what a line asks: a step, to settle, or to be shown something
+pub data Asked : Type 0 where
+  steps : Step → Asked
+  settle : Asked
+  show : (node : Bytes) → Asked
+  inspect : (node : Bytes) → Asked
+  find : (node name : Bytes) → Asked
+
+-- what a letter is, and its number
+pub data Kind : Type 0 where
+  part : ℕ → Kind
+  whole : ℕ → Kind
+  pushed : Kind
+  ack : ℕ → Kind
+
+-- the k-th letter of its sender
+pub data Letter : Type 0 where
+  letter : (from : Bytes) (k : ℕ) (to : Bytes) (kind : Kind) → Letter
+
+-- a kept child's run
+pub data Run : Type 0 where
+  run : (id : Bytes) (boot k : ℕ) → Run
+
+-- what a line tells
+pub data Told : Type 0 where
+  ok : (at : Bytes) (reply : Reply) (effects : List Effect) (letter : Option Letter) → Told
+  refused : Refusal → Told
+  settled : (messages : ℕ) (effects : List (Bytes × Effect)) → Told
+  down : (node : Bytes) → Told
+  shown : (node : Bytes) (boot : ℕ) (lines : List Line) (kept : List Run) → Told
+  knows : (count held : ℕ) (dots : List Dot) → Told  -- of a station, beside what it shows
+  found : (id : Bytes) (place : Place) → Told
+  unknown : Told
+
+abbrev pub ◌⇒◌ : Asked → Told → Asked × Told
+asked ⇒ told = (asked, told)
+
+-- a letter without its content
+abbrev pub letter_of : {K : Type 0} → ℕ → Mail K → Letter
+letter_of k (a_delta from to n false content) = letter from k to (part n)
+letter_of k (a_delta from to n true content) = letter from k to (whole n)
+letter_of k (a_push from to content) = letter from k to pushed
+letter_of k (an_ack from to n) = letter from k to (ack n)
+
+abbrev pub numbered_letter : {K : Type 0} → Option ℕ → Option (Mail K) → Option Letter
+numbered_letter (Some k) (Some mail) = Some (letter_of k mail)
+numbered_letter None mail = None
+numbered_letter (Some k) None = None
+
+abbrev pub told_answer : {K : Type 0} → Result (RealStepped K) Refusal → Told
+told_answer (Ok s) = ok s.answer.at s.answer.reply s.answer.effects (numbered_letter s.answer.number s.answer.letter)
+told_answer (Err refusal) = refused refusal
+
+-- where the child is that a name stands for
+abbrev pub told_place : Weigher → List Row → Option Row → Told
+told_place weight rows None = unknown
+told_place weight rows (Some r) = found (target_of r.entry) (name_place weight rows (target_of r.entry))
+
+-- what settling has come to so far
+pub record Settling (K : Type 0) : Type 0 where
+  pub world : Real K
+  pub messages : ℕ
+  pub effects : List (Bytes × Effect)
+
+module _ {K : Type 0} (k : Knowledge K) (dots : K → List Dot) where
+  abbrev pub told_station : Weigher → (Weigher → Post K → Told) → Option (Post K) → Told
+  told_station weight tell None = refused UnknownNode
+  told_station weight tell (Some post) = if post.station.node.up then tell weight post else down post.station.node.name
+
+  abbrev pub shows : Weigher → Post K → Told
+  shows weight post =
+      let node = post.station.node in
+      shown node.name node.supervisor.boot (lines weight (k.rows node.known)) (map (λ child. run child.0 child.1.inc.boot child.1.inc.k) node.supervisor.kept)
+
+  abbrev pub inspects : Weigher → Post K → Told
+  inspects weight post = knows post.station.node.count (length post.station.held) (dots post.station.node.known)
+
+  abbrev pub finds : Bytes → Weigher → Post K → Told
+  finds name weight post = told_place weight (k.rows post.station.node.known) (winner (k.rows post.station.node.known) names name)
+
+  -- the delivery of the letter that a step sent, at once
+  abbrev pub brings : Real K → Bytes → Option ℕ → Result (RealStepped K) Refusal
+  brings w from None = Err NoSuchMessage
+  brings w from (Some n) = real_step k w (Delivery from n None 0 0 true)
+
+  abbrev pub letters_in : Option ℕ → ℕ
+  letters_in None = 0
+  letters_in (Some n) = 1
+
+  abbrev pub settling_with : Settling K → RealStepped K → Settling K
+  settling_with s step = record {
+    world = step.world;
+    messages = s.messages + letters_in step.answer.number;
+    effects = s.effects ++ map (λ e. (step.answer.at, e)) step.answer.effects;
+  }
+
+  -- a step, and then so many deliveries, each of the letter that was just sent. A refused one is passed over
+  abbrev pub follows : ℕ → Settling K → Result (RealStepped K) Refusal → Settling K
+  follows n s (Err refusal) = s
+  follows zero s (Ok step) = settling_with s step
+  follows (suc n) s (Ok step) = follows n (settling_with s step) (brings step.world step.answer.at step.answer.number)
+
+  -- a ship, its delivery, and the delivery of the acknowledgement
+  abbrev pub exchanges : Settling K → Bytes → Bytes → Settling K
+  exchanges s from to = follows 2 s (real_step k s.world (AtNode from (Ship to) 0 true))
+
+  abbrev pub gathers : Settling K → Bytes → List Bytes → Settling K
+  gathers s first [] = s
+  gathers s first (node ∷ nodes) = gathers (exchanges s node first) first nodes
+
+  abbrev pub spreads : Settling K → Bytes → List Bytes → Settling K
+  spreads s first [] = s
+  spreads s first (node ∷ nodes) = spreads (exchanges s first node) first nodes
+
+  -- all to the first, and then the first to all
+  abbrev pub settles : Real K → List Bytes → Settling K
+  settles w [] = record { world = w; messages = 0; effects = [] }
+  settles w (first ∷ nodes) = spreads (gathers (record { world = w; messages = 0; effects = [] }) first nodes) first nodes
+
+  -- the nodes that are up, by name
+  abbrev pub up_names : Real K → List Bytes
+  up_names w = rising text_cmp (map (λ p. p.station.node.name) (filter (λ p. p.station.node.up) w.posts))
+
+  -- a whole script
+  abbrev pub plays : Real K → List Asked → List Told
+  plays w [] = []
+  plays w (steps s ∷ rest) = told_answer (real_step k w s) ∷ plays (real_after k w (real_step k w s)) rest
+  plays w (settle ∷ rest) = let s = settles w (up_names w) in settled s.messages s.effects ∷ plays s.world rest
+  plays w (show node ∷ rest) = told_station w.weigher shows (post_of w node) ∷ plays w rest
+  plays w (inspect node ∷ rest) = told_station w.weigher inspects (post_of w node) ∷ plays w rest
+  plays w (find node name ∷ rest) = told_station w.weigher (finds name) (post_of w node) ∷ plays w rest
+
+-- how a world is made: besides its setting the room of the buffers, and which words are messages
+pub record Options : Type 0 where
+  pub setting : Setting
+  pub room : ℕ
+  pub messages : List Bytes
+
+abbrev pub told_by : {K : Type 0} → Knowledge K → (K → List Dot) → Options → List Bytes → List Asked → List Told
+told_by k dots o nodes asked = plays k dots (real_new k o.setting o.room (among text_cmp o.messages) nodes) asked
+
+-- a script in which each line tells what stands beside it, whether stations keep tables or lists of operations
+abbrev pub Tells : Options → List Bytes → List (Asked × Told) → Type 0
+Tells o nodes lines =
+    (told_by by_tables (λ s. s.context) o nodes (map (λ l. l.0) lines) ≡ map (λ l. l.1) lines)
+    × (told_by by_operations (λ ops. rising dot_cmp (flat_map dots_of ops)) o nodes (map (λ l. l.0) lines) ≡ map (λ l. l.1) lines)
+
+-- the k-th letter that a node has sent after a script, over tables
+abbrev pub steps_in : List Asked → List Step
+steps_in [] = []
+steps_in (steps s ∷ rest) = s ∷ steps_in rest
+steps_in (asked ∷ rest) = steps_in rest
+
+abbrev pub mail_in : Option (Post State) → ℕ → Option (Mail State)
+mail_in None k = None
+mail_in (Some post) k = mail_of post k
+
+abbrev pub mail_after : Options → List Bytes → List Asked → Bytes → ℕ → Option (Mail State)
+mail_after o nodes asked node k =
+    mail_in (post_of (real_run by_tables (real_new by_tables o.setting o.room (among text_cmp o.messages) nodes) (steps_in asked)) node) k
