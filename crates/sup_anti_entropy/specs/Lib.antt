@@ -1,0 +1,4 @@
+pub mod Joins
+pub mod Buffers
+pub mod Peers
+pub mod Settling

@@ -1,0 +1,5 @@
+//! What anti-entropy keeps, over any lattice.
+#![tactic(auto)]
+
+/// Nothing yet.
+pub fn no_law() {}

@@ -1,0 +1,92 @@
+-- The code's world beside the model's, node by node, and what holds between them after every step (this project).
+use Rattle.std.specs.Prelude.{ℕ, ◌≡◌, ◌≤◌, Bool, true, false, List, [], ◌∷◌, ◌++◌, map, Option, Some, None, Result, Ok, Err, if◌then◌else◌}
+use Rattle.sup_specs.specs.Values.{Bytes}
+use Rattle.sup_replica.specs.declared.refusal.Refusal.{Refusal}
+use Rattle.sup_replica.specs.declared.refusal.Refusal.TheVariants.{UpToDate}
+use Rattle.sup_placement.specs.Place.{Weigher}
+use Rattle.sup_model.specs.Worlds.{Ops, World, Site, Answer, Stepped}
+use Rattle.sup_replica.specs.Nodes.{Knowledge, Node, Message, Kind, by_operations, is_named, delta as is_delta, push as is_push, ack as is_ack}
+use Rattle.sup_replica.specs.Steps.{passes_greatest}
+use Rattle.sup_model.specs.declared.step.Step.{Step}
+use Rattle.sup_model.specs.Runs.{MayBeUpToDate}
+use Rattle.sup_anti_entropy.specs.Peers.{In, Letter, delta, push, ack, Peer, Sound}
+use Rattle.sup_model.specs.Laws.{View}
+use Rattle.sup_replica.specs.Stations.{Station, Codec, Mail, a_delta, a_push, an_ack}
+use Rattle.sup_model.specs.Posts.{Post, Real, RealAnswer, RealStepped, reads}
+use Rattle.sup_model.specs.Stands.{NodeStands, BothOrNone}
+use Rattle.sup_model.specs.Clean.{Clean}
+
+-- one node: what the code keeps, the model's node, and, for proofs alone, the state that it had at each count
+pub record Trio (K : Type 0) : Type 0 where
+  pub post : Post K
+  pub site : Site
+  pub past : ℕ → K
+
+pub record Joint (K : Type 0) : Type 0 where
+  pub weigher : Weigher
+  pub codec : Codec K
+  pub trios : List (Trio K)
+
+abbrev pub real_of : {K : Type 0} → Joint K → Real K
+real_of j = record { weigher = j.weigher; codec = j.codec; posts = map (λ t. t.post) j.trios }
+
+abbrev pub model_of : {K : Type 0} → Joint K → World
+model_of j = record { weigher = j.weigher; is_message = reads j.codec; sites = map (λ t. t.site) j.trios }
+
+module _ {K : Type 0} (view : View K) where
+  abbrev pub letter_of : Mail K → Letter Bytes view.S
+  letter_of (a_delta from to n whole content) = delta to n (view.sem content)
+  letter_of (a_push from to content) = push to (view.sem content)
+  letter_of (an_ack from to n) = ack to n
+
+  -- the node as anti-entropy sees it
+  abbrev pub peer : Trio K → Peer Bytes view.S
+  peer t = record {
+    name = t.post.station.node.name;
+    state = view.sem t.post.station.node.known;
+    count = t.post.station.node.count;
+    past = λ n. view.sem (t.past n);
+    held = map view.sem t.post.station.held;
+    acked = t.post.station.acked;
+    sent = map letter_of t.post.sent;
+  }
+
+  -- one of the peers
+  abbrev pub Peers : List (Trio K) → Peer Bytes view.S → Type 0
+  Peers trios p = (t : Trio K) × In trios t × (p ≡ peer t)
+
+  abbrev pub AllValid : List K → Type 0
+  AllValid held = (x : K) → In held x → view.valid x
+
+  -- a letter: what a delta's sender had at its number stands for what the model's message carries
+  abbrev pub MailStands : Bytes → ℕ → (ℕ → K) → Mail K → Message Ops → Type 0
+  MailStands name count past (a_delta from to n whole content) m = (from ≡ name) × (to ≡ m.to) × (m.kind ≡ is_delta) × (n ≤ count) × view.stands (past n) m.content × view.valid content
+  MailStands name count past (a_push from to content) m = (from ≡ name) × (to ≡ m.to) × (m.kind ≡ is_push) × view.stands content m.content
+  MailStands name count past (an_ack from to n) m = (from ≡ name) × (to ≡ m.to) × (m.kind ≡ is_ack)
+
+  abbrev pub AllMail : Bytes → ℕ → (ℕ → K) → List (Mail K) → List (Message Ops) → Type 0
+  AllMail name count past [] [] = Unit {0}
+  AllMail name count past (x ∷ xs) (m ∷ ms) = MailStands name count past x m × AllMail name count past xs ms
+  AllMail name count past [] (m ∷ ms) = ⊥
+  AllMail name count past (x ∷ xs) [] = ⊥
+
+  pub record TrioStands (t : Trio K) : Type 0 where
+    pub node : NodeStands view t.post.station.node t.site.node
+    pub mail : AllMail t.post.station.node.name t.post.station.node.count t.past t.post.sent t.site.sent
+    pub held : AllValid t.post.station.held
+    pub now : view.valid (t.past t.post.station.node.count)
+    pub fits : passes_greatest t.site.node ≡ false
+
+  -- the invariant
+  pub record Holds (j : Joint K) : Type 0 where
+    pub one : (t u : Trio K) → In j.trios t → In j.trios u → t.site.node.name ≡ u.site.node.name → t ≡ u
+    pub each : (t : Trio K) → In j.trios t → TrioStands t
+    pub sound : Sound view.joins (Peers j.trios)
+    pub clean : Clean (model_of j)
+
+  -- an answer, seen without the contents
+  pub record AnswerStands (a : RealAnswer K) (b : Answer) : Type 0 where
+    pub at : a.at ≡ b.at
+    pub reply : a.reply ≡ b.done.reply
+    pub effects : a.effects ≡ b.done.effects
+    pub number : a.number ≡ b.number

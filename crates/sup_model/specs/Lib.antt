@@ -1,0 +1,13 @@
+pub mod Worlds
+pub mod Runs
+pub mod Headline
+pub mod Laws
+pub mod Posts
+pub mod Clean
+pub mod Stands
+pub mod Joint
+pub mod Refines
+pub mod TableViews
+pub mod Settles
+pub mod Follows
+pub mod Shipments

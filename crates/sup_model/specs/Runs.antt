@@ -1,0 +1,102 @@
+-- Runs of the model world, and what a step of the code may answer (this project).
+use Rattle.std.specs.Prelude.{ℕ, ◌≡◌, ◌⊎◌, Bool, true, false, not, List, [], ◌∷◌, ◌++◌, length, drop, Option, Some, None, Result, Ok, Err}
+use Rattle.std.specs.Option.{option_map, unwrap_or}
+use Rattle.sup_specs.specs.Values.{Bytes}
+use Rattle.sup_causal.specs.declared.dot.Dot.{Dot}
+use Rattle.sup_tables.specs.Operations.{Covers}
+use Rattle.sup_replica.specs.declared.event.Event.TheVariants.{Ship}
+use Rattle.sup_replica.specs.declared.event.Act.TheVariants.{Event as Of, Stop, Restart}
+use Rattle.sup_replica.specs.Refusals.{is_found_first}
+use Rattle.sup_replica.specs.declared.done.Reply.{Reply}
+use Rattle.sup_replica.specs.declared.done.Reply.TheVariants.{Added, Replaced}
+use Rattle.sup_replica.specs.declared.refusal.Refusal.{Refusal}
+use Rattle.sup_replica.specs.declared.refusal.Refusal.TheVariants.{OutOfMemory, UpToDate}
+use Rattle.sup_model.specs.declared.step.Step.{Step}
+use Rattle.sup_model.specs.declared.step.Step.TheVariants.{Node as AtNode, Deliver as Delivery, Raw}
+use Rattle.sup_model.specs.Worlds.{Ops, World, Site, Answer, Stepped, step, site_of}
+
+-- the world after a step; a refused step changes nothing
+abbrev pub world_after : World → Result Stepped Refusal → World
+world_after w (Ok s) = s.world
+world_after w (Err refusal) = w
+
+abbrev pub answer_of : Result Stepped Refusal → Result Answer Refusal
+answer_of (Ok s) = Ok s.answer
+answer_of (Err refusal) = Err refusal
+
+-- a whole list of steps
+abbrev pub run : World → List Step → World
+run w [] = w
+run w (s ∷ steps) = run (world_after w (step w s)) steps
+
+abbrev pub answers : World → List Step → List (Result Answer Refusal)
+answers w [] = []
+answers w (s ∷ steps) = answer_of (step w s) ∷ answers (world_after w (step w s)) steps
+
+-- a ship to a node that knows all that the sender knows
+pub record IsCoveredShip (w : World) (at to : Bytes) : Type 0 where
+  pub sender : Site
+  pub target : Site
+  pub is_sender : site_of w at ≡ Some sender
+  pub is_target : site_of w to ≡ Some target
+  pub covered : Covers target.node.known sender.node.known
+
+abbrev pub MayBeUpToDate : World → Step → Type 0
+MayBeUpToDate w (AtNode at (Of (Ship to)) now saves) = IsCoveredShip w at to
+MayBeUpToDate w _ = ⊥
+
+-- a step that is refused, if at all, by a check that comes after memory is taken
+abbrev pub is_late : {A : Type 0} → Result A Refusal → Bool
+is_late (Ok a) = true
+is_late (Err refusal) = not (is_found_first refusal)
+
+-- whether want of memory may stand in place of the answer: a stop takes none; a delivery, raw bytes and a restart may want it at any time;
+-- other acts run their first checks before
+abbrev pub may_want : Step → Bool → Bool
+may_want (AtNode at (Of event) now saves) late = late
+may_want (AtNode at Stop now saves) late = false
+may_want (AtNode at Restart now saves) late = true
+may_want (Delivery from k at drop now saves) late = true
+may_want (Raw at bytes) late = true
+
+-- from w, a step may be answered so and leave w': as the model says, or out of memory, or up to date; refused, it leaves w
+abbrev pub Allows : World → Step → Result Answer Refusal → World → Type 0
+Allows w s answer w' =
+    ((answer ≡ answer_of (step w s)) × (w' ≡ world_after w (step w s)))
+    ⊎ ((answer ≡ Err OutOfMemory) × (may_want s (is_late (step w s)) ≡ true) × (w' ≡ w))
+    ⊎ ((answer ≡ Err UpToDate) × MayBeUpToDate w s × (w' ≡ w))
+
+-- these answers to these steps, one after another
+abbrev pub Run : World → List Step → List (Result Answer Refusal) → World → Type 0
+Run w [] [] w' = w' ≡ w
+Run w (s ∷ steps) (answer ∷ rest) w' = (mid : World) × Allows w s answer mid × Run mid steps rest w'
+Run w [] (answer ∷ rest) w' = ⊥
+Run w (s ∷ steps) [] w' = ⊥
+
+-- what a node knows, nothing where it isn't there
+abbrev pub ops_at : World → Bytes → Ops
+ops_at w name = unwrap_or (option_map (λ s. s.node.known) (site_of w name)) []
+
+-- the operations of its own that a node adds by an act
+abbrev pub issued : World → Step → World → Ops
+issued w (AtNode at act now saves) w' = drop (length (ops_at w at)) (ops_at w' at)
+issued w (Delivery from k at drop now saves) w' = []
+issued w (Raw at bytes) w' = []
+
+-- those of a run
+abbrev pub all_issued : (w : World) (steps : List Step) (answers : List (Result Answer Refusal)) (w' : World) → Run w steps answers w' → Ops
+all_issued w [] [] w' run = []
+all_issued w (s ∷ steps) (answer ∷ rest) w' run = issued w s run.0 ++ all_issued run.0 steps rest w' run.2
+all_issued w [] (answer ∷ rest) w' run = []
+all_issued w (s ∷ steps) [] w' run = []
+
+-- the dots that a run's replies made
+abbrev pub dot_of : Reply → List Dot
+dot_of (Added dot) = dot ∷ []
+dot_of (Replaced dot removes) = dot ∷ []
+dot_of _ = []
+
+abbrev pub new_dots : List (Result Answer Refusal) → List Dot
+new_dots [] = []
+new_dots (Ok a ∷ rest) = dot_of a.done.reply ++ new_dots rest
+new_dots (Err refusal ∷ rest) = new_dots rest

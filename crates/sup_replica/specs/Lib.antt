@@ -1,0 +1,9 @@
+pub mod Refusals
+pub mod Configs
+pub mod Checks
+pub mod Nodes
+pub mod Commands
+pub mod Steps
+pub mod ByTables
+pub mod Acts
+pub mod Stations

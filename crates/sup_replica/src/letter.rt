@@ -1,0 +1,56 @@
+//! What a node sends.
+ghost use Rattle.std.specs.Prelude.{◌≡◌};
+
+use std::marker::Model;
+use sup_specs::NodeName;
+
+/// A message of a node, ready for its receiver.
+#[derive(Drop)]
+pub struct Letter {
+    pub to: NodeName,
+    pub kind: LetterKind,
+    pub bytes: MessageText,
+}
+
+/// What a message brings. The number is the sender's count of changes.
+#[derive(Clone, Copy)]
+pub enum LetterKind {
+    /// The changes up to this count that its receiver hasn't acknowledged.
+    Part(u64),
+    /// All that its sender knew at this count.
+    Whole(u64),
+    /// The sender's newest own operation.
+    Push,
+    /// That its sender has what the receiver sent with this number.
+    Ack(u64),
+}
+
+/// The bytes of a message. A contract sees them as a list.
+#[derive(Drop)]
+pub struct MessageText {
+    bytes: Vec<u8>,
+}
+
+impl Model for MessageText {
+    ghost use Rattle.std.specs.Prelude.{ℕ, List};
+
+    ghost Value = { List ℕ };
+
+    ghost view = { λ t. t.bytes.items };
+}
+
+impl MessageText {
+    /// These bytes.
+    pub fn new(bytes: Vec<u8>) -> MessageText
+        ensures { result ≡ bytes.items }
+    {
+        MessageText { bytes }
+    }
+
+    /// The bytes, in their order.
+    pub fn as_slice(&self) -> &[u8]
+        ensures { result.now ≡ self.now }
+    {
+        &self.bytes
+    }
+}
