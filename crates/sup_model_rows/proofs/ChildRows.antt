@@ -3,11 +3,12 @@ use Rattle.std.specs.Prelude.{[], ◌∷◌, codes, refl}
 use Rattle.sup_specs.specs.declared.child.ExitReason.TheVariants.{Normal, Shutdown, Crash}
 use Rattle.sup_specs.specs.declared.child.Restart.TheVariants.{Transient, Temporary}
 use Rattle.sup_causal.specs.Dots.{has}
-use Rattle.sup_replica.specs.declared.event.Reply.TheVariants.{Added, Removed, Restarted, Finished, GaveUp, Sent, Absorbed, Stopped, Boot}
+use Rattle.sup_replica.specs.declared.done.Reply.TheVariants.{Added, Removed, Restarted, Finished, GaveUp, Sent, Absorbed, Stopped, Boot}
+use Rattle.sup_replica.specs.declared.letter.LetterKind.TheVariants.{Push}
 use Rattle.sup_replica.specs.declared.refusal.Refusal.TheVariants.{StaleExit}
 use Rattle.sup_world.specs.declared.line.Line.TheVariants.{Member, Child}
 use Rattle.sup_world.specs.declared.line.Place.TheVariants.{On, Unplaced}
-use Rattle.sup_model_rows.specs.Scripts.{◌⇒◌, show, pushed, letter, run, refused, shown, Tells}
+use Rattle.sup_model_rows.specs.Scripts.{◌⇒◌, show, letter, run, refused, shown, Tells}
 use Rattle.sup_model_rows.proofs.Words.{a, c, x, y, t, web, job, of_kind, sp, restarts, labelled, unlabelled, flat, with_intensity, join, join_as, leave, start, exit, push, stop, restart, deliver, at_moment, dot, begins, ends, did, did_with, sent}
 
 -- A restart just a period old still counts, so the second is one too many.
@@ -70,7 +71,7 @@ a_transient_child_and_a_stale_exit = (refl, refl)
 pub a_finish_removes_the_one_dot_that_ran : Tells flat (a ∷ c ∷ []) (
     start a job (restarts Temporary sp) ⇒ did a (Added (dot a 1))
     ∷ start c job (restarts Temporary (of_kind (codes "other"))) ⇒ did c (Added (dot c 1))
-    ∷ push c a ⇒ sent c Sent (letter c 1 a pushed)
+    ∷ push c a ⇒ sent c Sent (letter c 1 a Push)
     ∷ deliver c 1 ⇒ did a Absorbed
     ∷ join a ⇒ did_with a (Added (dot a 2)) (begins job (restarts Temporary sp) 1 1 ∷ [])
     ∷ exit a job 1 1 Normal ⇒ did_with a (Finished (dot a 1)) (begins job (restarts Temporary (of_kind (codes "other"))) 1 2 ∷ [])

@@ -3,11 +3,12 @@ use Rattle.std.specs.Prelude.{List, [], ◌∷◌, codes, refl}
 use Rattle.sup_specs.specs.Values.{Bytes}
 use Rattle.sup_causal.specs.Dots.{has}
 use Rattle.sup_placement.specs.Place.{Weigher}
-use Rattle.sup_replica.specs.declared.event.Reply.TheVariants.{Added, Removed, Sent, Absorbed, Stopped}
+use Rattle.sup_replica.specs.declared.done.Reply.TheVariants.{Added, Removed, Sent, Absorbed, Stopped}
+use Rattle.sup_replica.specs.declared.letter.LetterKind.TheVariants.{Part, Ack}
 use Rattle.sup_replica.specs.declared.refusal.Refusal.TheVariants.{Down, AlreadyUp, UnknownNode, AlreadyPresent, NotFound, AlreadyMember, NotMember, NameTaken, NoSuchChild, NameUnknown, UpToDate, NoSuchMessage, KeepFailed, BadMessage, NothingToPush}
 use Rattle.sup_world.specs.declared.line.Line.TheVariants.{Member, Child, Name}
 use Rattle.sup_world.specs.declared.line.Place.TheVariants.{On, Unplaced}
-use Rattle.sup_model_rows.specs.Scripts.{◌⇒◌, settle, show, find, part, ack, letter, run, refused, settled, shown, found, unknown, Tells}
+use Rattle.sup_model_rows.specs.Scripts.{◌⇒◌, settle, show, find, letter, run, refused, settled, shown, found, unknown, Tells}
 use Rattle.sup_model_rows.proofs.Words.{a, b, c, x, z, n, web, www, db, api, of_kind, sp, unlabelled, weighed, flat, with_messages, join, leave, start, replace, delete, register, unregister, ship, push, stop, restart, deliver, raw, fails, dot, begins, ends, did, did_with, sent, lost_child, lost_name}
 
 -- the messages among the raw words
@@ -84,12 +85,12 @@ names_follow_their_child = (refl, refl)
 -- A name that is taken back goes with its losers.
 pub unregister_takes_winner_and_loser : (weight : Weigher) → Tells (weighed weight) (a ∷ b ∷ []) (
     start a x sp ⇒ did a (Added (dot a 1))
-    ∷ ship a b ⇒ sent a Sent (letter a 1 b (part 1))
-    ∷ deliver a 1 ⇒ sent b Absorbed (letter b 1 a (ack 1))
+    ∷ ship a b ⇒ sent a Sent (letter a 1 b (Part 1))
+    ∷ deliver a 1 ⇒ sent b Absorbed (letter b 1 a (Ack 1))
     ∷ register a n x ⇒ did a (Added (dot a 2))
     ∷ register b n x ⇒ did b (Added (dot b 1))
-    ∷ ship b a ⇒ sent b Sent (letter b 2 a (part 2))
-    ∷ deliver b 2 ⇒ sent a Absorbed (letter a 2 b (ack 2))
+    ∷ ship b a ⇒ sent b Sent (letter b 2 a (Part 2))
+    ∷ deliver b 2 ⇒ sent a Absorbed (letter a 2 b (Ack 2))
     ∷ show a ⇒ shown a 1 (Child x (dot a 1) sp Unplaced ∷ Name n (dot b 1) x Unplaced ∷ lost_name n (dot a 2) ∷ []) []
     ∷ unregister a n ⇒ did a (Removed (dot b 1 ∷ dot a 2 ∷ []))
     ∷ [])

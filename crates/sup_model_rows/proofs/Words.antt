@@ -15,15 +15,15 @@ use Rattle.sup_placement.specs.Weights.{flat_weight}
 use Rattle.sup_local_sup.specs.declared.effect.Effect.{Effect}
 use Rattle.sup_local_sup.specs.declared.effect.Effect.TheVariants as effect
 use Rattle.sup_replica.specs.declared.event.Event.{Event}
-use Rattle.sup_replica.specs.declared.event.Event.TheVariants.{Join, Leave, Start, Replace, Delete, Register, Unregister, Exit}
-use Rattle.sup_replica.specs.declared.event.Act.TheVariants.{Event as Of, Ship, Push, Stop, Restart}
-use Rattle.sup_replica.specs.declared.event.Reply.{Reply}
-use Rattle.sup_model.specs.declared.Step.{Step}
-use Rattle.sup_model.specs.declared.Step.TheVariants.{Node as AtNode, Deliver as Delivery, Raw}
+use Rattle.sup_replica.specs.declared.event.Event.TheVariants.{Join, Leave, Start, Replace, Delete, Register, Unregister, Exit, Ship, Push}
+use Rattle.sup_replica.specs.declared.event.Act.TheVariants.{Event as Of, Stop, Restart}
+use Rattle.sup_replica.specs.declared.done.Reply.{Reply}
+use Rattle.sup_model.specs.declared.step.Step.{Step}
+use Rattle.sup_model.specs.declared.step.Step.TheVariants.{Node as AtNode, Deliver as Delivery, Raw}
 use Rattle.sup_world.specs.declared.line.Key.TheVariants as key
 use Rattle.sup_world.specs.declared.line.Line.{Line}
 use Rattle.sup_world.specs.declared.line.Line.TheVariants.{Loser}
-use Rattle.sup_model_rows.specs.Scripts.{Asked, steps, Told, ok, knows, Letter, Options}
+use Rattle.sup_model_rows.specs.Scripts.{Asked, steps, Telling, ok, knows, Letter, Options}
 
 -- nodes
 abbrev pub a : Bytes
@@ -106,10 +106,10 @@ abbrev pub event : Bytes → Event → Asked
 event node e = steps (AtNode node (Of e) 0 true)
 
 abbrev pub join : Bytes → Asked
-join node = event node (Join unlabelled)
+join node = event node (Join [])
 
 abbrev pub join_as : Bytes → Bytes → Asked
-join_as node label = event node (Join (labelled label))
+join_as node label = event node (Join label)
 
 abbrev pub leave : Bytes → Bytes → Asked
 leave node member = event node (Leave member)
@@ -133,10 +133,10 @@ abbrev pub exit : Bytes → Bytes → ℕ → ℕ → ExitReason → Asked
 exit node id boot k reason = event node (Exit id (record { boot = boot; k = k }) reason)
 
 abbrev pub ship : Bytes → Bytes → Asked
-ship node to = steps (AtNode node (Ship to) 0 true)
+ship node to = event node (Ship to)
 
 abbrev pub push : Bytes → Bytes → Asked
-push node to = steps (AtNode node (Push to) 0 true)
+push node to = event node (Push to)
 
 abbrev pub stop : Bytes → Asked
 stop node = steps (AtNode node Stop 0 true)
@@ -188,13 +188,13 @@ begins id spec boot k = effect.Start id (record { boot = boot; k = k }) spec
 abbrev pub ends : Bytes → ℕ → ℕ → Effect
 ends id boot k = effect.Stop id (record { boot = boot; k = k })
 
-abbrev pub did : Bytes → Reply → Told
+abbrev pub did : Bytes → Reply → Telling
 did at reply = ok at reply [] None
 
-abbrev pub did_with : Bytes → Reply → List Effect → Told
+abbrev pub did_with : Bytes → Reply → List Effect → Telling
 did_with at reply effects = ok at reply effects None
 
-abbrev pub sent : Bytes → Reply → Letter → Told
+abbrev pub sent : Bytes → Reply → Letter → Telling
 sent at reply one = ok at reply [] (Some one)
 
 abbrev pub lost_child : Bytes → Dot → Line
@@ -209,5 +209,5 @@ dots_to node zero = []
 dots_to node (suc n) = dots_to node n ++ dot node (n + 1) ∷ []
 
 -- what a station knows, told by its vector and cloud
-abbrev pub knows_parts : ℕ → ℕ → List (Bytes × ℕ) → List Dot → Told
+abbrev pub knows_parts : ℕ → ℕ → List (Bytes × ℕ) → List Dot → Telling
 knows_parts count held vector cloud = knows count held (rising dot_cmp (flat_map (λ e. dots_to e.0 e.1) vector ++ cloud))
