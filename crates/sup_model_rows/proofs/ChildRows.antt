@@ -9,7 +9,8 @@ use Rattle.sup_replica.specs.declared.refusal.Refusal.TheVariants.{StaleExit}
 use Rattle.sup_world.specs.declared.line.Line.TheVariants.{Member, Child}
 use Rattle.sup_world.specs.declared.line.Place.TheVariants.{On, Unplaced}
 use Rattle.sup_model_rows.specs.Scripts.{◌⇒◌, show, letter, run, refused, shown, Tells}
-use Rattle.sup_model_rows.proofs.Words.{a, c, x, y, t, web, job, of_kind, sp, restarts, labelled, unlabelled, flat, with_intensity, join, join_as, leave, start, exit, push, stop, restart, deliver, at_moment, dot, begins, ends, did, did_with, sent}
+use Rattle.sup_model_rows.proofs.Lines.{join, join_as, leave, start, exit, push, stop, restart, deliver, at_moment}
+use Rattle.sup_model_rows.proofs.Words.{a, c, x, y, t, web, job, of_kind, sp, restarts, labelled, unlabelled, flat, with_intensity, dot, begins, ends, did, did_with, sent}
 
 -- A restart just a period old still counts, so the second is one too many.
 pub restarts_a_period_apart_still_count : Tells flat (a ∷ []) (

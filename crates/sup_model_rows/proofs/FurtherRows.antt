@@ -9,7 +9,8 @@ use Rattle.sup_replica.specs.declared.letter.LetterKind.TheVariants.{Part, Whole
 use Rattle.sup_replica.specs.declared.refusal.Refusal.TheVariants.{UpToDate}
 use Rattle.sup_replica.specs.Stations.{a_delta}
 use Rattle.sup_model_rows.specs.Scripts.{◌⇒◌, letter, refused, Tells, mail_after}
-use Rattle.sup_model_rows.proofs.Words.{a, b, x, y, sp, weighed, start, ship, stop, restart, deliver, dot, did, sent}
+use Rattle.sup_model_rows.proofs.Lines.{start, ship, stop, restart, deliver}
+use Rattle.sup_model_rows.proofs.Words.{a, b, x, y, sp, weighed, dot, did, sent}
 
 -- A restart forgets what was acknowledged, and the deltas: all is sent, though the other knows it.
 pub a_restart_forgets_acknowledgements : (weight : Weigher) → Tells (weighed weight) (a ∷ b ∷ []) (

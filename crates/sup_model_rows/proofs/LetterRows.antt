@@ -8,7 +8,8 @@ use Rattle.sup_replica.specs.declared.refusal.Refusal.TheVariants.{UpToDate, Bad
 use Rattle.sup_world.specs.declared.line.Line.TheVariants.{Member, Child}
 use Rattle.sup_world.specs.declared.line.Place.TheVariants.{On, Unplaced}
 use Rattle.sup_model_rows.specs.Scripts.{◌⇒◌, show, inspect, letter, run, ok, refused, shown, Tells}
-use Rattle.sup_model_rows.proofs.Words.{a, b, c, x, y, z, web, sp, with_arg, unlabelled, weighed, flat, with_room, join, start, replace, delete, ship, push, stop, restart, deliver, deliver_at, deliver_cut, dot, begins, ends, did, did_with, sent, knows_parts}
+use Rattle.sup_model_rows.proofs.Lines.{join, start, replace, delete, ship, push, stop, restart, deliver, deliver_at, deliver_cut}
+use Rattle.sup_model_rows.proofs.Words.{a, b, c, x, y, z, web, sp, with_arg, unlabelled, weighed, flat, with_room, dot, begins, ends, did, did_with, sent, knows_parts}
 
 -- An add that a removal has not seen outlives it.
 pub an_add_beside_a_removal : Tells flat (a ∷ b ∷ []) (

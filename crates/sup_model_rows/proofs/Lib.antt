@@ -1,4 +1,5 @@
 mod Words
+mod Lines
 mod TableRows
 mod ChildRows
 mod LetterRows

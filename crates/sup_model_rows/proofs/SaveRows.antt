@@ -8,7 +8,8 @@ use Rattle.sup_replica.specs.declared.refusal.Refusal.TheVariants.{Down, KeepFai
 use Rattle.sup_world.specs.declared.line.Line.TheVariants.{Member, Child}
 use Rattle.sup_world.specs.declared.line.Place.TheVariants.{On, Unplaced}
 use Rattle.sup_model_rows.specs.Scripts.{◌⇒◌, show, letter, run, refused, down, shown, Tells}
-use Rattle.sup_model_rows.proofs.Words.{a, b, x, web, sp, with_arg, unlabelled, weighed, flat, join, start, replace, delete, ship, push, stop, restart, deliver, fails, dot, begins, ends, did, did_with, sent}
+use Rattle.sup_model_rows.proofs.Lines.{join, start, replace, delete, ship, push, stop, restart, deliver, fails}
+use Rattle.sup_model_rows.proofs.Words.{a, b, x, web, sp, with_arg, unlabelled, weighed, flat, dot, begins, ends, did, did_with, sent}
 
 -- A save that fails leaves the dot free.
 pub a_failed_save_leaves_the_dot_free : (weight : Weigher) → Tells (weighed weight) (a ∷ []) (

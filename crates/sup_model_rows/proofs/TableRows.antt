@@ -9,7 +9,8 @@ use Rattle.sup_replica.specs.declared.refusal.Refusal.TheVariants.{Down, Already
 use Rattle.sup_world.specs.declared.line.Line.TheVariants.{Member, Child, Name}
 use Rattle.sup_world.specs.declared.line.Place.TheVariants.{On, Unplaced}
 use Rattle.sup_model_rows.specs.Scripts.{◌⇒◌, settle, show, find, letter, run, refused, settled, shown, found, unknown, Tells}
-use Rattle.sup_model_rows.proofs.Words.{a, b, c, x, z, n, web, www, db, api, of_kind, sp, unlabelled, weighed, flat, with_messages, join, leave, start, replace, delete, register, unregister, ship, push, stop, restart, deliver, raw, fails, dot, begins, ends, did, did_with, sent, lost_child, lost_name}
+use Rattle.sup_model_rows.proofs.Lines.{join, leave, start, replace, delete, register, unregister, ship, push, stop, restart, deliver, raw, fails}
+use Rattle.sup_model_rows.proofs.Words.{a, b, c, x, z, n, web, www, db, api, of_kind, sp, unlabelled, weighed, flat, with_messages, dot, begins, ends, did, did_with, sent, lost_child, lost_name}
 
 -- the messages among the raw words
 abbrev pub words_that_are_messages : List Bytes

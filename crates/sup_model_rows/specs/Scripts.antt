@@ -1,5 +1,5 @@
 -- Scripts over a world of stations, line by line, and what each line tells: an answer without the content of its letter (this project).
-use Rattle.std.specs.Prelude.{ℕ, zero, suc, ◌+◌, ◌≡◌, Bool, true, false, not, List, [], ◌∷◌, ◌++◌, map, flat_map, length, filter, Option, Some, None, Result, Ok, Err, if◌then◌else◌}
+use Rattle.std.specs.Prelude.{ℕ, ◌≡◌, List, [], ◌∷◌, map, flat_map, length, Option, Some, None, Result, Ok, Err, if◌then◌else◌}
 use Rattle.sup_specs.specs.Values.{Bytes, text_cmp}
 use Rattle.sup_specs.specs.Rising.{rising, among}
 use Rattle.sup_causal.specs.declared.dot.Dot.{Dot}
@@ -11,20 +11,17 @@ use Rattle.sup_tables.specs.States.{State}
 use Rattle.sup_tables.specs.Readers.{winner}
 use Rattle.sup_placement.specs.Place.{Weigher}
 use Rattle.sup_local_sup.specs.declared.effect.Effect.{Effect}
-use Rattle.sup_local_sup.specs.declared.effect.Incarnation.{Incarnation}
-use Rattle.sup_replica.specs.declared.event.Act.TheVariants.{Event as Of}
-use Rattle.sup_replica.specs.declared.event.Event.TheVariants.{Ship}
 use Rattle.sup_replica.specs.declared.done.Reply.{Reply}
 use Rattle.sup_replica.specs.declared.letter.LetterKind.{LetterKind}
 use Rattle.sup_replica.specs.declared.refusal.Refusal.{Refusal}
-use Rattle.sup_replica.specs.declared.refusal.Refusal.TheVariants.{UnknownNode, NoSuchMessage}
+use Rattle.sup_replica.specs.declared.refusal.Refusal.TheVariants.{UnknownNode}
 use Rattle.sup_replica.specs.Nodes.{Knowledge, by_operations}
 use Rattle.sup_replica.specs.Stations.{Mail, a_delta, a_push, an_ack, Codec, receiver_of, kind_of}
 use Rattle.sup_replica.specs.ByTables.{by_tables}
 use Rattle.sup_model.specs.declared.step.Step.{Step}
-use Rattle.sup_model.specs.declared.step.Step.TheVariants.{Node as AtNode, Deliver as Delivery}
 use Rattle.sup_model.specs.Worlds.{Setting}
-use Rattle.sup_model.specs.Posts.{Post, Real, RealAnswer, RealStepped, post_of, mail_of, real_step, real_after, real_run, real_new}
+use Rattle.sup_model.specs.Posts.{Post, Real, RealStepped, post_of, mail_of, real_step, real_after, real_run, real_new}
+use Rattle.sup_model_rows.specs.Settled.{settles, up_names}
 use Rattle.sup_world.specs.declared.line.Line.{Line}
 use Rattle.sup_world.specs.declared.line.Place.{Place}
 use Rattle.sup_world.specs.Shown.{lines, name_place}
@@ -81,12 +78,6 @@ abbrev pub told_place : Weigher → List Row → Option Row → Telling
 told_place weight rows None = unknown
 told_place weight rows (Some r) = found (target_of r.entry) (name_place weight rows (target_of r.entry))
 
--- what settling has come to so far
-pub record Settling (K : Type 0) : Type 0 where
-  pub world : Real K
-  pub messages : ℕ
-  pub effects : List (Bytes × Effect)
-
 module _ {K : Type 0} (k : Knowledge K) (dots : K → List Dot) where
   abbrev pub told_station : Weigher → (Weigher → Post K → Telling) → Option (Post K) → Telling
   told_station weight tell None = refused UnknownNode
@@ -103,54 +94,11 @@ module _ {K : Type 0} (k : Knowledge K) (dots : K → List Dot) where
   abbrev pub finds : Bytes → Weigher → Post K → Telling
   finds name weight post = told_place weight (k.rows post.station.node.known) (winner (k.rows post.station.node.known) names name)
 
-  -- the delivery of the letter that a step sent, at once
-  abbrev pub brings : Real K → Bytes → Option ℕ → Result (RealStepped K) Refusal
-  brings w from None = Err NoSuchMessage
-  brings w from (Some n) = real_step k w (Delivery from n None 0 0 true)
-
-  abbrev pub letters_in : Option ℕ → ℕ
-  letters_in None = 0
-  letters_in (Some n) = 1
-
-  abbrev pub settling_with : Settling K → RealStepped K → Settling K
-  settling_with s step = record {
-    world = step.world;
-    messages = s.messages + letters_in step.answer.number;
-    effects = s.effects ++ map (λ e. (step.answer.at, e)) step.answer.effects;
-  }
-
-  -- a step, and then so many deliveries, each of the letter that was just sent. A refused one is passed over
-  abbrev pub follows : ℕ → Settling K → Result (RealStepped K) Refusal → Settling K
-  follows n s (Err refusal) = s
-  follows zero s (Ok step) = settling_with s step
-  follows (suc n) s (Ok step) = follows n (settling_with s step) (brings step.world step.answer.at step.answer.number)
-
-  -- a ship, its delivery, and the delivery of the acknowledgement
-  abbrev pub exchanges : Settling K → Bytes → Bytes → Settling K
-  exchanges s from to = follows 2 s (real_step k s.world (AtNode from (Of (Ship to)) 0 true))
-
-  abbrev pub gathers : Settling K → Bytes → List Bytes → Settling K
-  gathers s first [] = s
-  gathers s first (node ∷ nodes) = gathers (exchanges s node first) first nodes
-
-  abbrev pub spreads : Settling K → Bytes → List Bytes → Settling K
-  spreads s first [] = s
-  spreads s first (node ∷ nodes) = spreads (exchanges s first node) first nodes
-
-  -- all to the first, and then the first to all
-  abbrev pub settles : Real K → List Bytes → Settling K
-  settles w [] = record { world = w; messages = 0; effects = [] }
-  settles w (first ∷ nodes) = spreads (gathers (record { world = w; messages = 0; effects = [] }) first nodes) first nodes
-
-  -- the nodes that are up, by name
-  abbrev pub up_names : Real K → List Bytes
-  up_names w = rising text_cmp (map (λ p. p.station.node.name) (filter (λ p. p.station.node.up) w.posts))
-
   -- a whole script
   abbrev pub plays : Real K → List Asked → List Telling
   plays w [] = []
   plays w (steps s ∷ rest) = told_answer (real_step k w s) ∷ plays (real_after k w (real_step k w s)) rest
-  plays w (settle ∷ rest) = let s = settles w (up_names w) in settled s.messages s.effects ∷ plays s.world rest
+  plays w (settle ∷ rest) = let s = settles k w (up_names w) in settled s.messages s.effects ∷ plays s.world rest
   plays w (show node ∷ rest) = told_station w.weigher shows (post_of w node) ∷ plays w rest
   plays w (inspect node ∷ rest) = told_station w.weigher inspects (post_of w node) ∷ plays w rest
   plays w (find node name ∷ rest) = told_station w.weigher (finds name) (post_of w node) ∷ plays w rest
