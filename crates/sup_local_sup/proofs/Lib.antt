@@ -1,2 +1,4 @@
 pub mod WindowLaws
 pub mod HeldLaws
+pub mod KeepingLaws
+pub mod KeptLaws

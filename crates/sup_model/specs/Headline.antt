@@ -46,8 +46,8 @@ MainTheorem =
 -- no two operations of one run add the same dot
 abbrev pub NoDotTwice : Type 0
 NoDotTwice =
-    (setting : Setting) (is_message : Bytes → Bool) (names : List Bytes) → AllPairs (λ (a b : Bytes). a ≢ b) names
-    → (steps : List Step) (answers : List (Result Answer Refusal)) (w : World) (run : Run (new setting is_message names) steps answers w)
+    (setting : Setting) (is_message : Bytes → Bool) (names : List Bytes) (steps : List Step) (answers : List (Result Answer Refusal)) (w : World)
+    (run : Run (new setting is_message names) steps answers w)
     → AllPairs (λ (d e : Dot). d ≢ e) (map (λ r. r.dot) (added (all_issued (new setting is_message names) steps answers w run)))
 
 -- the dots that its replies tell are those of the operations that it adds, one after another

@@ -1,0 +1,129 @@
+-- A step of one node beside the model's: the invariant of all.
+use Rattle.sup_replica.specs.Stations.{Codec}
+use Rattle.sup_model.specs.Posts.{reads}
+use Rattle.sup_placement.specs.Place.{Weigher}
+use Rattle.std.specs.Prelude.{ℕ, zero, suc, ◌≡◌, ◌+◌, ◌-◌, ◌==◌, ◌≤◌, ◌<◌, Bool, true, false, cond, not, List, [], ◌∷◌, ◌++◌, map, find, max, length, refl, Option, Some, None, Result, Ok, Err, nat_lt, nat_le, slice_get, is_some, if◌then◌else◌}
+use Rattle.std.proofs.Common.{sym, ap, ◌∙◌, subst, arith}
+use mathlib.Core.Bool.{true≢false}
+use mathlib.Core.Logic.{◌⊎◌, inl, inr}
+use Rattle.std.proofs.lemmas.Bool.{le-leb, lt-leb, leb-true}
+use Rattle.sup_specs.specs.Values.{Bytes}
+use Rattle.sup_model.specs.Worlds.{Setting, Ops, World, Site, with_site, site_of}
+use Rattle.sup_replica.specs.Nodes.{Knowledge, Node, Message, Kind, by_operations, is_named, delta as is_delta, push as is_push, ack as is_ack}
+use Rattle.sup_anti_entropy.specs.Joins.{Joins, newest_of}
+use Rattle.sup_anti_entropy.specs.Peers.{In, Letter, delta, push, ack, Peer, Has, Gives, Local, Between, Sound, past_with, changed, sends, forgets}
+use Rattle.sup_anti_entropy.proofs.PeerLaws.{Grows, Moves, Fresh, moves_sound}
+use Rattle.sup_model.specs.Laws.{View, Laws}
+use Rattle.sup_replica.specs.Stations.{Station, Mail, a_delta, a_push, an_ack}
+use Rattle.sup_model.specs.Posts.{Post, Real, with_post, post_of}
+use Rattle.sup_model.specs.Stands.{NodeStands}
+use Rattle.sup_model.specs.Clean.{Clean}
+use Rattle.sup_model.specs.Joint.{Trio, Joint, real_of, model_of, letter_of, peer, Peers, MailStands, AllMail, TrioStands, Holds}
+use Rattle.sup_model.proofs.TopLaws.{text_same, text_itself}
+use Rattle.sup_model.proofs.CleanWorld.{in-put}
+
+module _ {K : Type 0} where
+  -- the list with r in place of its namesakes
+  abbrev pub put_trio : Trio K → List (Trio K) → List (Trio K)
+  put_trio r trios = map (λ x. if is_named r.site.node.name x.site.node.name then r else x) trios
+
+  abbrev pub with_trio : Joint K → Trio K → Joint K
+  with_trio j r = record j { trios = put_trio r j.trios }
+
+  abbrev pub Names : Trio K → Type 0
+  Names t = t.post.station.node.name ≡ t.site.node.name
+
+  put_post : (r : Trio K) → Names r → (trios : List (Trio K)) → ((t : Trio K) → In trios t → Names t)
+      → map (λ (p : Post K). if is_named r.post.station.node.name p.station.node.name then r.post else p) (map (λ t. t.post) trios) ≡ map (λ t. t.post) (put_trio r trios)
+  put_post r e [] names = refl
+  put_post r e (t ∷ ts) names =
+      let f : t.post.station.node.name ≡ t.site.node.name = names t (inl refl) in
+      let head : (if is_named r.post.station.node.name t.post.station.node.name then r.post else t.post) ≡ (if is_named r.site.node.name t.site.node.name then r else t).post =
+          (λ i. if is_named (e i) (f i) then r.post else t.post)
+          ∙ (elim (is_named r.site.node.name t.site.node.name) as (λ b. (if b then r.post else t.post) ≡ (if b then r else t).post) [ true ↦ refl | false ↦ refl ]) in
+      let rest = put_post r e ts (λ u h. names u (inr h)) in
+      λ i. head i ∷ rest i
+
+  put_site : (r : Trio K) (trios : List (Trio K))
+      → map (λ (s : Site). if is_named r.site.node.name s.node.name then r.site else s) (map (λ t. t.site) trios) ≡ map (λ t. t.site) (put_trio r trios)
+  put_site r [] = refl
+  put_site r (t ∷ ts) =
+      let head : (if is_named r.site.node.name t.site.node.name then r.site else t.site) ≡ (if is_named r.site.node.name t.site.node.name then r else t).site =
+          elim (is_named r.site.node.name t.site.node.name) as (λ b. (if b then r.site else t.site) ≡ (if b then r else t).site) [ true ↦ refl | false ↦ refl ] in
+      let rest = put_site r ts in
+      λ i. head i ∷ rest i
+
+  pub real_put : (j : Joint K) (r : Trio K) → Names r → ((t : Trio K) → In j.trios t → Names t) → with_post (real_of j) r.post ≡ real_of (with_trio j r)
+  real_put j r e names = let p = put_post r e j.trios names in λ i. record { weigher = j.weigher; codec = j.codec; posts = p i }
+
+  pub model_put : (j : Joint K) (r : Trio K) → with_site (model_of j) r.site ≡ model_of (with_trio j r)
+  model_put j r = let p = put_site r j.trios in λ i. record { weigher = j.weigher; is_message = reads j.codec; sites = p i }
+
+  -- the node of a name, in both worlds
+  pub record Found (j : Joint K) (name : Bytes) : Type 0 where
+    pub trio : Trio K
+    pub there : In j.trios trio
+    pub named : is_named name trio.site.node.name ≡ true
+    pub post : find (λ (p : Post K). is_named name p.station.node.name) (map (λ t. t.post) j.trios) ≡ Some trio.post
+    pub site : find (λ (s : Site). is_named name s.node.name) (map (λ t. t.site) j.trios) ≡ Some trio.site
+
+  pub record Missing (j : Joint K) (name : Bytes) : Type 0 where
+    pub post : find (λ (p : Post K). is_named name p.station.node.name) (map (λ t. t.post) j.trios) ≡ None
+    pub site : find (λ (s : Site). is_named name s.node.name) (map (λ t. t.site) j.trios) ≡ None
+
+  pub looked_up : (weigher : Weigher) (codec : Codec K) (name : Bytes) (trios : List (Trio K)) → ((t : Trio K) → In trios t → Names t)
+      → (let j : Joint K = record { weigher = weigher; codec = codec; trios = trios } in Found j name ⊎ Missing j name)
+  looked_up g m name [] names = inr (record { post = refl; site = refl })
+  looked_up g m name (t ∷ ts) names =
+      let e : t.post.station.node.name ≡ t.site.node.name = names t (inl refl) in
+      let rest = looked_up g m name ts (λ u h. names u (inr h)) in
+      elim (is_named name t.site.node.name) as (λ b. is_named name t.site.node.name ≡ b → Found (record { weigher = g; codec = m; trios = t ∷ ts }) name ⊎ Missing (record { weigher = g; codec = m; trios = t ∷ ts }) name) [
+        | true ↦ λ f. inl (record {
+            trio = t; there = inl refl; named = f;
+            post = ap (λ b. cond b (Some t.post) (find (λ (p : Post K). is_named name p.station.node.name) (map (λ t. t.post) ts))) (ap (is_named name) e ∙ f);
+            site = ap (λ b. cond b (Some t.site) (find (λ (s : Site). is_named name s.node.name) (map (λ t. t.site) ts))) f;
+          })
+        | false ↦ λ f.
+          let post = ap (λ b. cond b (Some t.post) (find (λ (p : Post K). is_named name p.station.node.name) (map (λ t. t.post) ts))) (ap (is_named name) e ∙ f) in
+          let site = ap (λ b. cond b (Some t.site) (find (λ (s : Site). is_named name s.node.name) (map (λ t. t.site) ts))) f in
+          elim rest [
+            | inl h ↦ inl (record { trio = h.trio; there = inr h.there; named = h.named; post = post ∙ h.post; site = site ∙ h.site })
+            | inr h ↦ inr (record { post = post ∙ h.post; site = site ∙ h.site })
+          ]
+      ] refl
+
+module _ {K : Type 0} (k : Knowledge K) (view : View K) (laws : Laws k view) where
+  -- a step of t, which leaves it as r
+  pub record Goes (j : Joint K) (t r : Trio K) : Type 0 where
+    pub name : r.site.node.name ≡ t.site.node.name
+    pub stands : TrioStands view r
+    pub moves : Moves view.joins (Peers view j.trios) (peer view t) (peer view r)
+
+  pub goes_holds : (j : Joint K) (t r : Trio K) → Holds view j → In j.trios t → Goes j t r → Clean (model_of (with_trio j r)) → Holds view (with_trio j r)
+  goes_holds j t r h here g clean =
+      let split = λ (y : Trio K) (is_in : In (put_trio r j.trios) y). in-put (λ x. is_named r.site.node.name x.site.node.name) r j.trios y is_in in
+      record {
+        one = λ y z iy iz same. elim (split y iy) [
+          | inl a ↦ elim (split z iz) [
+            | inl b ↦ a ∙ sym b
+            | inr b ↦
+              let e : r.site.node.name ≡ z.site.node.name = ap (λ (x : Trio K). x.site.node.name) (sym a) ∙ same in
+              absurd (true≢false (sym (subst (λ n. is_named r.site.node.name n ≡ true) e (text_itself r.site.node.name)) ∙ b.1))
+          ]
+          | inr a ↦ elim (split z iz) [
+            | inl b ↦
+              let e : r.site.node.name ≡ y.site.node.name = ap (λ (x : Trio K). x.site.node.name) (sym b) ∙ sym same in
+              absurd (true≢false (sym (subst (λ n. is_named r.site.node.name n ≡ true) e (text_itself r.site.node.name)) ∙ a.1))
+            | inr b ↦ h.one y z a.0 b.0 same
+          ]
+        ];
+        each = λ y is_in. elim (split y is_in) [
+          | inl a ↦ subst (TrioStands view) (sym a) g.stands
+          | inr a ↦ h.each y a.0
+        ];
+        sound = moves_sound view.joins (Peers view j.trios) (Peers view (put_trio r j.trios)) (peer view t) (peer view r) h.sound (t, here, refl) g.moves (λ q w. elim (split w.0 w.1) [
+          | inl a ↦ inl (w.2 ∙ ap (peer view) a)
+          | inr a ↦ inr (w.0, a.0, w.2)
+        ]);
+        clean = clean;
+      }

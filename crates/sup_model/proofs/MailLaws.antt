@@ -1,0 +1,173 @@
+-- Stops, ships and deliveries, in both worlds.
+use Rattle.sup_model.specs.Posts.{post_step}
+use Rattle.sup_replica.specs.declared.refusal.Refusal.TheVariants.{BadMessage}
+use Rattle.std.specs.Prelude.{ℕ, zero, suc, ◌≡◌, ◌+◌, ◌-◌, ◌==◌, ◌≤◌, ◌<◌, Bool, true, false, cond, not, ◌&&◌, List, [], ◌∷◌, ◌++◌, map, find, max, length, refl, Option, Some, None, Result, Ok, Err, nat_lt, nat_le, slice_get, is_some, unwrap_or, if◌then◌else◌}
+use Rattle.std.proofs.Common.{sym, ap, ◌∙◌, subst, arith}
+use mathlib.Core.Bool.{true≢false}
+use mathlib.Core.Logic.{◌⊎◌, inl, inr}
+use Rattle.std.proofs.lemmas.Bool.{le-leb, lt-leb, leb-true}
+use Rattle.std.specs.Ordering.{eq_by_cmp}
+use Rattle.sup_specs.specs.Values.{Bytes, text_cmp}
+use Rattle.sup_tables.specs.Operations.{Operation, covers, Covers, NoClash}
+use Rattle.sup_replica.specs.declared.event.Event.{Event}
+use Rattle.sup_replica.specs.declared.event.Event.TheVariants.{Join, Leave, Start, Replace, Delete, Register, Unregister, Exit, Ship, Push, Deliver}
+use Rattle.sup_replica.specs.declared.event.Act.TheVariants.{Event as Of, Stop, Restart}
+use Rattle.sup_replica.specs.declared.event.Act.{Act as Deed}
+use Rattle.sup_replica.specs.declared.done.Reply.{Reply}
+use Rattle.sup_replica.specs.declared.done.Reply.TheVariants.{Sent, Acked, Stopped, Boot}
+use Rattle.sup_replica.specs.declared.refusal.Refusal.{Refusal}
+use Rattle.sup_replica.specs.declared.refusal.Refusal.TheVariants.{Down, AlreadyUp, UnknownNode, UpToDate, BadMessage, WrongReceiver, CountSpent, KeepFailed}
+use Rattle.sup_replica.specs.Checks.{refused_if, then_do}
+use Rattle.sup_placement.specs.Place.{Weigher}
+use Rattle.sup_model.specs.Worlds.{Ops, World, Site}
+use Rattle.sup_replica.specs.Nodes.{Knowledge, Node, Message, Outcome, Kind, by_operations, is_named, delta as is_delta, push as is_push, ack as is_ack}
+use Rattle.sup_replica.specs.Steps.{reading, event_step, up_step, passes_greatest}
+use Rattle.sup_replica.specs.Acts.{reconciled, stopped, booted, act_step, absorbs, takes, deliver, kept_by, answer_to, changes, keeps}
+use Rattle.sup_replica.specs.Steps.{only}
+use Rattle.sup_model.proofs.Afters.{After, after-refused_if, after-then_do}
+use Rattle.sup_anti_entropy.specs.Joins.{Joins, newest_of, joined}
+use Rattle.sup_anti_entropy.specs.Peers.{In, Letter, delta, push, ack, Peer, Has, Gives, Local, Between, Sound, past_with, changed, sends, forgets}
+use Rattle.sup_anti_entropy.proofs.PeerLaws.{Grows, Moves, Fresh, moves_sound}
+use Rattle.sup_anti_entropy.proofs.StepLaws.{Change, moves_change, moves_stay, moves_alike, moves_ack, moves_forget, moves_send, up_to_date, part_gives, whole_gives, taken_has, known_both_ways}
+use Rattle.sup_model.specs.Laws.{View, Laws, Alike}
+use Rattle.sup_model.specs.Clean.{HasRow, Clean, Added}
+use Rattle.sup_replica.specs.Stations.{Station, Mail, a_delta, a_push, an_ack, Move, shipped, notes, volatile, pushed, moved, ship_step, own_step, volatile_step, station_step, as_message, taken_with, acknowledged, mail_step}
+use Rattle.sup_model.specs.Posts.{Post, Real, arrives}
+use Rattle.sup_model.specs.Stands.{NodeStands, MessageStands, OutcomeStands, Together, BothOrNone}
+use Rattle.sup_model.specs.Joint.{Trio, Joint, real_of, model_of, letter_of, peer, Peers, MailStands, AllMail, TrioStands, Holds}
+use Rattle.sup_model.proofs.TopLaws.{text_same, text_itself, alike_of_Covers, Covers_of_alike}
+use Rattle.sup_tables.proofs.CoverTests.{Covers-from_test, test-from_Covers}
+use Rattle.sup_model.proofs.IssueLaws.{some_same, none_some}
+use Rattle.sup_model.proofs.SimLaws.{both-refused_if, both-then_do, act_stands, kept_stands}
+use Rattle.sup_model.proofs.ActLaws.{IsOwn, now_still, Act, Moved, of_moved, own_act, kept_after, kept_fits, trio_with, in-letters}
+
+pub in-sites : {K : Type 0} (trios : List (Trio K)) (t : Trio K) → In trios t → In (map (λ (u : Trio K). u.site) trios) t.site
+in-sites [] t h = h
+in-sites {K = K} (u ∷ us) t (inl e) = inl (ap (λ (x : Trio K). x.site) e)
+in-sites (u ∷ us) t (inr h) = inr (in-sites us t h)
+
+-- both done, both refused alike, or the code alone refused as up to date where C holds
+abbrev pub Answers : {A B : Type 0} → Type 0 → (A → B → Type 0) → Result A Refusal → Result B Refusal → Type 0
+Answers C R (Ok a) (Ok b) = R a b
+Answers C R (Err r) (Err q) = r ≡ q
+Answers C R (Ok a) (Err q) = ⊥
+Answers C R (Err r) (Ok b) = (r ≡ UpToDate) × C
+
+pub answers_of : {A B : Type 0} (C : Type 0) (R : A → B → Type 0) (x : Result A Refusal) (y : Result B Refusal) → Together R x y → Answers C R x y
+answers_of C R (Ok a) (Ok b) h = h
+answers_of C R (Err r) (Err q) h = h
+answers_of C R (Ok a) (Err q) h = h
+answers_of C R (Err r) (Ok b) h = absurd h
+
+-- checks before the last ones
+pub kept-refused_if : {L : Type 0} (x : Knowledge L) (saves b : Bool) (refusal : Refusal) (r : Result (Outcome L) Refusal) → kept_by saves (refused_if b refusal r) ≡ refused_if b refusal (kept_by saves r)
+kept-refused_if x saves true refusal r = refl
+kept-refused_if x saves false refusal r = refl
+
+module _ {K : Type 0} (k : Knowledge K) (view : View K) (laws : Laws k view) where
+  -- an own operation, a stop, a restart: through the last checks
+  pub through : (R : Move K → Outcome Ops → Type 0) (P : Outcome K → Type 0) (Q : Outcome Ops → Type 0) (f : Outcome K → Move K) (x : Result (Outcome K) Refusal) (y : Result (Outcome Ops) Refusal)
+      → Together (OutcomeStands view) x y → After P x → After Q y → ((o : Outcome K) (p : Outcome Ops) → OutcomeStands view o p → P o → Q p → R (f o) p)
+      → Together R (then_do x (λ o. let r : Result (Move K) Refusal = Ok (f o) in r)) y
+  through R P Q f (Ok o) (Ok p) h a b g = g o p h a b
+  through R P Q f (Err r) (Err q) h a b g = h
+  through R P Q f (Ok o) (Err q) h a b g = absurd h
+  through R P Q f (Err r) (Ok p) h a b g = absurd h
+
+  -- what one node knows clashes with nothing
+  pub node_clear : (j : Joint K) (t : Trio K) → Holds view j → In j.trios t → NoClash t.site.node.known
+  node_clear j t h here x y hx hy same =
+      let at = in-sites j.trios t here in
+      h.clean.clear x y (record { site = t.site; there = at; has = inl hx }) (record { site = t.site; there = at; has = inl hy }) same
+
+  own_together : (j : Joint K) (t : Trio K) → Holds view j → In j.trios t → (a : Deed) (now : ℕ) (saves : Bool) → After (Moved k view laws t.post.station.node) (act_step k j.weigher t.post.station.node a now)
+      → Together (Act k view laws j t) (own_step k j.weigher t.post.station a now saves) (kept_by saves (act_step by_operations j.weigher t.site.node a now))
+  own_together j t h here a now saves moves =
+      let st = t.post.station in
+      let s = h.each t here in
+      let x = act_step k j.weigher st.node a now in
+      let y = act_step by_operations j.weigher t.site.node a now in
+      through (Act k view laws j t) (Moved k view laws st.node) (λ p. passes_greatest p.node ≡ false)
+      (λ o. moved k o (notes k st o.node (unwrap_or o.node.newest k.nothing)) (pushed k st.node.name o.letter)) (kept_by saves x) (kept_by saves y)
+      (kept_stands k view laws saves x y (act_stands k view laws j.weigher st.node t.site.node s.node (node_clear j t h here) a now))
+      (kept_after k view laws k (Moved k view laws st.node) saves x moves)
+      (kept_fits k view laws saves y)
+      (λ o p r v f. own_act k view laws j t h here o p r v f (sym r.node.name ∙ v.name ∙ s.node.name))
+
+  -- a stop or a restart
+  record Rests (n : Node K) (o : Outcome K) : Type 0 where
+    pub name : o.node.name ≡ n.name
+    pub count : o.node.count ≡ n.count
+    pub known : o.node.known ≡ n.known
+    pub letter : o.letter ≡ None
+
+  stop_rests : (g : Weigher) (n : Node K) (now : ℕ) → After (Rests n) (act_step k g n Stop now)
+  stop_rests g n now =
+      let o : Result (Outcome K) Refusal = Ok (only (stopped n) Stopped [] None) in
+      after-refused_if (Rests n) (not n.up) Down o (record { name = refl; count = refl; known = refl; letter = refl })
+
+  restart_rests : (g : Weigher) (n : Node K) (now : ℕ) → After (Rests n) (act_step k g n Restart now)
+  restart_rests g n now =
+      let n' = booted n in
+      let o : Result (Outcome K) Refusal = Ok (keeps k g n' (Boot n'.supervisor.boot) None) in
+      after-refused_if (Rests n) n.up AlreadyUp o (record { name = refl; count = refl; known = refl; letter = refl })
+
+  pub no_letters : (j : Bytes) (c : ℕ) (past : ℕ → K) (a : Option (Message K)) (b : Option (Message Ops)) → a ≡ None → BothOrNone (MessageStands view) a b → BothOrNone (MailStands view j c past) None b
+  no_letters name c past None None e h = tt
+  no_letters name c past (Some a) b e h = absurd (none_some a (sym e))
+  no_letters name c past None (Some b) e h = h
+
+  pub none_fresh : (W : Peer Bytes view.S → Type 0) (p : Peer Bytes view.S) (x : Mail K) → None ≡ Some x → Fresh view.joins W p (letter_of view x)
+  none_fresh W p x e = absurd (none_some x e)
+
+  rest_act : (j : Joint K) (t : Trio K) → Holds view j → In j.trios t → (o : Outcome K) (p : Outcome Ops) → OutcomeStands view o p → Rests t.post.station.node o → passes_greatest p.node ≡ false
+      → Act k view laws j t (moved k o (volatile k t.post.station o.node) None) p
+  rest_act j t h here o p s v fits =
+      let st = t.post.station in
+      let same : forgets (peer view t) ≡ peer view (trio_with k view laws t (volatile k st o.node) p.node t.past None None) =
+          λ i. record { name = sym v.name i; state = view.sem (sym v.known i); count = sym v.count i; past = λ n. view.sem (t.past n); held = []; acked = λ q. 0; sent = map (letter_of view) t.post.sent } in
+      record {
+        past = t.past; kept = λ n h. refl; held = λ x h. absurd h; now = now_still k view laws t (h.each t here) o.node.count v.count;
+        name = sym s.node.name ∙ v.name ∙ (h.each t here).node.name;
+        node = s.node; fits = fits; reply = s.reply; effects = s.effects;
+        moves = subst (Moves view.joins (Peers view j.trios) (peer view t)) same (moves_forget view.joins (Peers view j.trios) (peer view t) h.sound (t, here, refl));
+        letter = no_letters o.node.name o.node.count t.past o.letter p.letter v.letter s.letter;
+        fresh = none_fresh (Peers view j.trios) _;
+      }
+
+  rest_together : (j : Joint K) (t : Trio K) → Holds view j → In j.trios t → (a : Deed) (now : ℕ) (saves : Bool) → After (Rests t.post.station.node) (act_step k j.weigher t.post.station.node a now)
+      → Together (Act k view laws j t) (volatile_step k j.weigher t.post.station a now saves) (kept_by saves (act_step by_operations j.weigher t.site.node a now))
+  rest_together j t h here a now saves rests =
+      let st = t.post.station in
+      let s = h.each t here in
+      let x = act_step k j.weigher st.node a now in
+      let y = act_step by_operations j.weigher t.site.node a now in
+      through (Act k view laws j t) (Rests st.node) (λ p. passes_greatest p.node ≡ false) (λ o. moved k o (volatile k st o.node) None) (kept_by saves x) (kept_by saves y)
+      (kept_stands k view laws saves x y (act_stands k view laws j.weigher st.node t.site.node s.node (node_clear j t h here) a now))
+      (kept_after k view laws k (Rests st.node) saves x rests)
+      (kept_fits k view laws saves y)
+      (λ o p r v f. rest_act j t h here o p r v f)
+
+  -- an event of its own
+  pub act_together : (j : Joint K) (t : Trio K) → Holds view j → In j.trios t → (e : Event) (now : ℕ) (saves : Bool) → IsOwn k view laws e
+      → Together (Act k view laws j t) (own_step k j.weigher t.post.station (Of e) now saves) (kept_by saves (act_step by_operations j.weigher t.site.node (Of e) now))
+  act_together j t h here e now saves own = own_together j t h here (Of e) now saves (of_moved k view laws j.weigher t.post.station.node e now own)
+
+  -- bytes that are given to a node
+  pub bytes_together : (j : Joint K) (t : Trio K) → Holds view j → In j.trios t → (bytes : Bytes) (now : ℕ) (saves : Bool)
+      → Together (Act k view laws j t) (post_step k (real_of j) t.post.station (Of (Deliver bytes)) now saves) (kept_by saves (act_step by_operations j.weigher t.site.node (Of (Deliver bytes)) now))
+  bytes_together j t h here bytes now saves =
+      let up : t.post.station.node.up ≡ t.site.node.up = (h.each t here).node.up in
+      subst (λ b. Together (Act k view laws j t) (refused_if (not b) Down (let r : Result (Move K) Refusal = Err BadMessage in r)) (kept_by saves (act_step by_operations j.weigher t.site.node (Of (Deliver bytes)) now))) (sym up)
+      (go t.site.node.up) where
+    go : (b : Bool) → Together (Act k view laws j t) (refused_if (not b) Down (let r : Result (Move K) Refusal = Err BadMessage in r)) (kept_by saves (refused_if (not b) Down (let r : Result (Outcome Ops) Refusal = Err BadMessage in r)))
+    go true = refl
+    go false = refl
+
+  pub stop_together : (j : Joint K) (t : Trio K) → Holds view j → In j.trios t → (now : ℕ) (saves : Bool)
+      → Together (Act k view laws j t) (station_step k j.codec j.weigher t.post.station Stop now saves) (kept_by saves (act_step by_operations j.weigher t.site.node Stop now))
+  stop_together j t h here now saves = rest_together j t h here Stop now saves (stop_rests j.weigher t.post.station.node now)
+
+  pub restart_together : (j : Joint K) (t : Trio K) → Holds view j → In j.trios t → (now : ℕ) (saves : Bool)
+      → Together (Act k view laws j t) (station_step k j.codec j.weigher t.post.station Restart now saves) (kept_by saves (act_step by_operations j.weigher t.site.node Restart now))
+  restart_together j t h here now saves = rest_together j t h here Restart now saves (restart_rests j.weigher t.post.station.node now)

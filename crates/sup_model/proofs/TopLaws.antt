@@ -1,0 +1,39 @@
+-- Texts and dots that the tests call equal are equal; and what covering is, as operations that are alike.
+use Rattle.std.specs.Prelude.{◌≡◌, ℕ, ◌≤◌, true, List, ◌++◌}
+use Rattle.std.specs.Ordering.{eq_by_cmp}
+use Rattle.std.specs.Cmp.{Equal-is, tied_itself}
+use Rattle.std.proofs.Common.{sym}
+use Rattle.sup_specs.specs.Values.{Bytes, text_cmp}
+use Rattle.sup_specs.specs.OrderLaws.{text_total, text_tie}
+use Rattle.sup_causal.specs.declared.dot.Dot.{Dot}
+use Rattle.sup_causal.specs.Dots.{dot_eq}
+use Rattle.sup_causal.specs.DotLaws.{dot_exact as dot_tie}
+use Rattle.sup_tables.specs.declared.row.Row.{Row}
+use Rattle.sup_tables.specs.Rows.{row_cmp}
+use Rattle.sup_tables.specs.RowLaws.{row_total}
+use Rattle.sup_tables.specs.Operations.{Operation, known, Covers, greatest}
+use Rattle.sup_tables.proofs.GreatestLaws.{greatest_is}
+use Rattle.sup_model.specs.Laws.{Alike}
+
+pub text_itself : (x : Bytes) → eq_by_cmp text_cmp x x ≡ true
+text_itself x = (Equal-is _).1 (tied_itself text_total x)
+
+pub text_same : (x y : Bytes) → eq_by_cmp text_cmp x y ≡ true → x ≡ y
+text_same x y e = text_tie x y ((Equal-is _).0 e)
+
+pub dot_same : (d e : Dot) → dot_eq d e ≡ true → d ≡ e
+dot_same d e t = dot_tie d e ((Equal-is _).0 t)
+
+pub row_itself : (r : Row) → eq_by_cmp row_cmp r r ≡ true
+row_itself r = (Equal-is _).1 (tied_itself row_total r)
+
+-- a known dot is no greater than the greatest
+pub known-greatest : (ops : List Operation) (d : Dot) → known ops d ≡ true → d.counter ≤ greatest ops d.node
+known-greatest ops d e = (greatest_is ops d.node).bound d (λ i. d.node) e
+
+-- what covers another list is alike with it behind
+pub alike_of_Covers : (ops others : List Operation) → Covers ops others → Alike ops (ops ++ others)
+alike_of_Covers ops others c = record { dots = λ d. sym (c.known_stays d); rows = sym c.live_stays }
+
+pub Covers_of_alike : (ops others : List Operation) → Alike (ops ++ others) ops → Covers ops others
+Covers_of_alike ops others a = record { known_stays = a.dots; live_stays = a.rows }

@@ -1,0 +1,6 @@
+-- The headline.
+use Rattle.sup_model.proofs.KeepsLaws.{main}
+use Rattle.sup_model.proofs.laws.main_theorem.Goals as goal
+
+pub returns : goal.returns
+returns c = main
