@@ -27,7 +27,6 @@ use Rattle.sup_world.specs.declared.line.Place.{Place}
 use Rattle.sup_world.specs.Shown.{lines, name_place}
 
 infix 70 ◌⇒◌
-
 -- what a line asks: a step, to settle, or to be shown something
 pub data Asked : Type 0 where
   steps : Step → Asked
