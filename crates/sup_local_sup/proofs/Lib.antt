@@ -1,3 +1,4 @@
+pub mod BegunLaws
 pub mod WindowLaws
 pub mod HeldLaws
 pub mod KeepingLaws

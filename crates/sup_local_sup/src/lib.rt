@@ -1,6 +1,7 @@
 //! The local supervisor: what a node keeps running, and what becomes of exits.
 #![tactic(auto)]
 
+pub mod begun;
 pub mod effect;
 pub mod kept;
 pub mod leaving;

@@ -1,0 +1,7 @@
+mod Words
+mod Lines
+mod TableRows
+mod ChildRows
+mod LetterRows
+mod SaveRows
+mod FurtherRows
