@@ -1,0 +1,72 @@
+-- Tokens that were appended, one part after another, and the text that they make.
+use Rattle.std.proofs.Common.{◌≡◌, ℕ, ◌<◌, ◌≤◌, ◌^◌, List, [], ◌∷◌, ◌++◌, Some, decimal, refl, sym, ap, ap₂, ◌∙◌, append_assoc, lit<, lit≤, arith}
+use Rattle.std.specs.Str.{IsUtf8}
+use Rattle.json.specs.Token.{Token, key}
+use Rattle.json.specs.Lex.{tokens}
+use Rattle.json.specs.Print.{print}
+use Rattle.json.specs.Written.{Written}
+use Rattle.serde_json.specs.Data.{Data, unsigned, depth}
+use Rattle.serde_json.specs.Read.{read, number_of, of_json, max_depth}
+use Rattle.serde_json.specs.Written.{outline, compact_text, blank, unless_float, WritesValue}
+use Rattle.serde_json.proofs.Texts.{print-outline, unless_float-number_of}
+use Rattle.std.specs.Prelude.{option_and_then}
+use Rattle.json.specs.Json as json
+use Rattle.json.proofs.Printed.Trees.{value-json_tokens}
+use Rattle.std.proofs.Common.{append-nil}
+use Rattle.serde_json.proofs.Numbers.{number_of-decimal}
+use Rattle.json.specs.Tree as tree
+use Rattle.sup_wire.specs.Writing.{Adds, tokens_of, field_tokens}
+use Rattle.sup_wire.specs.Faults.{IsJson}
+
+pub adds_field : (a b c : Written) (name : List ℕ) (d : Data) → b.before ≡ a.before → b.tokens ≡ a.tokens ++ key name ∷ [] → Adds b c (tokens_of d) → Adds a c (field_tokens name d)
+adds_field a b c name d before tokens after = record {
+  before = after.before ∙ before;
+  tokens = after.tokens ∙ ap (λ ts. ts ++ tokens_of d) tokens ∙ append_assoc a.tokens (key name ∷ []) (tokens_of d);
+}
+
+-- what was written is the compact text of the value
+pub text_from_adds : (old new : Written) (d : Data) (items : List ℕ) → old.before ≡ [] → old.tokens ≡ [] → Adds old new (tokens_of d) → items ≡ new.before ++ print new.tokens → items ≡ compact_text d
+text_from_adds old new d items before tokens adds is =
+    is ∙ ap₂ (λ front ts. front ++ print ts) (adds.before ∙ before) (adds.tokens ∙ ap (λ ts. ts ++ tokens_of d) tokens) ∙ print-outline d
+
+pub adds_one : (a b : Written) (t : Token) → b.before ≡ a.before → b.tokens ≡ a.tokens ++ t ∷ [] → Adds a b (t ∷ [])
+adds_one a b t before tokens = record { before = before; tokens = tokens }
+
+pub adds_then : (a b c : Written) (ts us : List Token) → Adds a b ts → Adds b c us → Adds a c (ts ++ us)
+adds_then a b c ts us x y = record {
+  before = y.before ∙ x.before;
+  tokens = y.tokens ∙ ap (λ w. w ++ us) x.tokens ∙ append_assoc a.tokens ts us;
+}
+
+pub adds_four : (a b c d e : Written) (t : Token) (ts us vs : List Token) → b.before ≡ a.before → b.tokens ≡ a.tokens ++ t ∷ [] → Adds b c ts → Adds c d us → Adds d e vs → Adds a e (t ∷ (ts ++ (us ++ vs)))
+adds_four a b c d e t ts us vs before tokens x y z = record {
+  before = z.before ∙ y.before ∙ x.before ∙ before;
+  tokens = z.tokens ∙ ap (λ w. w ++ vs) (y.tokens ∙ ap (λ w. w ++ us) (x.tokens ∙ ap (λ w. w ++ ts) tokens)) ∙ simp append_assoc;
+}
+
+-- tokens of a value are read as it
+read_back : (d : Data) (ts : List Token) (text : List ℕ) → WritesValue d [] ts → tokens text ≡ ts → depth d ≤ max_depth → read text ≡ Some d
+read_back d ts text w same shallow =
+    ap (λ o. option_and_then of_json (option_and_then (λ p. json.if_last p.0 p.1) o))
+    (ap (json.value max_depth) (same ∙ w.1 ∙ sym (append-nil _)) ∙ value-json_tokens w.0 max_depth [] (omega (arith, w.3))) ∙ w.2
+
+-- what a value needs so that its text reads back
+pub record ReadsBack (d : Data) : Type 0 where
+  pub value : of_json (outline d) ≡ Some d
+  pub nests : tree.depth (outline d) ≤ depth d
+  pub whole : blank (outline d) ≡ outline d
+  pub shallow : depth d ≤ max_depth
+
+pub json_from_adds : (old new : Written) (d : Data) (items : List ℕ) → ReadsBack d → old.before ≡ [] → old.tokens ≡ [] → Adds old new (tokens_of d) → items ≡ new.before ++ print new.tokens
+    → tokens (print new.tokens) ≡ new.tokens → IsUtf8 (print new.tokens) → IsJson items d
+json_from_adds old new d items back before none adds is again utf8 =
+    let all : new.tokens ≡ tokens_of d = adds.tokens ∙ ap (λ ts. ts ++ tokens_of d) none in
+    let text : items ≡ print new.tokens = is ∙ ap (λ front. front ++ print new.tokens) (adds.before ∙ before) in
+    record {
+      utf8 = rw text utf8;
+      value = read_back d (tokens_of d) items (outline d, refl, back.value, back.nests, back.whole) (ap tokens text ∙ again ∙ all) back.shallow;
+    }
+
+whole_number : (n : ℕ) → n < 2 ^ 64 → unless_float (decimal n) ≡ decimal n
+whole_number n h = unless_float-number_of (decimal n) (unsigned n) (number_of-decimal n h)
+

@@ -1,0 +1,11 @@
+pub mod Keys
+pub mod Few
+pub mod Adding
+pub mod Cuts
+pub mod FieldLaws
+pub mod ListLaws
+pub mod ChildLaws
+pub mod RowLaws
+pub mod PartLaws
+pub mod DraftLaws
+pub mod Promises

@@ -1,0 +1,12 @@
+use Rattle.std.proofs.Common.{◌≡◌, ◌++◌, drop, map}
+use Rattle.json.specs.Tree.{items_tokens}
+use Rattle.serde_json.specs.View.{items_of}
+use Rattle.serde_json.specs.Written.{items_outline}
+use Rattle.sup_wire.specs.Forms.{row_value}
+use Rattle.sup_wire.proofs.writing.rows.write_rows.Given as goal
+
+abbrev pub invariant-loop-row : goal.invariant-loop-row
+invariant-loop-row l = record {
+  before : l.out.before ≡ l.initial.out.before;
+  tokens : l.out.tokens ++ items_tokens (items_outline (items_of (map row_value (drop l.row-index l.rows)))) ≡ l.initial.out.tokens ++ items_tokens (items_outline (items_of (map row_value l.rows)))
+}

@@ -1,0 +1,41 @@
+-- What is appended to a text (this project). For private clauses.
+use Rattle.std.specs.Prelude.{◌≡◌, ℕ, List, [], ◌∷◌, map, ◌++◌}
+use Rattle.sup_specs.specs.Values.{Bytes}
+use Rattle.json.specs.Token.{Token}
+use Rattle.json.specs.Tree.{json_tokens}
+use Rattle.json.specs.Written.{Written}
+use Rattle.serde_json.specs.Data.{Data, array}
+use Rattle.serde_json.specs.View.{items_of}
+use Rattle.serde_json.specs.Written.{outline}
+use Rattle.sup_tables.specs.Lent.{rows_lent}
+use Rattle.sup_wire.specs.declared.writing.lending.LentParts.{LentParts}
+use Rattle.sup_wire.specs.declared.version.Version.{Version}
+use Rattle.sup_wire.specs.Drafts.{Parts, Draft}
+use Rattle.sup_wire.specs.Forms.{value_in}
+
+-- an array, an item for each element
+abbrev pub array_of : {X : Type 0} → (X → Data) → List X → Data
+array_of f xs = array (items_of (map f xs))
+
+-- the tokens of a value
+abbrev pub tokens_of : Data → List Token
+tokens_of d = json_tokens (outline d)
+
+-- a key, and the tokens of its value
+abbrev pub field_tokens : Bytes → Data → List Token
+field_tokens name d = Token.key name ∷ tokens_of d
+
+-- these tokens are appended
+pub record Adds (old new : Written) (ts : List Token) : Type 0 where
+  pub before : new.before ≡ old.before
+  pub tokens : new.tokens ≡ old.tokens ++ ts
+
+-- what stands behind the references
+abbrev pub parts_lent : LentParts → Parts
+parts_lent p = record { vector = p.vector.items; cloud = p.cloud.items; rows = rows_lent p.rows.items }
+
+-- a draft of x is appended
+pub record WritesDraft {M : Type 0} (IsDraft : M → Draft → Type 0) (v : Version) (old new : Written) (x : M) : Type 0 where
+  pub draft : Draft
+  pub same : IsDraft x draft
+  pub adds : Adds old new (tokens_of (value_in v draft))
