@@ -22,10 +22,10 @@ use Rattle.sup_wire.specs.Drafts.{Parts, IsCut, IsWhole, AreCanonical}
 module _ (holds : Dot → Bool) (counted : (d : Dot) → holds d ≡ true → IsCounted d) (vector : List (Bytes × ℕ)) (cloud : List Dot) (is_vector : IsVector holds vector) (is_cloud : IsCloud holds cloud) where
   in_cut : (d : Dot) → holds d ≡ true → in_parts vector cloud d ≡ true
   in_cut d there = elim (cases_order (entry vector d.node) d.counter) [
-    | inl above ↦ or_right _ _ ((is_cloud.beyond d).1 (there, λ n run. let is : entry vector d.node ≡ n = run_is_one holds d.node _ n (is_vector.runs d.node) run in omega (arith, is, above)))
+    | inl tied ↦ or_left _ _ (and_from _ _ (le-leb _ _ (counted d there).0) (le-leb _ _ (omega (arith, tied))))
     | inr other ↦ elim other [
-      | inl above ↦ or_left _ _ (and_from _ _ (le-leb _ _ (counted d there).0) (le-leb _ _ (omega (arith, above))))
-      | inr tied ↦ or_left _ _ (and_from _ _ (le-leb _ _ (counted d there).0) (le-leb _ _ (omega (arith, tied))))
+      | inl above ↦ or_right _ _ ((is_cloud.beyond d).1 (there, λ n run. let is : entry vector d.node ≡ n = run_is_one holds d.node _ n (is_vector.runs d.node) run in omega (arith, is, above)))
+      | inr below ↦ or_left _ _ (and_from _ _ (le-leb _ _ (counted d there).0) (le-leb _ _ (omega (arith, below))))
     ]
   ]
 

@@ -15,7 +15,7 @@ use Rattle.serde_json.specs.View.{items_of}
 use Rattle.sup_causal.specs.declared.dot.Dot.{Dot}
 use Rattle.sup_specs.proofs.TextLemmas.{text_from_no_fault, no_fault_from_text}
 use Rattle.sup_wire.specs.Forms.{count_value, dot_value, vector_members, IsName, IsCount, IsDot, IsNote}
-use Rattle.sup_wire.specs.FieldReads.{name_at, count_at, within_at}
+use Rattle.sup_wire.specs.FieldReads.{unfaulted, name_at, count_at, within_at}
 use Rattle.sup_wire.specs.RowReads.{two_in, two_at, dot_at, each_in}
 use Rattle.sup_wire.specs.DraftReads.{dots_at, name_from, note_from, notes_in}
 use Rattle.sup_wire.proofs.FieldLaws.{unfaulted-some, name_takes, name_again, within_takes, within_again}

@@ -12,6 +12,7 @@ use Rattle.serde_json.specs.Find.{get, as_array, as_object}
 use Rattle.sup_wire.specs.declared.fault.WireFault.{WireFault}
 use Rattle.sup_wire.specs.declared.fault.WireFault.TheVariants.{NotJson, NotMessage, BadVersion, NotCanonical, OutOfMemory}
 use Rattle.sup_wire.specs.declared.version.Version.{Version}
+use Rattle.sup_wire.specs.declared.reading.parts.Parts.{Parts as ReadParts}
 use Rattle.sup_wire.specs.FieldReads.{◌>>=◌, has_just, name_in, within_in, count_at, unfaulted, ends_at, version_at, kind_at}
 use Rattle.sup_wire.specs.RowReads.{each_in, dot_at, rows_at}
 use Rattle.sup_wire.specs.Drafts.{Parts, Draft, ack, push, delta, image, IsCut, IsWhole, IsSound, AreCanonical}
@@ -61,6 +62,10 @@ parts_at v d = do
   context ← context_in d
   rows ← rows_in v d
   Some (record { vector = context.0; cloud = context.1; rows = rows })
+
+-- the parts that a reader holds
+abbrev pub parts_read : ReadParts → Parts
+parts_read p = record { vector = p.vector.items; cloud = p.cloud.items; rows = p.rows.items }
 
 unfoldable pub ack_fields : List Bytes
 ack_fields = codes "from" ∷ codes "kind" ∷ codes "n" ∷ codes "to" ∷ codes "v" ∷ []

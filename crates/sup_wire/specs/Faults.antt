@@ -28,18 +28,19 @@ pub record Says {M : Type 0} (IsDraft : M → Draft → Type 0) (text : Bytes) (
   pub formed : IsFormed draft
   pub json : IsJson text (value_of draft)
 
--- the text is the compact one of the value of x
-pub record IsTextOf {M : Type 0} (IsDraft : M → Draft → Type 0) (text : Bytes) (x : M) : Type 0 where
+-- the text is the compact one of the value of x, and is read as that value; where x is in its range, each field is what it may be
+pub record IsTextOf {M : Type 0} (IsDraft : M → Draft → Type 0) (InRange : M → Type 0) (text : Bytes) (x : M) : Type 0 where
   pub draft : Draft
   pub same : IsDraft x draft
   pub compact : text ≡ compact_text (value_of draft)
   pub json : IsJson text (value_of draft)
+  pub formed : InRange x → IsFormed draft
 
 -- the same behind a front
-pub record IsTextAfter {M : Type 0} (IsDraft : M → Draft → Type 0) (front all : Bytes) (x : M) : Type 0 where
+pub record IsTextAfter {M : Type 0} (IsDraft : M → Draft → Type 0) (InRange : M → Type 0) (front all : Bytes) (x : M) : Type 0 where
   pub text : Bytes
   pub parts : all ≡ front ++ text
-  pub is : IsTextOf IsDraft text x
+  pub is : IsTextOf IsDraft InRange text x
 
 -- the value says no version, or version 1 and is of no message (or image) with all fields in their forms
 abbrev pub IsMisformed : (Draft → Type 0) → Data → Type 0

@@ -122,6 +122,15 @@ IsEntry (Name name id) = IsText Visible 1 128 name × IsText Visible 1 128 id
 abbrev pub IsRow : Row → Type 0
 IsRow r = IsEntry r.entry × IsDot r.dot
 
+-- the same of what tables keep, where the counters are known from the context
+abbrev pub IsWritten : Row → Type 0
+IsWritten r = IsEntry r.entry × IsName r.dot.node
+
+pub record AreWritten (p : Parts) : Type 0 where
+  pub vector : AllByRecursion (λ e. IsName e.0) p.vector
+  pub cloud : AllByRecursion (λ d. IsName d.node) p.cloud
+  pub rows : AllByRecursion IsWritten p.rows
+
 pub record AreParts (p : Parts) : Type 0 where
   pub vector : AllByRecursion IsNote p.vector
   pub cloud : AllByRecursion IsDot p.cloud

@@ -60,7 +60,9 @@ pub fn decode_image(alloc: Global, text: &[u8]) -> Result<Image, WireFault>
 
 /// The text of a message: compact, with keys in byte order. An `Err` where a growth was refused.
 pub fn encode(alloc: Global, message: &Message) -> Result<Vec<u8>, AllocError>
-    ensures text { IfOk result (λ text. IsTextOf IsDraftOf text.items message.now) }
+    ensures text { IfOk result (λ text. IsTextOf IsDraftOf IsInRange text.items message.now) }
+    // What is written is what `decode` reads.
+    ensures says { IfOk result (λ text. IsInRange message.now → Says IsDraftOf text.items message.now) }
     ensures whole { IfOk result (λ _. IsWholeMessage message.now) }
 {
     encode_after(Vec::new(alloc), message)
@@ -69,7 +71,7 @@ pub fn encode(alloc: Global, message: &Message) -> Result<Vec<u8>, AllocError>
 /// The text of a message, written behind what the buffer has. An `Err` where a growth was refused; the buffer is then
 /// dropped.
 pub fn encode_after(front: Vec<u8>, message: &Message) -> Result<Vec<u8>, AllocError>
-    ensures text { IfOk result (λ all. IsTextAfter IsDraftOf front.items all.items message.now) }
+    ensures text { IfOk result (λ all. IsTextAfter IsDraftOf IsInRange front.items all.items message.now) }
     ensures whole { IfOk result (λ _. IsWholeMessage message.now) }
 {
     let mut out = Writer::new(front);
@@ -79,7 +81,9 @@ pub fn encode_after(front: Vec<u8>, message: &Message) -> Result<Vec<u8>, AllocE
 
 /// The text of an image: compact, with keys in byte order. An `Err` where a growth was refused.
 pub fn encode_image(alloc: Global, image: &Image) -> Result<Vec<u8>, AllocError>
-    ensures text { IfOk result (λ text. IsTextOf IsDraftOfImage text.items image.now) }
+    ensures text { IfOk result (λ text. IsTextOf IsDraftOfImage IsImageInRange text.items image.now) }
+    // What is written is what `decode_image` reads.
+    ensures says { IfOk result (λ text. IsImageInRange image.now → Says IsDraftOfImage text.items image.now) }
     ensures whole { IfOk result (λ _. IsWholeImage image.now) }
 {
     encode_image_after(Vec::new(alloc), image)
@@ -88,7 +92,7 @@ pub fn encode_image(alloc: Global, image: &Image) -> Result<Vec<u8>, AllocError>
 /// The text of an image, written behind what the buffer has. An `Err` where a growth was refused; the buffer is then
 /// dropped.
 pub fn encode_image_after(front: Vec<u8>, image: &Image) -> Result<Vec<u8>, AllocError>
-    ensures text { IfOk result (λ all. IsTextAfter IsDraftOfImage front.items all.items image.now) }
+    ensures text { IfOk result (λ all. IsTextAfter IsDraftOfImage IsImageInRange front.items all.items image.now) }
     ensures whole { IfOk result (λ _. IsWholeImage image.now) }
 {
     let mut out = Writer::new(front);

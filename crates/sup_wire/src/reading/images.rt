@@ -1,15 +1,15 @@
 //! Whole images.
 ghost use Rattle.std.specs.Prelude.{◌≡◌};
 ghost use Rattle.serde_json.specs.View.{view};
-ghost use Rattle.sup_wire.specs.Drafts.{IsDraftOfImage, IsWholeImage};
-ghost use Rattle.sup_wire.specs.FieldReads.{has_just, version_at};
-ghost use Rattle.sup_wire.specs.DraftReads.{image_fields, opening_at, image_at, stored_at, Seals, Decodes};
+ghost use Rattle.sup_wire.specs.Drafts.{image, IsDraftOfImage, IsWholeImage};
+ghost use Rattle.sup_wire.specs.FieldReads.{has_just, version_at, GivesBy};
+ghost use Rattle.sup_wire.specs.DraftReads.{image_fields, opening_at, image_at, stored_at, parts_read, Seals, Decodes};
 ghost use Rattle.sup_wire.specs.declared.version.Version.TheVariants.{One};
 
 use crate::fault::WireFault;
 use crate::image::Image;
 use crate::reading::fields::{has_just, kind_of, name_in, version_of, within_in};
-use crate::reading::parts::{parts_of, tables_of};
+use crate::reading::parts::{Parts, parts_of, tables_of};
 use crate::version::Version;
 use serde_json::Value;
 use std::alloc::Global;
@@ -33,15 +33,27 @@ fn opening_of(value: &Value) -> Option<(NodeName, u64, u64)>
     Some((node, boot, count))
 }
 
+// An image, before its tables are known to be canonical.
 #[tactic(auto, unfolding(crate::specs::DraftReads::image_at))]
-fn of_fields(alloc: Global, version: Version, value: &Value) -> Result<Image, WireFault>
-    ensures { Seals IsDraftOfImage IsWholeImage result (image_at version (view value.now)) }
+fn image_draft_of(
+    alloc: Global,
+    version: Version,
+    value: &Value,
+) -> Result<(NodeName, u64, u64, Parts), WireFault>
+    ensures { GivesBy (λ d. image d.0 d.1 d.2 (parts_read d.3)) result (image_at version (view value.now)) }
 {
     if !has_image_fields(value) {
         return Err(WireFault::NotMessage);
     }
     let (node, boot, count) = opening_of(value).ok_or(WireFault::NotMessage)?;
     let parts = parts_of(alloc, version, value)?;
+    Ok((node, boot, count, parts))
+}
+
+fn of_fields(alloc: Global, version: Version, value: &Value) -> Result<Image, WireFault>
+    ensures { Seals IsDraftOfImage IsWholeImage result (image_at version (view value.now)) }
+{
+    let (node, boot, count, parts) = image_draft_of(alloc, version, value)?;
     let state = tables_of(alloc, parts)?;
     Ok(Image {
         node,

@@ -1,19 +1,19 @@
 //! Whole messages.
 ghost use Rattle.std.specs.Prelude.{◌≡◌};
 ghost use Rattle.serde_json.specs.View.{view};
-ghost use Rattle.sup_wire.specs.Drafts.{IsDraftOf, IsWholeMessage};
-ghost use Rattle.sup_wire.specs.FieldReads.{has_just, version_at};
-ghost use Rattle.sup_wire.specs.DraftReads.{ack_fields, push_fields, delta_fields, ack_at, push_at, delta_at, message_at, Seals, Decodes};
+ghost use Rattle.sup_wire.specs.Drafts.{push, delta, IsDraftOf, IsWholeMessage};
+ghost use Rattle.sup_wire.specs.FieldReads.{has_just, version_at, GivesBy};
+ghost use Rattle.sup_wire.specs.DraftReads.{ack_fields, push_fields, delta_fields, ack_at, push_at, delta_at, message_at, parts_read, Seals, Decodes};
 ghost use Rattle.sup_wire.specs.declared.version.Version.TheVariants.{One};
 
 use crate::fault::WireFault;
 use crate::message::Message;
 use crate::reading::fields::{ends_of, has_just, kind_of, version_of, within_in};
-use crate::reading::parts::{parts_of, tables_of};
+use crate::reading::parts::{Parts, parts_of, tables_of};
 use crate::version::Version;
 use serde_json::Value;
 use std::alloc::Global;
-use sup_specs::MAX;
+use sup_specs::{MAX, NodeName};
 
 #[tactic(auto, unfolding(crate::specs::DraftReads::ack_fields))]
 fn has_ack_fields(value: &Value) -> bool
@@ -49,24 +49,39 @@ fn ack_of(value: &Value) -> Result<Message, WireFault>
     Ok(Message::Ack { from, to, n })
 }
 
-// A push.
+// A push, before its tables are known to be canonical.
 #[tactic(auto, unfolding(crate::specs::DraftReads::push_at))]
-fn push_of(alloc: Global, version: Version, value: &Value) -> Result<Message, WireFault>
-    ensures { Seals IsDraftOf IsWholeMessage result (push_at version (view value.now)) }
+fn push_draft_of(
+    alloc: Global,
+    version: Version,
+    value: &Value,
+) -> Result<(NodeName, NodeName, Parts), WireFault>
+    ensures { GivesBy (λ d. push d.0 d.1 (parts_read d.2)) result (push_at version (view value.now)) }
 {
     if !has_push_fields(value) {
         return Err(WireFault::NotMessage);
     }
     let (from, to) = ends_of(value).ok_or(WireFault::NotMessage)?;
     let parts = parts_of(alloc, version, value)?;
+    Ok((from, to, parts))
+}
+
+fn push_of(alloc: Global, version: Version, value: &Value) -> Result<Message, WireFault>
+    ensures { Seals IsDraftOf IsWholeMessage result (push_at version (view value.now)) }
+{
+    let (from, to, parts) = push_draft_of(alloc, version, value)?;
     let delta = tables_of(alloc, parts)?;
     Ok(Message::Push { from, to, delta })
 }
 
-// A delta.
+// A delta, before its tables are known to be canonical.
 #[tactic(auto, unfolding(crate::specs::DraftReads::delta_at))]
-fn delta_of(alloc: Global, version: Version, value: &Value) -> Result<Message, WireFault>
-    ensures { Seals IsDraftOf IsWholeMessage result (delta_at version (view value.now)) }
+fn delta_draft_of(
+    alloc: Global,
+    version: Version,
+    value: &Value,
+) -> Result<(NodeName, NodeName, u64, Parts), WireFault>
+    ensures { GivesBy (λ d. delta d.0 d.1 d.2 (parts_read d.3)) result (delta_at version (view value.now)) }
 {
     if !has_delta_fields(value) {
         return Err(WireFault::NotMessage);
@@ -74,6 +89,13 @@ fn delta_of(alloc: Global, version: Version, value: &Value) -> Result<Message, W
     let (from, to) = ends_of(value).ok_or(WireFault::NotMessage)?;
     let n = within_in(value, "n", 1, MAX).ok_or(WireFault::NotMessage)?;
     let parts = parts_of(alloc, version, value)?;
+    Ok((from, to, n, parts))
+}
+
+fn delta_of(alloc: Global, version: Version, value: &Value) -> Result<Message, WireFault>
+    ensures { Seals IsDraftOf IsWholeMessage result (delta_at version (view value.now)) }
+{
+    let (from, to, n, parts) = delta_draft_of(alloc, version, value)?;
     let delta = tables_of(alloc, parts)?;
     Ok(Message::Delta { from, to, n, delta })
 }

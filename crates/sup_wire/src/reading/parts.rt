@@ -2,7 +2,7 @@
 ghost use Rattle.std.specs.Prelude.{◌≡◌};
 ghost use Rattle.serde_json.specs.View.{view};
 ghost use Rattle.sup_wire.specs.FieldReads.{GivesBy};
-ghost use Rattle.sup_wire.specs.DraftReads.{rows_in, parts_at, SealsParts};
+ghost use Rattle.sup_wire.specs.DraftReads.{rows_in, parts_at, parts_read, SealsParts};
 
 use crate::fault::WireFault;
 use crate::reading::context::context_in;
@@ -31,7 +31,7 @@ pub(crate) struct Parts {
 
 #[tactic(auto, unfolding(crate::specs::DraftReads::parts_at))]
 pub(crate) fn parts_of(alloc: Global, version: Version, value: &Value) -> Result<Parts, WireFault>
-    ensures { GivesBy (λ p. record { vector = p.vector.items; cloud = p.cloud.items; rows = p.rows.items }) result (parts_at version (view value.now)) }
+    ensures { GivesBy parts_read result (parts_at version (view value.now)) }
 {
     let context = context_in(alloc, value)?;
     let rows = rows_in(alloc, version, value)?;
@@ -44,7 +44,7 @@ pub(crate) fn parts_of(alloc: Global, version: Version, value: &Value) -> Result
 
 // The tables of these parts, where they are canonical.
 pub(crate) fn tables_of(alloc: Global, parts: Parts) -> Result<Tables, WireFault>
-    ensures { SealsParts result (record { vector = parts.vector.items; cloud = parts.cloud.items; rows = parts.rows.items }) }
+    ensures { SealsParts result (parts_read parts) }
 {
     let context = CausalContext::from_parts(alloc, &parts.vector, &parts.cloud)?;
     let tables = Tables::from_rows(alloc, context, parts.rows)?;

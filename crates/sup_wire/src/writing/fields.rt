@@ -1,7 +1,9 @@
 //! Fields, and what children and members are.
 ghost use Rattle.std.specs.Prelude.{◌≡◌, OnOk, codes};
 ghost use Rattle.serde_json.specs.Data.{string};
-ghost use Rattle.sup_wire.specs.Forms.{count_value, restart_value, shutdown_value, spec_value, info_value};
+ghost use Rattle.sup_specs.specs.Texts.{IsText};
+ghost use Rattle.sup_specs.specs.declared.texts.Alphabet.TheVariants.{Visible};
+ghost use Rattle.sup_wire.specs.Forms.{count_value, version_value, restart_value, shutdown_value, spec_value, info_value, IsShutdown, IsSpec};
 ghost use Rattle.sup_wire.specs.Writing.{Adds, tokens_of, field_tokens};
 
 use crate::version::Version;
@@ -36,7 +38,8 @@ fn write_restart(out: &mut Writer, restart: Restart) -> Result<(), AllocError>
 }
 
 fn write_shutdown(out: &mut Writer, shutdown: Shutdown) -> Result<(), AllocError>
-    ensures { OnOk result (Adds out.old out.new (tokens_of (shutdown_value shutdown))) }
+    ensures formed { IsShutdown shutdown }
+    ensures adds { OnOk result (Adds out.old out.new (tokens_of (shutdown_value shutdown))) }
 {
     match shutdown {
         Shutdown::Brutal => out.string("brutal_kill"),
@@ -54,15 +57,24 @@ fn restart_field(out: &mut Writer, restart: Restart) -> Result<(), AllocError>
 
 #[tactic(auto, using(crate::proofs::Adding::adds_field))]
 fn shutdown_field(out: &mut Writer, shutdown: Shutdown) -> Result<(), AllocError>
-    ensures { OnOk result (Adds out.old out.new (field_tokens (codes "shutdown") (shutdown_value shutdown))) }
+    ensures formed { OnOk result (IsShutdown shutdown) }
+    ensures adds { OnOk result (Adds out.old out.new (field_tokens (codes "shutdown") (shutdown_value shutdown))) }
 {
     out.key("shutdown")?;
     write_shutdown(out, shutdown)
 }
 
+// The field of the version.
+pub(crate) fn version_field(out: &mut Writer, version: Version) -> Result<(), AllocError>
+    ensures { OnOk result (Adds out.old out.new (field_tokens (codes "v") (version_value version))) }
+{
+    number_field(out, "v", version.number())
+}
+
 // What a child is.
 pub(crate) fn write_spec(out: &mut Writer, spec: &ChildSpec) -> Result<(), AllocError>
-    ensures { OnOk result (Adds out.old out.new (tokens_of (spec_value spec.now))) }
+    ensures formed { OnOk result (IsSpec spec.now) }
+    ensures adds { OnOk result (Adds out.old out.new (tokens_of (spec_value spec.now))) }
 {
     out.begin_object()?;
     text_field(out, "arg", spec.arg.as_str())?;
@@ -78,7 +90,8 @@ pub(crate) fn write_info(
     version: Version,
     info: &MemberInfo,
 ) -> Result<(), AllocError>
-    ensures { OnOk result (Adds out.old out.new (tokens_of (info_value version info.now))) }
+    ensures formed { OnOk result (IsText Visible 0 1024 info.now.label) }
+    ensures adds { OnOk result (Adds out.old out.new (tokens_of (info_value version info.now))) }
 {
     match version {
         Version::One => {

@@ -1,14 +1,15 @@
 //! Whole images.
-ghost use Rattle.std.specs.Prelude.{◌≡◌, OnOk, codes, ◌++◌};
+ghost use Rattle.std.specs.Prelude.{◌≡◌, ◌<◌, ◌^◌, OnOk, codes, ◌++◌};
 ghost use Rattle.serde_json.specs.Data.{string};
 ghost use Rattle.sup_wire.specs.Drafts.{image, IsDraftOfImage, IsWholeImage};
-ghost use Rattle.sup_wire.specs.Forms.{count_value, value_in};
+ghost use Rattle.sup_wire.specs.Faults.{IsImageInRange};
+ghost use Rattle.sup_wire.specs.Forms.{count_value, value_in, IsName, AreWritten};
 ghost use Rattle.sup_wire.specs.Writing.{Adds, WritesDraft, tokens_of, field_tokens, parts_lent};
 
 use crate::image::Image;
 use crate::version::Version;
 use crate::writing::context::write_context;
-use crate::writing::fields::{number_field, text_field};
+use crate::writing::fields::{number_field, text_field, version_field};
 use crate::writing::lending::{LentParts, lent_parts};
 use crate::writing::rows::write_rows;
 use json::Writer;
@@ -25,7 +26,8 @@ fn first_fields(out: &mut Writer, boot: u64, count: u64) -> Result<(), AllocErro
 
 // The fields of the kind and of the node.
 fn node_fields(out: &mut Writer, node: &NodeName) -> Result<(), AllocError>
-    ensures { OnOk result (Adds out.old out.new (field_tokens (codes "kind") (string (codes "image")) ++ field_tokens (codes "node") (string node.now))) }
+    ensures name { OnOk result (IsName node.now) }
+    ensures adds { OnOk result (Adds out.old out.new (field_tokens (codes "kind") (string (codes "image")) ++ field_tokens (codes "node") (string node.now))) }
 {
     text_field(out, "kind", "image")?;
     text_field(out, "node", node.as_str())
@@ -39,7 +41,11 @@ fn write_parts(
     count: u64,
     parts: &LentParts<'_>,
 ) -> Result<(), AllocError>
-    ensures { OnOk result (Adds out.old out.new (tokens_of (value_in version (image node.now boot count (parts_lent parts.now))))) }
+    ensures boot { boot < 2 ^ 64 }
+    ensures count { count < 2 ^ 64 }
+    ensures node { OnOk result (IsName node.now) }
+    ensures written { OnOk result (AreWritten (parts_lent parts.now)) }
+    ensures adds { OnOk result (Adds out.old out.new (tokens_of (value_in version (image node.now boot count (parts_lent parts.now))))) }
 {
     out.begin_object()?;
     first_fields(out, boot, count)?;
@@ -48,7 +54,7 @@ fn write_parts(
     node_fields(out, node)?;
     out.key("rows")?;
     write_rows(out, version, &parts.rows)?;
-    number_field(out, "v", version.number())?;
+    version_field(out, version)?;
     out.end_object()
 }
 
@@ -58,7 +64,7 @@ pub(crate) fn write_image(
     version: Version,
     image: &Image,
 ) -> Result<(), AllocError>
-    ensures draft { OnOk result (WritesDraft IsDraftOfImage version out.old out.new image.now) }
+    ensures draft { OnOk result (WritesDraft IsDraftOfImage IsImageInRange version out.old out.new image.now) }
     ensures whole { OnOk result (IsWholeImage image.now) }
 {
     let parts = lent_parts(&image.state)?;

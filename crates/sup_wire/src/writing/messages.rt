@@ -1,15 +1,16 @@
 //! Whole messages.
-ghost use Rattle.std.specs.Prelude.{◌≡◌, OnOk, codes, [], ◌∷◌, ◌++◌};
+ghost use Rattle.std.specs.Prelude.{◌≡◌, ◌<◌, ◌^◌, OnOk, codes, [], ◌∷◌, ◌++◌};
 ghost use Rattle.json.specs.Token.{end_object};
 ghost use Rattle.serde_json.specs.Data.{string};
 ghost use Rattle.sup_wire.specs.Drafts.{Draft, ack, push, delta, IsDraftOf, IsWholeMessage};
-ghost use Rattle.sup_wire.specs.Forms.{version_value, value_in};
+ghost use Rattle.sup_wire.specs.Faults.{IsInRange};
+ghost use Rattle.sup_wire.specs.Forms.{version_value, value_in, IsName, AreWritten};
 ghost use Rattle.sup_wire.specs.Writing.{Adds, WritesDraft, tokens_of, field_tokens, parts_lent};
 
 use crate::message::Message;
 use crate::version::Version;
 use crate::writing::context::write_context;
-use crate::writing::fields::{number_field, text_field};
+use crate::writing::fields::{number_field, text_field, version_field};
 use crate::writing::lending::{LentParts, lent_parts};
 use crate::writing::rows::write_rows;
 use json::Writer;
@@ -18,7 +19,8 @@ use sup_specs::NodeName;
 
 // The fields of the sender and of the kind.
 fn sender_fields(out: &mut Writer, from: &NodeName, kind: &str) -> Result<(), AllocError>
-    ensures { OnOk result (Adds out.old out.new (field_tokens (codes "from") (string from.now) ++ field_tokens (codes "kind") (string kind.now))) }
+    ensures name { OnOk result (IsName from.now) }
+    ensures adds { OnOk result (Adds out.old out.new (field_tokens (codes "from") (string from.now) ++ field_tokens (codes "kind") (string kind.now))) }
 {
     text_field(out, "from", from.as_str())?;
     text_field(out, "kind", kind)
@@ -26,10 +28,11 @@ fn sender_fields(out: &mut Writer, from: &NodeName, kind: &str) -> Result<(), Al
 
 // The last fields, of the receiver and of the version.
 fn last_fields(out: &mut Writer, version: Version, to: &NodeName) -> Result<(), AllocError>
-    ensures { OnOk result (Adds out.old out.new (field_tokens (codes "to") (string to.now) ++ field_tokens (codes "v") (version_value version) ++ end_object ∷ [])) }
+    ensures name { OnOk result (IsName to.now) }
+    ensures adds { OnOk result (Adds out.old out.new (field_tokens (codes "to") (string to.now) ++ field_tokens (codes "v") (version_value version) ++ end_object ∷ [])) }
 {
     text_field(out, "to", to.as_str())?;
-    number_field(out, "v", version.number())?;
+    version_field(out, version)?;
     out.end_object()
 }
 
@@ -41,7 +44,10 @@ fn write_ack(
     to: &NodeName,
     n: u64,
 ) -> Result<(), AllocError>
-    ensures { OnOk result (Adds out.old out.new (tokens_of (value_in version (ack from.now to.now n)))) }
+    ensures fits { n < 2 ^ 64 }
+    ensures from { OnOk result (IsName from.now) }
+    ensures to { OnOk result (IsName to.now) }
+    ensures adds { OnOk result (Adds out.old out.new (tokens_of (value_in version (ack from.now to.now n)))) }
 {
     out.begin_object()?;
     sender_fields(out, from, "ack")?;
@@ -57,7 +63,10 @@ fn write_push(
     to: &NodeName,
     parts: &LentParts<'_>,
 ) -> Result<(), AllocError>
-    ensures { OnOk result (Adds out.old out.new (tokens_of (value_in version (push from.now to.now (parts_lent parts.now))))) }
+    ensures from { OnOk result (IsName from.now) }
+    ensures to { OnOk result (IsName to.now) }
+    ensures written { OnOk result (AreWritten (parts_lent parts.now)) }
+    ensures adds { OnOk result (Adds out.old out.new (tokens_of (value_in version (push from.now to.now (parts_lent parts.now))))) }
 {
     out.begin_object()?;
     out.key("ctx")?;
@@ -77,7 +86,11 @@ fn write_delta(
     n: u64,
     parts: &LentParts<'_>,
 ) -> Result<(), AllocError>
-    ensures { OnOk result (Adds out.old out.new (tokens_of (value_in version (delta from.now to.now n (parts_lent parts.now))))) }
+    ensures fits { n < 2 ^ 64 }
+    ensures from { OnOk result (IsName from.now) }
+    ensures to { OnOk result (IsName to.now) }
+    ensures written { OnOk result (AreWritten (parts_lent parts.now)) }
+    ensures adds { OnOk result (Adds out.old out.new (tokens_of (value_in version (delta from.now to.now n (parts_lent parts.now))))) }
 {
     out.begin_object()?;
     out.key("ctx")?;
@@ -95,7 +108,7 @@ pub(crate) fn write_message(
     version: Version,
     message: &Message,
 ) -> Result<(), AllocError>
-    ensures draft { OnOk result (WritesDraft IsDraftOf version out.old out.new message.now) }
+    ensures draft { OnOk result (WritesDraft IsDraftOf IsInRange version out.old out.new message.now) }
     ensures whole { OnOk result (IsWholeMessage message.now) }
 {
     match message {
