@@ -78,28 +78,22 @@ parts_fit s p cut are = record { by_name = cut.vector.by_name; vector = note_fit
 
 -- ---- whole values
 pub ack_back : (v : Version) (from to : Bytes) (n : ℕ) → Fits n → ReadsBack (value_in v (ack from to n))
-ack_back One from to n fits = readable_back (value_in One (ack from to n)) (tt, (refl, refl, refl, refl, tt), tt, (refl, refl, refl, tt), fits, (refl, refl, tt), tt, (refl, tt), lit< tt, tt, tt) (lit≤ tt)
+ack_back One from to n fits = readable_back (value_in One (ack from to n)) (tt, (refl, (refl, (refl, (refl, tt)))), (tt, (refl, (refl, (refl, tt))), (fits, (refl, (refl, tt)), (tt, (refl, tt), (lit< tt, tt, tt))))) (lit≤ tt)
 
 pub push_back : (v : Version) (from to : Bytes) (p : Parts) → PartsFit p → ReadsBack (value_in v (push from to p))
 push_back One from to p fit =
     let c = context_low p in
     let r = rows_low One p.rows in
-    readable_back (value_in One (push from to p))
-    (context_readable p fit, (refl, refl, refl, refl, refl, tt), tt, (refl, refl, refl, refl, tt), tt, (refl, refl, refl, tt), rows_are_readable One p.rows fit.rows, (refl, refl, tt), tt, (refl, tt), lit< tt, tt, tt)
-    (omega (arith, c, r))
+    readable_back (value_in One (push from to p)) (context_readable p fit, (refl, (refl, (refl, (refl, (refl, tt))))), (tt, (refl, (refl, (refl, (refl, tt)))), (tt, (refl, (refl, (refl, tt))), (rows_are_readable One p.rows fit.rows, (refl, (refl, tt)), (tt, (refl, tt), (lit< tt, tt, tt)))))) (omega (arith, c, r))
 
 pub delta_back : (v : Version) (from to : Bytes) (n : ℕ) (p : Parts) → Fits n → PartsFit p → ReadsBack (value_in v (delta from to n p))
 delta_back One from to n p fits fit =
     let c = context_low p in
     let r = rows_low One p.rows in
-    readable_back (value_in One (delta from to n p))
-    (context_readable p fit, (refl, refl, refl, refl, refl, refl, tt), tt, (refl, refl, refl, refl, refl, tt), tt, (refl, refl, refl, refl, tt), fits, (refl, refl, refl, tt), rows_are_readable One p.rows fit.rows, (refl, refl, tt), tt, (refl, tt), lit< tt, tt, tt)
-    (omega (arith, c, r))
+    readable_back (value_in One (delta from to n p)) (context_readable p fit, (refl, (refl, (refl, (refl, (refl, (refl, tt)))))), (tt, (refl, (refl, (refl, (refl, (refl, tt))))), (tt, (refl, (refl, (refl, (refl, tt)))), (fits, (refl, (refl, (refl, tt))), (rows_are_readable One p.rows fit.rows, (refl, (refl, tt)), (tt, (refl, tt), (lit< tt, tt, tt))))))) (omega (arith, c, r))
 
 pub image_back : (v : Version) (node : Bytes) (boot count : ℕ) (p : Parts) → Fits boot → Fits count → PartsFit p → ReadsBack (value_in v (image node boot count p))
 image_back One node boot count p fb fc fit =
     let c = context_low p in
     let r = rows_low One p.rows in
-    readable_back (value_in One (image node boot count p))
-    (fb, (refl, refl, refl, refl, refl, refl, tt), fc, (refl, refl, refl, refl, refl, tt), context_readable p fit, (refl, refl, refl, refl, tt), tt, (refl, refl, refl, tt), tt, (refl, refl, tt), rows_are_readable One p.rows fit.rows, (refl, tt), lit< tt, tt, tt)
-    (omega (arith, c, r))
+    readable_back (value_in One (image node boot count p)) (fb, (refl, (refl, (refl, (refl, (refl, (refl, tt)))))), (fc, (refl, (refl, (refl, (refl, (refl, tt))))), (context_readable p fit, (refl, (refl, (refl, (refl, tt)))), (tt, (refl, (refl, (refl, tt))), (tt, (refl, (refl, tt)), (rows_are_readable One p.rows fit.rows, (refl, tt), (lit< tt, tt, tt))))))) (omega (arith, c, r))

@@ -11,6 +11,7 @@ pub mod RowLaws
 pub mod PartLaws
 pub mod DraftLaws
 pub mod DraftsOf
+pub mod OneCut
 pub mod Formed
 pub mod Written
 pub mod Promises

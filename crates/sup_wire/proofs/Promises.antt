@@ -63,3 +63,12 @@ module _ {M : Type 0} (IsDraft : M → Draft → Type 0) (Whole : M → Type 0) 
           let value : d ≡ value_of says.draft = one_value text d (value_of says.draft) is says.json in
           let k = kind m says.draft says.same in
           only_this d says.draft (ap version_at value ∙ versioned says.draft) (ap at value ∙ again says.draft k says.formed) r decodes m whole says.same
+
+-- a text says one of what it is read as
+pub says_one : {M : Type 0} (IsDraft : M → Draft → Type 0) (Whole : M → Type 0) (Kind : Draft → Type 0) (at : Data → Option Draft) → ((x : Draft) → Kind x → IsFormed x → at (value_of x) ≡ Some x) → ((m : M) (x : Draft) → IsDraft m x → Kind x)
+    → ((m n : M) (x : Draft) → IsDraft m x → Whole m → IsDraft n x → Whole n → n ≡ m) → (text : Bytes) (m n : M) → Whole m → Whole n → Says IsDraft text m → Says IsDraft text n → n ≡ m
+says_one IsDraft Whole Kind at again kind one text m n wm wn sm sn =
+    let value : value_of sm.draft ≡ value_of sn.draft = one_value text _ _ sm.json sn.json in
+    let same : sm.draft ≡ sn.draft =
+    same_Some sm.draft sn.draft (sym (again sm.draft (kind m sm.draft sm.same) sm.formed) ∙ ap at value ∙ again sn.draft (kind n sn.draft sn.same) sn.formed) in
+    one m n sm.draft sm.same wm (subst (IsDraft n) (sym same) sn.same) wn

@@ -73,7 +73,7 @@ vector_low (e ∷ es) = low_max 0 _ 0 (lit≤ tt) (vector_low es)
 
 dots_readable : (ds : List Dot) → AllByRecursion (λ d. Fits d.counter) ds → AllByRecursion (λ d. IsReadable (dot_value d)) ds
 dots_readable [] all = tt
-dots_readable (d ∷ ds) all = ((tt, all.0, tt), dots_readable ds all.1)
+dots_readable (d ∷ ds) all = ((tt, (all.0, tt)), dots_readable ds all.1)
 
 restart_readable : (r : Restart) → IsReadable (restart_value r)
 restart_readable Permanent = tt
@@ -96,12 +96,12 @@ shutdown_low (Millis n) = lit≤ tt
 shutdown_low Infinity = lit≤ tt
 
 spec_readable : (s : ChildSpec) → ShutdownFits s.shutdown → IsReadable (spec_value s)
-spec_readable s fits = (tt, (refl, refl, refl, tt), tt, (refl, refl, tt), restart_readable s.restart, (refl, tt), shutdown_readable s.shutdown fits, tt, tt)
+spec_readable s fits = (tt, (refl, (refl, (refl, tt))), (tt, (refl, (refl, tt)), (restart_readable s.restart, (refl, tt), (shutdown_readable s.shutdown fits, tt, tt))))
 
 row_readable : (v : Version) (e : Entry) (d : Dot) → Fits d.counter → EntryFits e → IsReadable (entry_value v e (dot_value d))
-row_readable One (Member m info) d fits also = (tt, tt, (tt, fits, tt), (tt, tt, tt), tt)
-row_readable One (Child id spec) d fits also = (tt, tt, (tt, fits, tt), spec_readable spec also, tt)
-row_readable One (Name name id) d fits also = (tt, tt, (tt, fits, tt), tt, tt)
+row_readable One (Member m info) d fits also = (tt, (tt, ((tt, (fits, tt)), ((tt, tt, tt), tt))))
+row_readable One (Child id spec) d fits also = (tt, (tt, ((tt, (fits, tt)), (spec_readable spec also, tt))))
+row_readable One (Name name id) d fits also = (tt, (tt, ((tt, (fits, tt)), (tt, tt))))
 
 rows_readable : (v : Version) (rows : List Row) → AllByRecursion RowFits rows → AllByRecursion (λ r. IsReadable (row_value v r)) rows
 rows_readable v [] all = tt
@@ -113,7 +113,7 @@ row_low One (Child id spec) d = let r = restart_low spec.restart in let s = shut
 row_low One (Name name id) d = lit≤ tt
 
 pub context_readable : (p : Parts) → PartsFit p → IsReadable (context_value p)
-context_readable p fit = (each_readable dot_value p.cloud (dots_readable p.cloud fit.cloud), (refl, tt), vector_readable p.vector fit.by_name fit.vector, tt, tt)
+context_readable p fit = (each_readable dot_value p.cloud (dots_readable p.cloud fit.cloud), (refl, tt), (vector_readable p.vector fit.by_name fit.vector, tt, tt))
 
 pub context_low : (p : Parts) → depth (context_value p) ≤ 3
 context_low p =

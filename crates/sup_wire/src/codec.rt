@@ -63,9 +63,12 @@ pub fn encode(alloc: Global, message: &Message) -> Result<Vec<u8>, AllocError>
     ensures text { IfOk result (λ text. IsTextOf IsDraftOf IsInRange text.items message.now) }
     // What is written is what `decode` reads.
     ensures says { IfOk result (λ text. IsInRange message.now → Says IsDraftOf text.items message.now) }
+    // There is no other text of the message.
+    ensures once { IfOk result (λ text. (other : Bytes) → IsTextOf IsDraftOf IsInRange other message.now → other ≡ text.items) }
     ensures whole { IfOk result (λ _. IsWholeMessage message.now) }
 {
-    encode_after(Vec::new(alloc), message)
+    let text = encode_after(Vec::new(alloc), message)?;
+    Ok(text)
 }
 
 /// The text of a message, written behind what the buffer has. An `Err` where a growth was refused; the buffer is then
@@ -84,9 +87,12 @@ pub fn encode_image(alloc: Global, image: &Image) -> Result<Vec<u8>, AllocError>
     ensures text { IfOk result (λ text. IsTextOf IsDraftOfImage IsImageInRange text.items image.now) }
     // What is written is what `decode_image` reads.
     ensures says { IfOk result (λ text. IsImageInRange image.now → Says IsDraftOfImage text.items image.now) }
+    // There is no other text of the image.
+    ensures once { IfOk result (λ text. (other : Bytes) → IsTextOf IsDraftOfImage IsImageInRange other image.now → other ≡ text.items) }
     ensures whole { IfOk result (λ _. IsWholeImage image.now) }
 {
-    encode_image_after(Vec::new(alloc), image)
+    let text = encode_image_after(Vec::new(alloc), image)?;
+    Ok(text)
 }
 
 /// The text of an image, written behind what the buffer has. An `Err` where a growth was refused; the buffer is then

@@ -4,6 +4,7 @@
 pub mod codec;
 pub mod fault;
 pub mod image;
+pub mod laws;
 pub mod message;
 mod reading;
 pub mod version;
