@@ -45,10 +45,10 @@ all_less a b [] less all = tt
 all_less a b (l ∷ ls) less all = (text_total.trans a b l less all.0, all_less a b ls less all.1)
 
 -- a name whose entry is not 0 stands in no vector whose names are above it
-not_above : (a b : Bytes × ℕ) (as bs : List (Bytes × ℕ)) → 1 ≤ a.1 → AllByRecursion (λ l. text_cmp b.0 l ≡ Less) (keys_of bs) → text_cmp a.0 b.0 ≡ Less → entry (a ∷ as) a.0 ≡ entry (b ∷ bs) a.0 → ⊥
-not_above a b as bs low all less same =
-    let none : entry (b ∷ bs) a.0 ≡ 0 = entry_below (b ∷ bs) a.0 (less, all_less a.0 b.0 (keys_of bs) less all) in
-    let zero : a.1 ≡ 0 = sym (entry_first a as) ∙ same ∙ none in
+not_above : (a b : Bytes × ℕ) (xs ys : List (Bytes × ℕ)) → 1 ≤ a.1 → AllByRecursion (λ l. text_cmp b.0 l ≡ Less) (keys_of ys) → text_cmp a.0 b.0 ≡ Less → entry (a ∷ xs) a.0 ≡ entry (b ∷ ys) a.0 → ⊥
+not_above a b xs ys low all less same =
+    let none : entry (b ∷ ys) a.0 ≡ 0 = entry_below (b ∷ ys) a.0 (less, all_less a.0 b.0 (keys_of ys) less all) in
+    let zero : a.1 ≡ 0 = sym (entry_first a xs) ∙ same ∙ none in
     omega (arith, zero, low)
 
 -- the entries behind the first
@@ -62,17 +62,17 @@ rest_of e es all k = at (text_cmp k e.0) refl
 
 pub one_vector : (a b : List (Bytes × ℕ)) → IsRising text_cmp (keys_of a) → IsRising text_cmp (keys_of b) → AllByRecursion (λ e. 1 ≤ e.1) a → AllByRecursion (λ e. 1 ≤ e.1) b → ((k : Bytes) → entry a k ≡ entry b k) → a ≡ b
 one_vector [] [] ra rb la lb same = refl
-one_vector [] (b ∷ bs) ra rb la lb same = absurd (let zero : 0 ≡ b.1 = same b.0 ∙ entry_first b bs in let low = lb.0 in omega (arith, zero, low))
-one_vector (a ∷ as) [] ra rb la lb same = absurd (let zero : a.1 ≡ 0 = sym (entry_first a as) ∙ same a.0 in let low = la.0 in omega (arith, zero, low))
-one_vector (a ∷ as) (b ∷ bs) ra rb la lb same = at (text_cmp a.0 b.0) refl (one_vector as bs ra.1 rb.1 la.1 lb.1)
+one_vector [] (b ∷ ys) ra rb la lb same = absurd (let zero : 0 ≡ b.1 = same b.0 ∙ entry_first b ys in let low = lb.0 in omega (arith, zero, low))
+one_vector (a ∷ xs) [] ra rb la lb same = absurd (let zero : a.1 ≡ 0 = sym (entry_first a xs) ∙ same a.0 in let low = la.0 in omega (arith, zero, low))
+one_vector (a ∷ xs) (b ∷ ys) ra rb la lb same = at (text_cmp a.0 b.0) refl (one_vector xs ys ra.1 rb.1 la.1 lb.1)
   where
-    at : (o : Ordering) → text_cmp a.0 b.0 ≡ o → (((k : Bytes) → entry as k ≡ entry bs k) → as ≡ bs) → a ∷ as ≡ b ∷ bs
-    at Less is later = absurd (not_above a b as bs la.0 rb.0 is (same a.0))
-    at Greater is later = absurd (not_above b a bs as lb.0 ra.0 (text_total.antisymm b.0 a.0 ∙ ap ordering_reverse is) (sym (same b.0)))
+    at : (o : Ordering) → text_cmp a.0 b.0 ≡ o → (((k : Bytes) → entry xs k ≡ entry ys k) → xs ≡ ys) → a ∷ xs ≡ b ∷ ys
+    at Less is later = absurd (not_above a b xs ys la.0 rb.0 is (same a.0))
+    at Greater is later = absurd (not_above b a ys xs lb.0 ra.0 (text_total.antisymm b.0 a.0 ∙ ap ordering_reverse is) (sym (same b.0)))
     at Equal is later =
         let name : a.0 ≡ b.0 = exact_bytes a.0 b.0 is in
-        let count : a.1 ≡ b.1 = sym (entry_first a as) ∙ same a.0 ∙ ap (entry (b ∷ bs)) name ∙ entry_first b bs in
-        let rest : (k : Bytes) → entry as k ≡ entry bs k = λ k. rest_of a as ra.0 k ∙ ap₂ (λ n e. cond (is_eq (text_cmp k n)) 0 e) name (same k) ∙ sym (rest_of b bs rb.0 k) in
+        let count : a.1 ≡ b.1 = sym (entry_first a xs) ∙ same a.0 ∙ ap (entry (b ∷ ys)) name ∙ entry_first b ys in
+        let rest : (k : Bytes) → entry xs k ≡ entry ys k = λ k. rest_of a xs ra.0 k ∙ ap₂ (λ n e. cond (is_eq (text_cmp k n)) 0 e) name (same k) ∙ sym (rest_of b ys rb.0 k) in
         ap₂ (λ e es. e ∷ es) (λ i. (name i, count i)) (later rest)
 
 pub one_cut : (s : State) (p q : Parts) → IsCut s p → IsCut s q → p ≡ q

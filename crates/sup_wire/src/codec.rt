@@ -33,7 +33,12 @@ fn json_of(alloc: Global, text: &[u8]) -> Result<Value, WireFault>
     }
 }
 
-/// Reads a message. Spaces and another order of keys are taken too, since the value is the same.
+/// Reads a message of version 1. Spaces and another order of keys are taken too, since the JSON value (RFC 8259, as
+/// `serde_json` reads it) is the same.
+///
+/// # Errors
+///
+/// The first that applies, as [`WireFault`] orders them; `OutOfMemory` where a growth was refused.
 pub fn decode(alloc: Global, text: &[u8]) -> Result<Message, WireFault>
     // What is read is what the text says.
     ensures ok { IfOk result (λ m. Says IsDraftOf text.now m) }
@@ -47,7 +52,12 @@ pub fn decode(alloc: Global, text: &[u8]) -> Result<Message, WireFault>
     message_of(alloc, &value)
 }
 
-/// Reads an image. Spaces and another order of keys are taken too, since the value is the same.
+/// Reads an image of version 1, as [`decode`] reads a message.
+///
+/// # Errors
+///
+/// The first that applies, as [`WireFault`] orders them; `OutOfMemory` where a growth was refused. A message's text is
+/// `NotMessage`.
 pub fn decode_image(alloc: Global, text: &[u8]) -> Result<Image, WireFault>
     ensures ok { IfOk result (λ i. Says IsDraftOfImage text.now i) }
     ensures whole { IfOk result IsWholeImage }

@@ -9,16 +9,16 @@ use sup_specs::TextFault;
 use sup_tables::RowsFault;
 use thiserror::Error;
 
-/// Why a text is no message or image. Where more than one reason holds, the answer is the first in this order, but for
-/// `BadVersion`, which comes before `NotMessage` where the version is a number; `OutOfMemory` may stand in place of any
-/// answer.
+/// Why a text is no message or image. Where more than one reason holds, the answer is the first of these: `NotJson`;
+/// `NotMessage` for a value without a version; `BadVersion`; `NotMessage` for a form; `NotCanonical`. `OutOfMemory` may
+/// stand in place of any answer.
 #[derive(Clone, Copy, Debug, PartialEq, Eq, Error)]
 pub enum WireFault {
     /// The text is no JSON value.
     #[error("no JSON text")]
     NotJson,
-    /// The value has no version, or is none of the forms of its version: a field is missing, too many, of another form
-    /// or out of its range.
+    /// The value has no number as its version, or is none of the forms of its version: a field is missing, too many, of
+    /// another form or out of its range, the kind is none that the call reads, or sender and receiver are one.
     #[error("no message")]
     NotMessage,
     /// The version is a number, and none that is read.
