@@ -52,7 +52,6 @@ read_back d ts text w same shallow =
 pub whole_number : (n : ℕ) → n < 2 ^ 64 → unless_float (decimal n) ≡ decimal n
 whole_number n h = unless_float-number_of (decimal n) (unsigned n) (number_of-decimal n h)
 
-
 -- what was written behind a front is the compact text of the value, and is read as it
 pub text_after : {M : Type 0} (IsDraft : M → Draft → Type 0) (InRange : M → Type 0) (x : M) (old new : Written) (front all : Bytes) → old.before ≡ front → old.tokens ≡ [] → WritesDraft IsDraft InRange One old new x
     → all ≡ new.before ++ print new.tokens → tokens (print new.tokens) ≡ new.tokens → IsUtf8 (print new.tokens) → IsTextAfter IsDraft InRange front all x

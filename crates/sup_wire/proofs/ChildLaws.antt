@@ -29,11 +29,13 @@ restart_takes d r e =
   where
     third : (text : Bytes) (r : Restart) → cond (bytes_eq text (codes "temporary")) (Some Temporary) None ≡ Some r → string text ≡ restart_value r
     third text r h = let p = guarded (bytes_eq text (codes "temporary")) Temporary r h in ap string (same text (codes "temporary") p.0) ∙ ap restart_value p.1
+
     second : (text : Bytes) (r : Restart) → cond (bytes_eq text (codes "transient")) (Some Transient) (cond (bytes_eq text (codes "temporary")) (Some Temporary) None) ≡ Some r → string text ≡ restart_value r
     second text r h = elim (chosen (bytes_eq text (codes "transient")) (Some Transient) _ (Some r) h) [
       | inl p ↦ ap string (same text (codes "transient") p.0) ∙ ap restart_value (same_Some Transient r p.1)
       | inr p ↦ third text r p.1
     ]
+
     word : (text : Bytes) (r : Restart) → cond (bytes_eq text (codes "permanent")) (Some Permanent) (cond (bytes_eq text (codes "transient")) (Some Transient) (cond (bytes_eq text (codes "temporary")) (Some Temporary) None)) ≡ Some r → string text ≡ restart_value r
     word text r h = elim (chosen (bytes_eq text (codes "permanent")) (Some Permanent) _ (Some r) h) [
       | inl p ↦ ap string (same text (codes "permanent") p.0) ∙ ap restart_value (same_Some Permanent r p.1)
@@ -53,15 +55,18 @@ shutdown_takes d s e = at (as_str d) refl e
     infinite : (text : Bytes) (s : Shutdown) → cond (bytes_eq text (codes "infinity")) (Some Infinity) None ≡ Some s → (string text ≡ shutdown_value s) × IsShutdown s
     infinite text s h = let p = guarded (bytes_eq text (codes "infinity")) Infinity s h in
         subst (λ (z : Shutdown). (string text ≡ shutdown_value z) × IsShutdown z) p.1 (ap string (same text (codes "infinity") p.0), tt)
+
     word : (text : Bytes) (s : Shutdown) → shutdown_word text ≡ Some s → (string text ≡ shutdown_value s) × IsShutdown s
     word text s h = elim (chosen (bytes_eq text (codes "brutal_kill")) (Some Brutal) _ (Some s) h) [
       | inl p ↦ subst (λ (z : Shutdown). (string text ≡ shutdown_value z) × IsShutdown z) (same_Some Brutal s p.1) (ap string (same text (codes "brutal_kill") p.0), tt)
       | inr p ↦ infinite text s p.1
     ]
+
     millis : (d : Data) (s : Shutdown) → shutdown_millis d ≡ Some s → (d ≡ shutdown_value s) × IsShutdown s
     millis d s h = option_and_then_some _ (within_at 0 4294967295 d) s h (λ n is rest.
-      let w = within_takes 0 4294967295 d n is in
-      subst (λ (z : Shutdown). (d ≡ shutdown_value z) × IsShutdown z) (same_Some (Millis n) s rest) (w.0, w.2))
+        let w = within_takes 0 4294967295 d n is in
+        subst (λ (z : Shutdown). (d ≡ shutdown_value z) × IsShutdown z) (same_Some (Millis n) s rest) (w.0, w.2))
+
     at : (o : Option (Bytes)) → as_str d ≡ o → shutdown_from o d ≡ Some s → (d ≡ shutdown_value s) × IsShutdown s
     at None is h = millis d s h
     at (Some text) is h = let w = word text s h in (as_str-string d text is ∙ w.0, w.1)
@@ -74,7 +79,7 @@ shutdown_again Infinity is = refl
 
 spec_fields_take : (a k r s : Data) (x : ChildSpec)
     → (let d = object (member (codes "arg") a (member (codes "kind") k (member (codes "restart") r (member (codes "shutdown") s no_members)))) in
-      spec_in d ≡ Some x → (d ≡ spec_value x) × IsSpec x)
+    spec_in d ≡ Some x → (d ≡ spec_value x) × IsSpec x)
 unfolding spec_in restart_in shutdown_in
 spec_fields_take a k r s x e =
     let d = object (member (codes "arg") a (member (codes "kind") k (member (codes "restart") r (member (codes "shutdown") s no_members)))) in
@@ -82,14 +87,14 @@ spec_fields_take a k r s x e =
     option_and_then_some _ (text_in (codes "kind") 1 128 d) x rest (λ kind kind_is rest2.
     option_and_then_some _ (restart_at r) x rest2 (λ restart restart_is rest3.
     option_and_then_some _ (shutdown_at s) x rest3 (λ shutdown shutdown_is last.
-      let p = text_in_takes (codes "arg") 0 1024 d a arg refl arg_is in
-      let q = text_in_takes (codes "kind") 1 128 d k kind refl kind_is in
-      let u = restart_takes r restart restart_is in
-      let v = shutdown_takes s shutdown shutdown_is in
-      let y : ChildSpec = record { kind = kind; arg = arg; restart = restart; shutdown = shutdown } in
-      let written : d ≡ spec_value y = rw (p.0, q.0, u, v.0) in
-      let made : y ≡ x = same_Some y x last in
-      (written ∙ ap spec_value made, subst IsSpec made (record { kind = q.1; arg = p.1; shutdown = v.1 }))))))
+    let p = text_in_takes (codes "arg") 0 1024 d a arg refl arg_is in
+    let q = text_in_takes (codes "kind") 1 128 d k kind refl kind_is in
+    let u = restart_takes r restart restart_is in
+    let v = shutdown_takes s shutdown shutdown_is in
+    let y : ChildSpec = record { kind = kind; arg = arg; restart = restart; shutdown = shutdown } in
+    let written : d ≡ spec_value y = rw (p.0, q.0, u, v.0) in
+    let made : y ≡ x = same_Some y x last in
+    (written ∙ ap spec_value made, subst IsSpec made (record { kind = q.1; arg = p.1; shutdown = v.1 }))))))
 
 spec_just : (d : Data) (x : ChildSpec) → spec_at d ≡ Some x → (has_just (codes "arg" ∷ codes "kind" ∷ codes "restart" ∷ codes "shutdown" ∷ []) d ≡ true) × (spec_in d ≡ Some x)
 unfolding spec_at spec_fields
@@ -115,11 +120,11 @@ info_takes One d x e =
     let j = when (has_just (codes "label" ∷ []) d) _ x e in
     let f = just (codes "label" ∷ []) d j.0 in
     option_and_then_some _ (text_in (codes "label") 0 1024 d) x j.1 (λ label is last.
-      let there : get (codes "label") d ≡ Some f.0 = ap (λ z. get (codes "label") z) f.1 in
-      let p = text_in_takes (codes "label") 0 1024 d f.0 label there is in
-      let y : MemberInfo = record { label = label } in
-      let made : y ≡ x = same_Some y x last in
-      (f.1 ∙ ap (λ z. object (member (codes "label") z no_members)) p.0 ∙ ap (info_value One) made, subst (λ (z : MemberInfo). IsText Visible 0 1024 z.label) made p.1))
+    let there : get (codes "label") d ≡ Some f.0 = ap (λ z. get (codes "label") z) f.1 in
+    let p = text_in_takes (codes "label") 0 1024 d f.0 label there is in
+    let y : MemberInfo = record { label = label } in
+    let made : y ≡ x = same_Some y x last in
+    (f.1 ∙ ap (λ z. object (member (codes "label") z no_members)) p.0 ∙ ap (info_value One) made, subst (λ (z : MemberInfo). IsText Visible 0 1024 z.label) made p.1))
 
 pub info_again : (v : Version) (x : MemberInfo) → IsText Visible 0 1024 x.label → info_at v (info_value v x) ≡ Some x
 unfolding info_at has_just

@@ -52,8 +52,8 @@ cut_sound s p whole cut = record {
 pub one_state : (s t : State) (p : Parts) → IsWhole s → IsCut s p → IsWhole t → IsCut t p → s ≡ t
 one_state s t p ws cs wt ct =
     same_state s t ws.tables wt.tables (same_parts s t
-        (λ d. has_cut (has s.context) ws.counted p.vector p.cloud cs.vector cs.cloud d ∙ sym (has_cut (has t.context) wt.counted p.vector p.cloud ct.vector ct.cloud d))
-        (sym cs.rows ∙ ct.rows))
+    (λ d. has_cut (has s.context) ws.counted p.vector p.cloud cs.vector cs.cloud d ∙ sym (has_cut (has t.context) wt.counted p.vector p.cloud ct.vector ct.cloud d))
+    (sym cs.rows ∙ ct.rows))
 
 -- parts that a context and rows were made of: canonical, or not
 pub sound_from : (p : Parts) → IsCanonical p.vector p.cloud → AreInOrder p.rows → (context : List Dot) → ((d : Dot) → has context d ≡ in_parts p.vector p.cloud d) → HasDotsOf context p.rows → AreCanonical p

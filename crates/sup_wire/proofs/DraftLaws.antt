@@ -9,7 +9,8 @@ use Rattle.serde_json.specs.Find.{get}
 use Rattle.sup_wire.specs.declared.version.Version.{Version}
 use Rattle.sup_wire.specs.Drafts.{Parts, Draft, ack, push, delta, image, SaysMessage, SaysImage}
 use Rattle.sup_wire.specs.Forms.{count_value, version_number, value_in, IsFormed, AreEnds, IsCount, IsName}
-use Rattle.sup_wire.specs.FieldReads.{has_just, name_in, within_in, ends_at, version_at, kind_at}
+use Rattle.sup_wire.specs.Faults.{version_at}
+use Rattle.sup_wire.specs.FieldReads.{has_just, name_in, within_in, ends_at, kind_at}
 use Rattle.sup_wire.specs.DraftReads.{parts_at, ack_fields, ack_at, push_fields, push_at, delta_fields, delta_at, image_fields, opening_at, image_at, message_from, message_at, image_from, stored_at}
 use Rattle.sup_wire.proofs.FieldLaws.{just, when, same, chosen, name_in_takes, name_again, within_in_takes, within_in_again, ends_takes, ends_again, version_is, kind_is}
 use Rattle.sup_wire.proofs.PartLaws.{parts_takes, parts_again}
@@ -31,13 +32,13 @@ ack_takes v d x version kind e =
     let v_there : get (codes "v") d ≡ Some f.1.1.1.1.0 = ap (λ z. get (codes "v") z) is in
     option_and_then_some _ (ends_at d) x j.1 (λ ends ends_are rest.
     option_and_then_some _ (within_in (codes "n") 1 MAX d) x rest (λ n n_is last.
-      let p = ends_takes d f.0 f.1.1.1.0 ends from_there to_there ends_are in
-      let c = within_in_takes (codes "n") 1 MAX d f.1.1.0 n n_there n_is in
-      let k = kind_is d f.1.0 (codes "ack") kind_there kind in
-      let w = version_is d f.1.1.1.1.0 (version_number v) v_there version in
-      let made : ack ends.0 ends.1 n ≡ x = same_Some _ x last in
-      let whole : d ≡ value_in v (ack ends.0 ends.1 n) = is ∙ rw (p.0, k, c.0, p.1, w) in
-      (whole ∙ ap (value_in v) made, subst IsFormed made (p.2, record { least = c.1; most = c.2 }), subst SaysMessage made tt)))
+    let p = ends_takes d f.0 f.1.1.1.0 ends from_there to_there ends_are in
+    let c = within_in_takes (codes "n") 1 MAX d f.1.1.0 n n_there n_is in
+    let k = kind_is d f.1.0 (codes "ack") kind_there kind in
+    let w = version_is d f.1.1.1.1.0 (version_number v) v_there version in
+    let made : ack ends.0 ends.1 n ≡ x = same_Some _ x last in
+    let whole : d ≡ value_in v (ack ends.0 ends.1 n) = is ∙ rw (p.0, k, c.0, p.1, w) in
+    (whole ∙ ap (value_in v) made, subst IsFormed made (p.2, record { least = c.1; most = c.2 }), subst SaysMessage made tt)))
 
 push_takes : (v : Version) (d : Data) (x : Draft) → version_at d ≡ Some (version_number v) → kind_at d ≡ Some (codes "push") → push_at v d ≡ Some x → IsValue v SaysMessage d x
 unfolding push_at push_fields
@@ -53,13 +54,13 @@ push_takes v d x version kind e =
     let v_there : get (codes "v") d ≡ Some f.1.1.1.1.1.0 = ap (λ z. get (codes "v") z) is in
     option_and_then_some _ (ends_at d) x j.1 (λ ends ends_are rest.
     option_and_then_some _ (parts_at v d) x rest (λ t t_is last.
-      let p = ends_takes d f.1.0 f.1.1.1.1.0 ends from_there to_there ends_are in
-      let q = parts_takes v d f.0 f.1.1.1.0 t ctx_there rows_there t_is in
-      let k = kind_is d f.1.1.0 (codes "push") kind_there kind in
-      let w = version_is d f.1.1.1.1.1.0 (version_number v) v_there version in
-      let made : push ends.0 ends.1 t ≡ x = same_Some _ x last in
-      let whole : d ≡ value_in v (push ends.0 ends.1 t) = is ∙ rw (q.0, p.0, k, q.1, p.1, w) in
-      (whole ∙ ap (value_in v) made, subst IsFormed made (p.2, q.2), subst SaysMessage made tt)))
+    let p = ends_takes d f.1.0 f.1.1.1.1.0 ends from_there to_there ends_are in
+    let q = parts_takes v d f.0 f.1.1.1.0 t ctx_there rows_there t_is in
+    let k = kind_is d f.1.1.0 (codes "push") kind_there kind in
+    let w = version_is d f.1.1.1.1.1.0 (version_number v) v_there version in
+    let made : push ends.0 ends.1 t ≡ x = same_Some _ x last in
+    let whole : d ≡ value_in v (push ends.0 ends.1 t) = is ∙ rw (q.0, p.0, k, q.1, p.1, w) in
+    (whole ∙ ap (value_in v) made, subst IsFormed made (p.2, q.2), subst SaysMessage made tt)))
 
 delta_takes : (v : Version) (d : Data) (x : Draft) → version_at d ≡ Some (version_number v) → kind_at d ≡ Some (codes "delta") → delta_at v d ≡ Some x → IsValue v SaysMessage d x
 unfolding delta_at delta_fields
@@ -77,14 +78,14 @@ delta_takes v d x version kind e =
     option_and_then_some _ (ends_at d) x j.1 (λ ends ends_are rest.
     option_and_then_some _ (within_in (codes "n") 1 MAX d) x rest (λ n n_is rest2.
     option_and_then_some _ (parts_at v d) x rest2 (λ t t_is last.
-      let p = ends_takes d f.1.0 f.1.1.1.1.1.0 ends from_there to_there ends_are in
-      let c = within_in_takes (codes "n") 1 MAX d f.1.1.1.0 n n_there n_is in
-      let q = parts_takes v d f.0 f.1.1.1.1.0 t ctx_there rows_there t_is in
-      let k = kind_is d f.1.1.0 (codes "delta") kind_there kind in
-      let w = version_is d f.1.1.1.1.1.1.0 (version_number v) v_there version in
-      let made : delta ends.0 ends.1 n t ≡ x = same_Some _ x last in
-      let whole : d ≡ value_in v (delta ends.0 ends.1 n t) = is ∙ rw (q.0, p.0, k, c.0, q.1, p.1, w) in
-      (whole ∙ ap (value_in v) made, subst IsFormed made (p.2, record { least = c.1; most = c.2 }, q.2), subst SaysMessage made tt))))
+    let p = ends_takes d f.1.0 f.1.1.1.1.1.0 ends from_there to_there ends_are in
+    let c = within_in_takes (codes "n") 1 MAX d f.1.1.1.0 n n_there n_is in
+    let q = parts_takes v d f.0 f.1.1.1.1.0 t ctx_there rows_there t_is in
+    let k = kind_is d f.1.1.0 (codes "delta") kind_there kind in
+    let w = version_is d f.1.1.1.1.1.1.0 (version_number v) v_there version in
+    let made : delta ends.0 ends.1 n t ≡ x = same_Some _ x last in
+    let whole : d ≡ value_in v (delta ends.0 ends.1 n t) = is ∙ rw (q.0, p.0, k, c.0, q.1, p.1, w) in
+    (whole ∙ ap (value_in v) made, subst IsFormed made (p.2, record { least = c.1; most = c.2 }, q.2), subst SaysMessage made tt))))
 
 image_takes : (v : Version) (d : Data) (x : Draft) → version_at d ≡ Some (version_number v) → kind_at d ≡ Some (codes "image") → image_at v d ≡ Some x → IsValue v SaysImage d x
 unfolding image_at image_fields opening_at
@@ -104,16 +105,16 @@ image_takes v d x version kind e =
     option_and_then_some _ (within_in (codes "boot") 1 MAX d) o rest1 (λ boot boot_is rest2.
     option_and_then_some _ (within_in (codes "count") 0 MAX d) o rest2 (λ count count_is opened.
     option_and_then_some _ (parts_at v d) x rest0 (λ t t_is last.
-      let n = name_in_takes (codes "node") d f.1.1.1.1.0 node node_there node_is in
-      let b = within_in_takes (codes "boot") 1 MAX d f.0 boot boot_there boot_is in
-      let c = within_in_takes (codes "count") 0 MAX d f.1.0 count count_there count_is in
-      let q = parts_takes v d f.1.1.0 f.1.1.1.1.1.0 t ctx_there rows_there t_is in
-      let k = kind_is d f.1.1.1.0 (codes "image") kind_there kind in
-      let w = version_is d f.1.1.1.1.1.1.0 (version_number v) v_there version in
-      let opening : (node, boot, count) ≡ o = same_Some (node, boot, count) o opened in
-      let made : image node boot count t ≡ x = ap (λ (z : Bytes × ℕ × ℕ). image z.0 z.1 z.2 t) opening ∙ same_Some _ x last in
-      let whole : d ≡ value_in v (image node boot count t) = is ∙ rw (b.0, c.0, q.0, k, n.0, q.1, w) in
-      (whole ∙ ap (value_in v) made, subst IsFormed made (n.1, record { least = b.1; most = b.2 }, c.2, q.2), subst SaysImage made tt))))))
+    let n = name_in_takes (codes "node") d f.1.1.1.1.0 node node_there node_is in
+    let b = within_in_takes (codes "boot") 1 MAX d f.0 boot boot_there boot_is in
+    let c = within_in_takes (codes "count") 0 MAX d f.1.0 count count_there count_is in
+    let q = parts_takes v d f.1.1.0 f.1.1.1.1.1.0 t ctx_there rows_there t_is in
+    let k = kind_is d f.1.1.1.0 (codes "image") kind_there kind in
+    let w = version_is d f.1.1.1.1.1.1.0 (version_number v) v_there version in
+    let opening : (node, boot, count) ≡ o = same_Some (node, boot, count) o opened in
+    let made : image node boot count t ≡ x = ap (λ (z : Bytes × ℕ × ℕ). image z.0 z.1 z.2 t) opening ∙ same_Some _ x last in
+    let whole : d ≡ value_in v (image node boot count t) = is ∙ rw (b.0, c.0, q.0, k, n.0, q.1, w) in
+    (whole ∙ ap (value_in v) made, subst IsFormed made (n.1, record { least = b.1; most = b.2 }, c.2, q.2), subst SaysImage made tt))))))
 
 pub message_takes : (v : Version) (d : Data) (x : Draft) → version_at d ≡ Some (version_number v) → message_at v d ≡ Some x → IsValue v SaysMessage d x
 unfolding message_at message_from

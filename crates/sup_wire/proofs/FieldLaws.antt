@@ -13,7 +13,8 @@ use Rattle.std.proofs.lemmas.Bool.{and_parts, leb-true, le-leb, false≢true}
 use Rattle.sup_specs.specs.declared.texts.TextFault.{TextFault}
 use Rattle.sup_specs.proofs.TextLemmas.{text_from_no_fault, no_fault_from_text}
 use Rattle.sup_wire.specs.Forms.{count_value, IsName, IsCount, AreEnds}
-use Rattle.sup_wire.specs.FieldReads.{are_keys, has_just, unfaulted, name_at, text_at, number_at, within_at, name_in, within_in, text_in, ends_at, kind_at, version_at}
+use Rattle.sup_wire.specs.Faults.{version_at}
+use Rattle.sup_wire.specs.FieldReads.{are_keys, has_just, unfaulted, name_at, text_at, number_at, within_at, name_in, within_in, text_in, ends_at, kind_at}
 
 pub as_str-string : (d : Data) (s : Bytes) → as_str d ≡ Some s → d ≡ string s
 as_str-string null s e = absurd (none-some s e)
@@ -41,8 +42,8 @@ pub name_takes : (d : Data) (s : Bytes) → name_at d ≡ Some s → (d ≡ stri
 unfolding name_at
 name_takes d s e =
     option_and_then_some _ (as_str d) s e (λ t is rest.
-      let p = unfaulted-some (text_fault NodeBytes 1 64 t) t s rest in
-      (as_str-string d t is ∙ ap string p.1, subst IsName p.1 (text_from_no_fault NodeBytes 1 64 t p.0)))
+    let p = unfaulted-some (text_fault NodeBytes 1 64 t) t s rest in
+    (as_str-string d t is ∙ ap string p.1, subst IsName p.1 (text_from_no_fault NodeBytes 1 64 t p.0)))
 
 pub name_again : (s : Bytes) → IsName s → name_at (string s) ≡ Some s
 unfolding name_at
@@ -52,8 +53,8 @@ pub text_takes : (least most : ℕ) (d : Data) (s : Bytes) → text_at least mos
 unfolding text_at
 text_takes least most d s e =
     option_and_then_some _ (as_str d) s e (λ t is rest.
-      let p = unfaulted-some (text_fault Visible least most t) t s rest in
-      (as_str-string d t is ∙ ap string p.1, subst (IsText Visible least most) p.1 (text_from_no_fault Visible least most t p.0)))
+    let p = unfaulted-some (text_fault Visible least most t) t s rest in
+    (as_str-string d t is ∙ ap string p.1, subst (IsText Visible least most) p.1 (text_from_no_fault Visible least most t p.0)))
 
 pub text_again : (least most : ℕ) (s : Bytes) → IsText Visible least most s → text_at least most (string s) ≡ Some s
 unfolding text_at
@@ -71,9 +72,9 @@ pub within_takes : (least most : ℕ) (d : Data) (n : ℕ) → within_at least m
 unfolding within_at
 within_takes least most d n e =
     option_and_then_some _ (number_at d) n e (λ m is rest.
-      let p = guarded (nat_le least m && nat_le m most) m n rest in
-      let q = and_parts (nat_le least m) (nat_le m most) p.0 in
-      (number_at-count d m is ∙ ap count_value p.1, subst (λ k. least ≤ k) p.1 (leb-true least m q.0), subst (λ k. k ≤ most) p.1 (leb-true m most q.1)))
+    let p = guarded (nat_le least m && nat_le m most) m n rest in
+    let q = and_parts (nat_le least m) (nat_le m most) p.0 in
+    (number_at-count d m is ∙ ap count_value p.1, subst (λ k. least ≤ k) p.1 (leb-true least m q.0), subst (λ k. k ≤ most) p.1 (leb-true m most q.1)))
 
 pub within_again : (least most n : ℕ) → least ≤ n → n ≤ most → within_at least most (count_value n) ≡ Some n
 unfolding within_at
@@ -125,11 +126,13 @@ unfolding ends_at
 ends_takes d x y ends from_there to_there e =
     option_and_then_some _ (name_in (codes "from") d) ends e (λ from from_is rest.
     option_and_then_some _ (name_in (codes "to") d) ends rest (λ to to_is last.
-      let p = barred (bytes_eq from to) (from, to) ends last in
-      let f = name_in_takes _ d x from from_there from_is in
-      let t = name_in_takes _ d y to to_there to_is in
-      (f.0 ∙ ap (λ (q : Bytes × Bytes). string q.0) p.1, t.0 ∙ ap (λ (q : Bytes × Bytes). string q.1) p.1,
-       subst (λ (q : Bytes × Bytes). AreEnds q.0 q.1) p.1 (record { sender = f.1; receiver = t.1; differ = differ from to p.0 }))))
+    let p = barred (bytes_eq from to) (from, to) ends last in
+    let f = name_in_takes _ d x from from_there from_is in
+    let t = name_in_takes _ d y to to_there to_is in (
+      f.0 ∙ ap (λ (q : Bytes × Bytes). string q.0) p.1,
+      t.0 ∙ ap (λ (q : Bytes × Bytes). string q.1) p.1,
+      subst (λ (q : Bytes × Bytes). AreEnds q.0 q.1) p.1 (record { sender = f.1; receiver = t.1; differ = differ from to p.0 }),
+    )))
 
 pub version_is : (d x : Data) (n : ℕ) → get (codes "v") d ≡ Some x → version_at d ≡ Some n → x ≡ count_value n
 version_is d x n there e = number_at-count x n (sym (ap (λ o. option_and_then number_at o) there) ∙ e)

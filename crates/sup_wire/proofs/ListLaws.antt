@@ -52,11 +52,11 @@ dot_takes d x e =
     option_and_then_some _ (two_at d) x e (λ p p_is rest.
     option_and_then_some _ (name_at p.0) x rest (λ node node_is rest.
     option_and_then_some _ (count_at p.1) x rest (λ n n_is last.
-      let a = name_takes p.0 node node_is in
-      let b = within_takes 1 MAX p.1 n n_is in
-      let made : record { counter = n; node = node } ≡ x = same_Some _ x last in
-      let whole : d ≡ dot_value (record { counter = n; node = node }) = two_takes d p p_is ∙ ap₂ (λ u v. array (item u (item v no_items))) a.0 b.0 in
-      (whole ∙ ap dot_value made, subst IsDot made (record { node = a.1; counter = record { least = b.1; most = b.2 } })))))
+    let a = name_takes p.0 node node_is in
+    let b = within_takes 1 MAX p.1 n n_is in
+    let made : record { counter = n; node = node } ≡ x = same_Some _ x last in
+    let whole : d ≡ dot_value (record { counter = n; node = node }) = two_takes d p p_is ∙ ap₂ (λ u v. array (item u (item v no_items))) a.0 b.0 in
+    (whole ∙ ap dot_value made, subst IsDot made (record { node = a.1; counter = record { least = b.1; most = b.2 } })))))
 
 pub dot_again : (x : Dot) → IsDot x → dot_at (dot_value x) ≡ Some x
 unfolding dot_at two_at
@@ -95,11 +95,11 @@ unfolding note_from
 note_takes k d note e =
     option_and_then_some _ (name_from k) note e (λ node node_is rest.
     option_and_then_some _ (count_at d) note rest (λ n n_is last.
-      let a = unfaulted-some (text_fault NodeBytes 1 64 k) k node node_is in
-      let b = within_takes 1 MAX d n n_is in
-      let made : (node, n) ≡ note = same_Some (node, n) note last in
-      subst (λ (q : Bytes × ℕ). (k ≡ q.0) × (d ≡ count_value q.1) × IsNote q) made
-      (a.1, b.0, (subst IsName a.1 (text_from_no_fault NodeBytes 1 64 k a.0), record { least = b.1; most = b.2 }))))
+    let a = unfaulted-some (text_fault NodeBytes 1 64 k) k node node_is in
+    let b = within_takes 1 MAX d n n_is in
+    let made : (node, n) ≡ note = same_Some (node, n) note last in
+    subst (λ (q : Bytes × ℕ). (k ≡ q.0) × (d ≡ count_value q.1) × IsNote q) made
+    (a.1, b.0, (subst IsName a.1 (text_from_no_fault NodeBytes 1 64 k a.0), record { least = b.1; most = b.2 }))))
 
 pub note_again : (note : Bytes × ℕ) → IsNote note → note_from note.0 (count_value note.1) ≡ Some note
 unfolding note_from
@@ -123,4 +123,3 @@ notes_takes (member k d ms) notes e =
 pub notes_again : (notes : List (Bytes × ℕ)) → AllByRecursion IsNote notes → notes_in (vector_members notes) ≡ Some notes
 notes_again [] all = refl
 notes_again (note ∷ notes) all = rw (note_again note all.0, notes_again notes all.1)
-

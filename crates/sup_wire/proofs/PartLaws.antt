@@ -40,11 +40,11 @@ context_takes d c e =
     let vector_there : get (codes "vector") d ≡ Some f.1.0 = ap (λ z. get (codes "vector") z) is in
     option_and_then_some _ (option_and_then dots_at (get (codes "cloud") d)) c j.1 (λ cloud cloud_is rest.
     option_and_then_some _ (option_and_then vector_at (get (codes "vector") d)) c rest (λ vector vector_is last.
-      let p = dots_takes f.0 cloud (sym (ap (λ o. option_and_then dots_at o) cloud_there) ∙ cloud_is) in
-      let q = vector_takes f.1.0 vector (sym (ap (λ o. option_and_then vector_at o) vector_there) ∙ vector_is) in
-      let made : (vector, cloud) ≡ c = same_Some (vector, cloud) c last in
-      let whole : d ≡ pair_value (vector, cloud) = is ∙ ap₂ (λ u v. object (member (codes "cloud") u (member (codes "vector") v no_members))) p.0 q.0 in
-      (whole ∙ ap pair_value made, subst (λ (z : List (Bytes × ℕ) × List Dot). AllByRecursion IsNote z.0 × AllByRecursion IsDot z.1) made (q.1, p.1))))
+    let p = dots_takes f.0 cloud (sym (ap (λ o. option_and_then dots_at o) cloud_there) ∙ cloud_is) in
+    let q = vector_takes f.1.0 vector (sym (ap (λ o. option_and_then vector_at o) vector_there) ∙ vector_is) in
+    let made : (vector, cloud) ≡ c = same_Some (vector, cloud) c last in
+    let whole : d ≡ pair_value (vector, cloud) = is ∙ ap₂ (λ u v. object (member (codes "cloud") u (member (codes "vector") v no_members))) p.0 q.0 in
+    (whole ∙ ap pair_value made, subst (λ (z : List (Bytes × ℕ) × List Dot). AllByRecursion IsNote z.0 × AllByRecursion IsDot z.1) made (q.1, p.1))))
 
 context_again : (t : Parts) → AllByRecursion IsNote t.vector → AllByRecursion IsDot t.cloud → context_at (context_value t) ≡ Some (t.vector, t.cloud)
 unfolding context_at context_fields has_just cloud_in vector_in vector_at
@@ -55,10 +55,10 @@ unfolding parts_at context_in rows_in
 parts_takes v d x y t context_there rows_there e =
     option_and_then_some _ (option_and_then context_at (get (codes "ctx") d)) t e (λ c c_is rest.
     option_and_then_some _ (option_and_then (rows_at v) (get (codes "rows") d)) t rest (λ rows rows_is last.
-      let p = context_takes x c (sym (ap (λ o. option_and_then context_at o) context_there) ∙ c_is) in
-      let q = rows_takes v y rows (sym (ap (λ o. option_and_then (rows_at v) o) rows_there) ∙ rows_is) in
-      let made : record { vector = c.0; cloud = c.1; rows = rows } ≡ t = same_Some _ t last in
-      (p.0 ∙ ap context_value made, q.0 ∙ ap (λ (z : Parts). rows_value v z.rows) made, subst AreParts made (record { vector = p.1.0; cloud = p.1.1; rows = q.1 }))))
+    let p = context_takes x c (sym (ap (λ o. option_and_then context_at o) context_there) ∙ c_is) in
+    let q = rows_takes v y rows (sym (ap (λ o. option_and_then (rows_at v) o) rows_there) ∙ rows_is) in
+    let made : record { vector = c.0; cloud = c.1; rows = rows } ≡ t = same_Some _ t last in
+    (p.0 ∙ ap context_value made, q.0 ∙ ap (λ (z : Parts). rows_value v z.rows) made, subst AreParts made (record { vector = p.1.0; cloud = p.1.1; rows = q.1 }))))
 
 pub parts_again : (v : Version) (d : Data) (t : Parts) → get (codes "ctx") d ≡ Some (context_value t) → get (codes "rows") d ≡ Some (rows_value v t.rows) → AreParts t → parts_at v d ≡ Some t
 unfolding parts_at context_in rows_in

@@ -9,9 +9,8 @@ use Rattle.sup_wire.specs.declared.fault.WireFault.{WireFault}
 use Rattle.sup_wire.specs.declared.fault.WireFault.TheVariants.{NotJson, NotMessage, BadVersion, NotCanonical, OutOfMemory}
 use Rattle.sup_wire.specs.Drafts.{Draft, IsSound}
 use Rattle.sup_wire.specs.Forms.{value_of, IsFormed}
-use Rattle.sup_wire.specs.FieldReads.{version_at}
+use Rattle.sup_wire.specs.Faults.{version_at, IsJson, Says, IsMisformed, IsFault, IsOrMemory}
 use Rattle.sup_wire.specs.DraftReads.{Decodes}
-use Rattle.sup_wire.specs.Faults.{IsJson, Says, IsMisformed, IsFault, IsOrMemory}
 
 one_value : (text : Bytes) (d e : Data) → IsJson text d → IsJson text e → d ≡ e
 one_value text d e p q = same_Some d e (sym p.value ∙ q.value)

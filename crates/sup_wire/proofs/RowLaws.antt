@@ -43,27 +43,27 @@ unfolding member_at
 member_takes v key value x e =
     option_and_then_some _ (name_at key) x e (λ node node_is rest.
     option_and_then_some _ (info_at v value) x rest (λ info info_is last.
-      let p = name_takes key node node_is in
-      let q = info_takes v value info info_is in
-      subst (λ (z : Entry). Stands v (codes "member") key value z) (same_Some (Member node info) x last) ((λ dot. rw (p.0, q.0)), (p.1, q.1))))
+    let p = name_takes key node node_is in
+    let q = info_takes v value info info_is in
+    subst (λ (z : Entry). Stands v (codes "member") key value z) (same_Some (Member node info) x last) ((λ dot. rw (p.0, q.0)), (p.1, q.1))))
 
 child_takes : (v : Version) (key value : Data) (x : Entry) → child_at key value ≡ Some x → Stands v (codes "child") key value x
 unfolding child_at
 child_takes v key value x e =
     option_and_then_some _ (text_at 1 128 key) x e (λ id id_is rest.
     option_and_then_some _ (spec_at value) x rest (λ spec spec_is last.
-      let p = text_takes 1 128 key id id_is in
-      let q = spec_takes value spec spec_is in
-      subst (λ (z : Entry). Stands v (codes "child") key value z) (same_Some (Child id spec) x last) ((λ dot. rw (p.0, q.0)), (p.1, q.1))))
+    let p = text_takes 1 128 key id id_is in
+    let q = spec_takes value spec spec_is in
+    subst (λ (z : Entry). Stands v (codes "child") key value z) (same_Some (Child id spec) x last) ((λ dot. rw (p.0, q.0)), (p.1, q.1))))
 
 registered_takes : (v : Version) (key value : Data) (x : Entry) → registered_at key value ≡ Some x → Stands v (codes "name") key value x
 unfolding registered_at
 registered_takes v key value x e =
     option_and_then_some _ (text_at 1 128 key) x e (λ name name_is rest.
     option_and_then_some _ (text_at 1 128 value) x rest (λ id id_is last.
-      let p = text_takes 1 128 key name name_is in
-      let q = text_takes 1 128 value id id_is in
-      subst (λ (z : Entry). Stands v (codes "name") key value z) (same_Some (Name name id) x last) ((λ dot. rw (p.0, q.0)), (p.1, q.1))))
+    let p = text_takes 1 128 key name name_is in
+    let q = text_takes 1 128 value id id_is in
+    subst (λ (z : Entry). Stands v (codes "name") key value z) (same_Some (Name name id) x last) ((λ dot. rw (p.0, q.0)), (p.1, q.1))))
 
 entry_takes : (v : Version) (table : Bytes) (key value : Data) (x : Entry) → entry_at v table key value ≡ Some x → Stands v table key value x
 unfolding entry_at
@@ -82,13 +82,13 @@ row_takes v d x e =
     option_and_then_some _ (as_str p.table) x rest (λ table table_is rest2.
     option_and_then_some _ (dot_at p.dot) x rest2 (λ dot dot_is rest3.
     option_and_then_some _ (entry_at v table p.key p.value) x rest3 (λ entry entry_is last.
-      let a = as_str-string p.table table table_is in
-      let b = dot_takes p.dot dot dot_is in
-      let c = entry_takes v table p.key p.value entry entry_is in
-      let y : Row = record { entry = entry; dot = dot } in
-      let made : y ≡ x = same_Some y x last in
-      let whole : d ≡ row_value v y = four_takes d p p_is ∙ ap₂ (λ u v. array (item u (item p.key (item v (item p.value no_items))))) a b.0 ∙ c.0 (dot_value dot) in
-      (whole ∙ ap (row_value v) made, subst IsRow made (c.1, b.1))))))
+    let a = as_str-string p.table table table_is in
+    let b = dot_takes p.dot dot dot_is in
+    let c = entry_takes v table p.key p.value entry entry_is in
+    let y : Row = record { entry = entry; dot = dot } in
+    let made : y ≡ x = same_Some y x last in
+    let whole : d ≡ row_value v y = four_takes d p p_is ∙ ap₂ (λ u v. array (item u (item p.key (item v (item p.value no_items))))) a b.0 ∙ c.0 (dot_value dot) in
+    (whole ∙ ap (row_value v) made, subst IsRow made (c.1, b.1))))))
 
 entry_again : (v : Version) (x : Entry) (dot : Data) → IsEntry x → (p : Four) × (four_at (entry_value v x dot) ≡ Some p) × (p.dot ≡ dot) × ((table : Bytes) × (as_str p.table ≡ Some table) × (entry_at v table p.key p.value ≡ Some x))
 unfolding four_at entry_at member_at child_at registered_at
@@ -111,4 +111,3 @@ rows_takes v d xs e = option_and_then_some _ (as_array d) xs e (λ ds is rest.
 pub rows_again : (v : Version) (xs : List Row) → AllByRecursion IsRow xs → rows_at v (rows_value v xs) ≡ Some xs
 unfolding rows_at
 rows_again v xs all = each_again (row_at v) (row_value v) IsRow (row_again v) xs all
-

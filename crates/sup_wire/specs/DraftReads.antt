@@ -13,7 +13,8 @@ use Rattle.sup_wire.specs.declared.fault.WireFault.{WireFault}
 use Rattle.sup_wire.specs.declared.fault.WireFault.TheVariants.{NotJson, NotMessage, BadVersion, NotCanonical, OutOfMemory}
 use Rattle.sup_wire.specs.declared.version.Version.{Version}
 use Rattle.sup_wire.specs.declared.reading.parts.Parts.{Parts as ReadParts}
-use Rattle.sup_wire.specs.FieldReads.{◌>>=◌, has_just, name_in, within_in, count_at, unfaulted, ends_at, version_at, kind_at}
+use Rattle.sup_wire.specs.Faults.{IsJson}
+use Rattle.sup_wire.specs.FieldReads.{◌>>=◌, has_just, name_in, within_in, count_at, unfaulted, ends_at, kind_at}
 use Rattle.sup_wire.specs.RowReads.{each_in, dot_at, rows_at}
 use Rattle.sup_wire.specs.Drafts.{Parts, Draft, ack, push, delta, image, IsCut, IsWhole, IsSound, AreCanonical}
 
@@ -128,6 +129,14 @@ unfoldable pub stored_at : Version → Data → Option Draft
 stored_at v d = kind_at d >>= λ kind. image_from v kind d
 
 -- ---- answers
+
+-- Why a text is no JSON.
+abbrev pub NoJson : Bytes → WireFault → Type 0
+NoJson text NotJson = (d : Data) → ¬ IsJson text d
+NoJson text NotMessage = ⊥
+NoJson text BadVersion = ⊥
+NoJson text NotCanonical = ⊥
+NoJson text OutOfMemory = Unit {0}
 
 -- Tables of these parts, or why there are none: no memory may stand in place of any answer.
 abbrev pub RefusesParts : WireFault → Parts → Type 0

@@ -1,10 +1,10 @@
 -- What a text says, and which fault it has (this project).
-use Rattle.std.specs.Prelude.{◌≡◌, ◌≢◌, ◌⊎◌, ◌++◌, ℕ, ◌≤◌, List, Some, None, Result, Ok, Err, codes}
-use Rattle.std.specs.Option.{option_and_then}
+use Rattle.std.specs.Prelude.{◌≡◌, ◌≢◌, ◌⊎◌, ◌++◌, ℕ, ◌≤◌, List, Option, Some, None, option_and_then, Result, Ok, Err, codes}
 use Rattle.std.specs.Str.{IsUtf8}
 use Rattle.sup_specs.specs.Values.{Bytes}
 use Rattle.sup_specs.specs.declared.limits.TheConstants.{MAX}
 use Rattle.serde_json.specs.Data.{Data}
+use Rattle.serde_json.specs.Find.{get, as_number, as_u64}
 use Rattle.serde_json.specs.Read.{read}
 use Rattle.serde_json.specs.Written.{compact_text}
 use Rattle.sup_wire.specs.declared.fault.WireFault.{WireFault}
@@ -14,7 +14,6 @@ use Rattle.sup_wire.specs.declared.message.Message.TheVariants.{Ack, Push, Delta
 use Rattle.sup_wire.specs.declared.image.Image.{Image}
 use Rattle.sup_wire.specs.Drafts.{Draft, IsSound}
 use Rattle.sup_wire.specs.Forms.{value_of, IsFormed, IsCount}
-use Rattle.sup_wire.specs.FieldReads.{version_at}
 
 -- the text is the JSON value
 pub record IsJson (text : Bytes) (d : Data) : Type 0 where
@@ -42,6 +41,10 @@ pub record IsTextAfter {M : Type 0} (IsDraft : M → Draft → Type 0) (InRange 
   pub parts : all ≡ front ++ text
   pub is : IsTextOf IsDraft InRange text x
 
+-- the number that a value has as its version
+abbrev pub version_at : Data → Option ℕ
+version_at d = option_and_then (λ v. option_and_then as_u64 (as_number v)) (get (codes "v") d)
+
 -- the value says no version, or version 1 and is of no message (or image) with all fields in their forms
 abbrev pub IsMisformed : (Draft → Type 0) → Data → Type 0
 IsMisformed Kind d = (version_at d ≡ None) ⊎ ((version_at d ≡ Some 1) × ((draft : Draft) → Kind draft → IsFormed draft → d ≢ value_of draft))
@@ -68,11 +71,3 @@ IsInRange (Delta from to n state) = (from ≢ to) × IsCount n
 -- the same of an image
 abbrev pub IsImageInRange : Image → Type 0
 IsImageInRange i = IsCount i.boot × (i.count ≤ MAX)
-
--- for a private clause: why a text is no JSON
-abbrev pub NoJson : Bytes → WireFault → Type 0
-NoJson text NotJson = (d : Data) → ¬ IsJson text d
-NoJson text NotMessage = ⊥
-NoJson text BadVersion = ⊥
-NoJson text NotCanonical = ⊥
-NoJson text OutOfMemory = Unit {0}

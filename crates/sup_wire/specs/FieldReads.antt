@@ -88,9 +88,5 @@ ends_at d = do
   to ← name_in (codes "to") d
   if bytes_eq from to then None else Some (from, to)
 
--- the version
-abbrev pub version_at : Data → Option ℕ
-version_at d = get (codes "v") d >>= number_at
-
 abbrev pub kind_at : Data → Option Bytes
 kind_at d = get (codes "kind") d >>= as_str

@@ -5,7 +5,8 @@ ghost use Rattle.sup_specs.specs.Values.{Bytes};
 ghost use Rattle.sup_wire.specs.declared.message.Message.{Message};
 ghost use Rattle.sup_wire.specs.declared.image.Image.{Image};
 ghost use Rattle.sup_wire.specs.Drafts.{IsDraftOf, IsDraftOfImage, SaysMessage, SaysImage, IsWholeMessage, IsWholeImage};
-ghost use Rattle.sup_wire.specs.Faults.{IsJson, Says, IsTextOf, IsTextAfter, IsFault, IsOrMemory, IsInRange, IsImageInRange, NoJson};
+ghost use Rattle.sup_wire.specs.DraftReads.{NoJson};
+ghost use Rattle.sup_wire.specs.Faults.{IsJson, Says, IsTextOf, IsTextAfter, IsFault, IsOrMemory, IsInRange, IsImageInRange};
 
 use crate::fault::WireFault;
 use crate::image::Image;

@@ -7,7 +7,11 @@ use sup_tables::Tables;
 #[derive(Drop)]
 pub enum Message {
     /// That the sender has taken in the receiver's delta with this number.
-    Ack { from: NodeName, to: NodeName, n: u64 },
+    Ack {
+        from: NodeName,
+        to: NodeName,
+        n: u64,
+    },
     /// What an operation of the sender changed, without a number.
     Push {
         from: NodeName,

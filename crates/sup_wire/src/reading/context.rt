@@ -23,10 +23,7 @@ fn note_of(name: &str, value: &Value) -> Option<(NodeName, u64)>
 }
 
 // The entries of a vector, one for each member.
-fn each_note(
-    alloc: Global,
-    object: &Map<String, Value>,
-) -> Result<Vec<(NodeName, u64)>, WireFault>
+fn each_note(alloc: Global, object: &Map<String, Value>) -> Result<Vec<(NodeName, u64)>, WireFault>
     ensures { GivesBy (λ v. v.items) result (notes_in (members_view object.now.entries)) }
 {
     let mut vector = Vec::new(alloc);

@@ -2,7 +2,8 @@
 ghost use Rattle.std.specs.Prelude.{◌≡◌, codes, map};
 ghost use Rattle.std.specs.Option.{option_copied};
 ghost use Rattle.serde_json.specs.View.{view, members_view};
-ghost use Rattle.sup_wire.specs.FieldReads.{are_keys, has_just, name_at, within_at, name_in, within_in, ends_at, version_at, kind_at};
+ghost use Rattle.sup_wire.specs.Faults.{version_at};
+ghost use Rattle.sup_wire.specs.FieldReads.{are_keys, has_just, name_at, within_at, name_in, within_in, ends_at, kind_at};
 
 use serde_json::{Map, Value};
 use sup_specs::NodeName;
@@ -47,7 +48,11 @@ pub(crate) fn within(value: &Value, least: u64, most: u64) -> Option<u64>
     ensures { result ≡ within_at least most (view value.now) }
 {
     let n = value.as_u64()?;
-    if least <= n && n <= most { Some(n) } else { None }
+    if least <= n && n <= most {
+        Some(n)
+    } else {
+        None
+    }
 }
 
 // The name in a field.

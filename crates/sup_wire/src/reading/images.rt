@@ -2,7 +2,8 @@
 ghost use Rattle.std.specs.Prelude.{◌≡◌};
 ghost use Rattle.serde_json.specs.View.{view};
 ghost use Rattle.sup_wire.specs.Drafts.{image, IsDraftOfImage, IsWholeImage};
-ghost use Rattle.sup_wire.specs.FieldReads.{has_just, version_at, GivesBy};
+ghost use Rattle.sup_wire.specs.Faults.{version_at};
+ghost use Rattle.sup_wire.specs.FieldReads.{has_just, GivesBy};
 ghost use Rattle.sup_wire.specs.DraftReads.{image_fields, opening_at, image_at, stored_at, parts_read, Seals, Decodes};
 ghost use Rattle.sup_wire.specs.declared.version.Version.TheVariants.{One};
 
@@ -19,7 +20,10 @@ use sup_specs::{MAX, NodeName};
 fn has_image_fields(value: &Value) -> bool
     ensures { result ≡ has_just image_fields (view value.now) }
 {
-    has_just(value, &["boot", "count", "ctx", "kind", "node", "rows", "v"])
+    has_just(
+        value,
+        &["boot", "count", "ctx", "kind", "node", "rows", "v"],
+    )
 }
 
 // Node, boot and count.

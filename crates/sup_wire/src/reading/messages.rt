@@ -2,7 +2,8 @@
 ghost use Rattle.std.specs.Prelude.{◌≡◌};
 ghost use Rattle.serde_json.specs.View.{view};
 ghost use Rattle.sup_wire.specs.Drafts.{push, delta, IsDraftOf, IsWholeMessage};
-ghost use Rattle.sup_wire.specs.FieldReads.{has_just, version_at, GivesBy};
+ghost use Rattle.sup_wire.specs.Faults.{version_at};
+ghost use Rattle.sup_wire.specs.FieldReads.{has_just, GivesBy};
 ghost use Rattle.sup_wire.specs.DraftReads.{ack_fields, push_fields, delta_fields, ack_at, push_at, delta_at, message_at, parts_read, Seals, Decodes};
 ghost use Rattle.sup_wire.specs.declared.version.Version.TheVariants.{One};
 

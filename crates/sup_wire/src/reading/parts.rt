@@ -18,7 +18,11 @@ use sup_tables::{Row, Tables};
 fn rows_in(alloc: Global, version: Version, value: &Value) -> Result<Vec<Row>, WireFault>
     ensures { GivesBy (λ v. v.items) result (rows_in version (view value.now)) }
 {
-    rows_of(alloc, version, value.get("rows").ok_or(WireFault::NotMessage)?)
+    rows_of(
+        alloc,
+        version,
+        value.get("rows").ok_or(WireFault::NotMessage)?,
+    )
 }
 
 // Tables, before they are known to be canonical.

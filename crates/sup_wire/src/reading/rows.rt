@@ -95,5 +95,9 @@ fn each_row(alloc: Global, version: Version, values: &[Value]) -> Result<Vec<Row
 pub(crate) fn rows_of(alloc: Global, version: Version, value: &Value) -> Result<Vec<Row>, WireFault>
     ensures { GivesBy (λ v. v.items) result (rows_at version (view value.now)) }
 {
-    each_row(alloc, version, value.as_array().ok_or(WireFault::NotMessage)?)
+    each_row(
+        alloc,
+        version,
+        value.as_array().ok_or(WireFault::NotMessage)?,
+    )
 }

@@ -10,5 +10,5 @@ abbrev pub invariant-loop-dot : goal.invariant-loop-dot
 invariant-loop-dot l = record {
   before : l.out.before ≡ l.initial.out.before;
   tokens : l.out.tokens ++ items_tokens (items_outline (items_of (map dot_value (drop l.dot-index l.cloud)))) ≡ l.initial.out.tokens ++ items_tokens (items_outline (items_of (map dot_value l.cloud)));
-  formed : AllByRecursion (λ d. IsName d.node) ((drop l.dot-index l.cloud)) → AllByRecursion (λ d. IsName d.node) l.cloud
+  formed : AllByRecursion (λ d. IsName d.node) ((drop l.dot-index l.cloud)) → AllByRecursion (λ d. IsName d.node) l.cloud;
 }

@@ -9,5 +9,5 @@ abbrev pub invariant-loop-note : goal.invariant-loop-note
 invariant-loop-note l = record {
   before : l.out.before ≡ l.initial.out.before;
   tokens : l.out.tokens ++ members_tokens (members_outline (vector_members (drop l.note-index l.vector))) ≡ l.initial.out.tokens ++ members_tokens (members_outline (vector_members l.vector));
-  formed : AllByRecursion (λ e. IsName e.0) ((drop l.note-index l.vector)) → AllByRecursion (λ e. IsName e.0) l.vector
+  formed : AllByRecursion (λ e. IsName e.0) ((drop l.note-index l.vector)) → AllByRecursion (λ e. IsName e.0) l.vector;
 }

@@ -11,5 +11,5 @@ abbrev pub invariant-loop-row : goal.invariant-loop-row
 invariant-loop-row l = record {
   before : l.out.before ≡ l.initial.out.before;
   tokens : l.out.tokens ++ items_tokens (items_outline (items_of (map (row_value l.version) (rows_lent (drop l.row-index l.rows))))) ≡ l.initial.out.tokens ++ items_tokens (items_outline (items_of (map (row_value l.version) (rows_lent l.rows))));
-  formed : AllByRecursion IsWritten (rows_lent (drop l.row-index l.rows)) → AllByRecursion IsWritten (rows_lent l.rows)
+  formed : AllByRecursion IsWritten (rows_lent (drop l.row-index l.rows)) → AllByRecursion IsWritten (rows_lent l.rows);
 }
