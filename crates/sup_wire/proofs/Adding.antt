@@ -1,22 +1,21 @@
 -- Tokens that were appended, one part after another, and the text that they make.
-use Rattle.std.proofs.Common.{◌≡◌, ℕ, ◌<◌, ◌≤◌, ◌^◌, List, [], ◌∷◌, ◌++◌, Some, decimal, refl, sym, ap, subst, ◌∙◌, append_assoc, lit<, lit≤, arith}
+use Rattle.std.proofs.Common.{◌≡◌, ℕ, ◌<◌, ◌≤◌, ◌^◌, List, [], ◌∷◌, ◌++◌, Some, decimal, refl, sym, ap, subst, ◌∙◌, append_assoc, arith}
 use Rattle.std.specs.Str.{IsUtf8}
 use Rattle.json.specs.Token.{Token, key}
 use Rattle.json.specs.Lex.{tokens}
 use Rattle.json.specs.Print.{print}
 use Rattle.json.specs.Written.{Written}
 use Rattle.serde_json.specs.Data.{Data, unsigned, depth}
-use Rattle.serde_json.specs.Read.{read, number_of, of_json, max_depth}
-use Rattle.serde_json.specs.Written.{outline, compact_text, blank, unless_float, WritesValue}
+use Rattle.serde_json.specs.Read.{read, of_json, max_depth}
+use Rattle.serde_json.specs.Written.{outline, unless_float, WritesValue}
 use Rattle.serde_json.proofs.Texts.{print-outline, unless_float-number_of}
 use Rattle.std.specs.Prelude.{option_and_then}
 use Rattle.json.specs.Json as json
 use Rattle.json.proofs.Printed.Trees.{value-json_tokens}
 use Rattle.std.proofs.Common.{append-nil}
 use Rattle.serde_json.proofs.Numbers.{number_of-decimal}
-use Rattle.json.specs.Tree as tree
 use Rattle.sup_wire.specs.Writing.{Adds, WritesDraft, tokens_of, field_tokens}
-use Rattle.sup_wire.specs.Faults.{IsJson, Says, IsTextOf, IsTextAfter}
+use Rattle.sup_wire.specs.Faults.{Says, IsTextOf, IsTextAfter}
 use Rattle.sup_wire.specs.Drafts.{Draft}
 use Rattle.sup_wire.specs.Forms.{value_of}
 use Rattle.sup_wire.specs.declared.version.Version.TheVariants.{One}

@@ -1,14 +1,12 @@
 -- What children and members are: what is read was written so, and what is written so is read.
-use Rattle.std.proofs.Common.{◌≡◌, ◌≢◌, ◌≤◌, ◌⊎◌, inl, inr, ℕ, Bool, true, false, ◌&&◌, cond, List, [], ◌∷◌, Option, Some, None, codes, refl, sym, ap, ap₂, subst, ◌∙◌, arith}
-use Rattle.std.specs.Prelude.{option_and_then, option_map, map, bytes_eq, nat_le}
-use Rattle.std.proofs.lemmas.Option.{option_and_then_some, same_Some, none-some}
-use Rattle.std.proofs.lemmas.Slice.Eq.{bytes_eq-Decides}
+use Rattle.std.proofs.Common.{◌≡◌, inl, inr, true, cond, [], ◌∷◌, Option, Some, None, codes, refl, ap, subst, ◌∙◌, arith}
+use Rattle.std.specs.Prelude.{option_and_then, bytes_eq}
+use Rattle.std.proofs.lemmas.Option.{option_and_then_some, same_Some}
 use Rattle.sup_specs.specs.Values.{Bytes}
-use Rattle.sup_specs.specs.declared.limits.TheConstants.{MAX}
-use Rattle.serde_json.specs.Data.{Data, null, boolean, number, unsigned, negative, float, string, array, object, Items, no_items, item, Members, no_members, member}
+use Rattle.serde_json.specs.Data.{Data, string, object, no_members, member}
 use Rattle.serde_json.specs.Find.{get, as_str}
-use Rattle.sup_specs.specs.Texts.{IsText, text_fault}
-use Rattle.sup_specs.specs.declared.texts.Alphabet.TheVariants.{NodeBytes, Visible}
+use Rattle.sup_specs.specs.Texts.{IsText}
+use Rattle.sup_specs.specs.declared.texts.Alphabet.TheVariants.{Visible}
 use Rattle.sup_specs.specs.declared.child.Restart.{Restart}
 use Rattle.sup_specs.specs.declared.child.Restart.TheVariants.{Permanent, Transient, Temporary}
 use Rattle.sup_specs.specs.declared.child.Shutdown.{Shutdown}

@@ -1,17 +1,14 @@
 -- A state and the parts that it is cut into: they are canonical, and no other state has them.
-use Rattle.std.proofs.Common.{◌≡◌, ℕ, ◌<◌, ◌≤◌, Bool, true, false, ◌||◌, ◌&&◌, leb, List, refl, sym, ap, ◌∙◌, subst, arith, inl, inr}
+use Rattle.std.proofs.Common.{◌≡◌, ℕ, Bool, true, ◌&&◌, leb, List, sym, ◌∙◌, subst, arith, inl, inr}
 use Rattle.std.specs.Prelude.{All}
-use Rattle.std.proofs.lemmas.Bool.{or_left, or_right, or_cases, and_parts, and_from, cases_order, le-leb, leb-true, false_from_ne_true}
+use Rattle.std.proofs.lemmas.Bool.{or_left, or_right, or_cases, and_parts, and_from, cases_order, le-leb, leb-true}
 use Rattle.sup_specs.specs.Values.{Bytes}
-use Rattle.sup_specs.specs.Rising.{among, rising}
-use Rattle.sup_specs.proofs.RisingLaws.{rising_same}
+use Rattle.sup_specs.specs.Rising.{among}
 use Rattle.sup_causal.specs.declared.dot.Dot.{Dot}
-use Rattle.sup_causal.specs.Dots.{has, dot_cmp, list_has, IsCounted}
-use Rattle.sup_causal.specs.DotLaws.{dot_total, dot_exact}
+use Rattle.sup_causal.specs.Dots.{has, dot_cmp, IsCounted}
 use Rattle.sup_causal.specs.Cut.{entry, IsVector, IsCloud, IsCanonical, in_parts}
 use Rattle.sup_causal.proofs.CutLemmas.{run_is_one}
 use Rattle.sup_causal.proofs.CutLaws.{cut_canonical}
-use Rattle.sup_causal.proofs.DotLemmas.{among_is}
 use Rattle.sup_tables.specs.declared.row.Row.{Row}
 use Rattle.sup_tables.specs.Rows.{AreInOrder}
 use Rattle.sup_tables.specs.States.{State, HasDotsOf}

@@ -1,14 +1,14 @@
 -- Messages and images: what is read was written so, and what is written so is read.
-use Rattle.std.proofs.Common.{◌≡◌, ◌≤◌, ◌⊎◌, inl, inr, ℕ, Bool, true, false, cond, List, [], ◌∷◌, Option, Some, None, codes, refl, sym, ap, subst, ◌∙◌, arith}
-use Rattle.std.specs.Prelude.{option_and_then, bytes_eq}
-use Rattle.std.proofs.lemmas.Option.{option_and_then_some, same_Some, none-some}
+use Rattle.std.proofs.Common.{◌≡◌, inl, inr, ℕ, [], ◌∷◌, Some, codes, refl, ap, subst, ◌∙◌, arith}
+use Rattle.std.specs.Prelude.{bytes_eq}
+use Rattle.std.proofs.lemmas.Option.{option_and_then_some, same_Some}
 use Rattle.sup_specs.specs.Values.{Bytes}
 use Rattle.sup_specs.specs.declared.limits.TheConstants.{MAX}
-use Rattle.serde_json.specs.Data.{Data, string, object, member, no_members}
+use Rattle.serde_json.specs.Data.{Data, string}
 use Rattle.serde_json.specs.Find.{get}
 use Rattle.sup_wire.specs.declared.version.Version.{Version}
-use Rattle.sup_wire.specs.Drafts.{Parts, Draft, ack, push, delta, image, SaysMessage, SaysImage}
-use Rattle.sup_wire.specs.Forms.{count_value, version_number, value_in, IsFormed, AreEnds, IsCount, IsName}
+use Rattle.sup_wire.specs.Drafts.{Draft, ack, push, delta, image, SaysMessage, SaysImage}
+use Rattle.sup_wire.specs.Forms.{version_number, value_in, IsFormed, IsName}
 use Rattle.sup_wire.specs.Faults.{version_at}
 use Rattle.sup_wire.specs.FieldReads.{has_just, name_in, within_in, ends_at, kind_at}
 use Rattle.sup_wire.specs.DraftReads.{parts_at, ack_fields, ack_at, push_fields, push_at, delta_fields, delta_at, image_fields, opening_at, image_at, message_from, message_at, image_from, stored_at}

@@ -1,8 +1,8 @@
 -- Arrays of two, and of four.
-use Rattle.std.proofs.Common.{◌≡◌, ◌≢◌, ℕ, ◌<◌, ◌≤◌, ◌⊎◌, inl, inr, List, [], ◌∷◌, length, get_or, Some, None, refl, sym, ap, ap₂, arith}
+use Rattle.std.proofs.Common.{◌≡◌, ◌≢◌, List, [], ◌∷◌, length, get_or, Some, None, refl, sym, ap₂, arith}
 use Rattle.serde_json.specs.View.{view, items_view}
 use Rattle.serde_json.specs.declared.value.Value.{Value}
-use Rattle.sup_wire.specs.RowReads.{Four, two_in, four_in}
+use Rattle.sup_wire.specs.RowReads.{two_in, four_in}
 
 pub two_none : (vs : List Value) → length vs ≢ 2 → two_in (items_view vs) ≡ None
 two_none [] h = refl

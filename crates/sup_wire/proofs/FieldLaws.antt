@@ -1,18 +1,17 @@
 -- Fields: what is read was written so, and what is written so is read.
-use Rattle.std.proofs.Common.{◌≡◌, ◌≢◌, ◌≤◌, ◌⊎◌, inl, inr, ℕ, Bool, true, false, ◌&&◌, cond, List, [], ◌∷◌, Option, Some, None, codes, refl, sym, ap, ap₂, subst, ◌∙◌, arith}
-use Rattle.std.specs.Prelude.{option_and_then, option_map, map, bytes_eq, nat_le}
+use Rattle.std.proofs.Common.{◌≡◌, ◌≢◌, ◌≤◌, ◌⊎◌, inl, inr, ℕ, Bool, true, false, ◌&&◌, cond, List, [], ◌∷◌, Option, Some, None, codes, refl, sym, ap, ap₂, subst, ◌∙◌}
+use Rattle.std.specs.Prelude.{option_and_then, bytes_eq, nat_le}
 use Rattle.std.proofs.lemmas.Option.{option_and_then_some, same_Some, none-some}
 use Rattle.std.proofs.lemmas.Slice.Eq.{bytes_eq-Decides}
 use Rattle.sup_specs.specs.Values.{Bytes}
-use Rattle.sup_specs.specs.declared.limits.TheConstants.{MAX}
-use Rattle.serde_json.specs.Data.{Data, null, boolean, number, unsigned, negative, float, string, array, object, Items, no_items, item, Members, no_members, member}
+use Rattle.serde_json.specs.Data.{Data, null, boolean, number, unsigned, negative, float, string, array, object, Members, no_members, member}
 use Rattle.serde_json.specs.Find.{get, as_str}
 use Rattle.sup_specs.specs.Texts.{IsText, text_fault}
 use Rattle.sup_specs.specs.declared.texts.Alphabet.TheVariants.{NodeBytes, Visible}
 use Rattle.std.proofs.lemmas.Bool.{and_parts, leb-true, le-leb, false≢true}
 use Rattle.sup_specs.specs.declared.texts.TextFault.{TextFault}
 use Rattle.sup_specs.proofs.TextLemmas.{text_from_no_fault, no_fault_from_text}
-use Rattle.sup_wire.specs.Forms.{count_value, IsName, IsCount, AreEnds}
+use Rattle.sup_wire.specs.Forms.{count_value, IsName, AreEnds}
 use Rattle.sup_wire.specs.Faults.{version_at}
 use Rattle.sup_wire.specs.FieldReads.{are_keys, has_just, unfaulted, name_at, text_at, number_at, within_at, name_in, within_in, text_in, ends_at, kind_at}
 

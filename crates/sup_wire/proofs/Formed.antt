@@ -1,5 +1,5 @@
 -- What is written of a whole state has all fields in their forms, and its value reads back.
-use Rattle.std.proofs.Common.{◌≡◌, ℕ, ◌+◌, ◌<◌, ◌≤◌, ◌^◌, true, List, [], ◌∷◌, length, get_or, map, max, refl, sym, subst, lit<, lit≤, arith}
+use Rattle.std.proofs.Common.{◌≡◌, ℕ, ◌+◌, ◌<◌, ◌≤◌, true, List, [], ◌∷◌, length, get_or, refl, sym, subst, lit<, lit≤, arith}
 use Rattle.std.specs.List.{AllByRecursion}
 use Rattle.std.proofs.lemmas.List.Elements.{recursion_from_All}
 use Rattle.sup_specs.specs.Values.{Bytes}
@@ -13,10 +13,9 @@ use Rattle.sup_tables.specs.declared.row.Entry.{Entry}
 use Rattle.sup_tables.specs.declared.row.Entry.TheVariants.{Member, Child, Name}
 use Rattle.sup_tables.specs.declared.row.Row.{Row}
 use Rattle.sup_tables.specs.States.{State}
-use Rattle.serde_json.specs.Data.{depth}
 use Rattle.sup_wire.specs.declared.version.Version.{Version}
 use Rattle.sup_wire.specs.declared.version.Version.TheVariants.{One}
-use Rattle.sup_wire.specs.Drafts.{Parts, Draft, ack, push, delta, image, IsCut, IsWhole}
+use Rattle.sup_wire.specs.Drafts.{Parts, ack, push, delta, image, IsCut, IsWhole}
 use Rattle.sup_wire.specs.Forms.{IsName, IsCount, IsDot, IsNote, IsShutdown, IsEntry, IsRow, IsWritten, AreWritten, AreParts, value_in}
 use Rattle.sup_wire.specs.Writing.{ReadsBack}
 use Rattle.sup_wire.proofs.Cuts.{cut_sound}

@@ -1,21 +1,19 @@
 -- Dots, and lists of what is read: what is read was written so, and what is written so is read.
-use Rattle.std.proofs.Common.{◌≡◌, ◌≢◌, ◌≤◌, ◌⊎◌, inl, inr, ℕ, Bool, true, false, ◌&&◌, cond, List, [], ◌∷◌, Option, Some, None, codes, refl, sym, ap, ap₂, subst, ◌∙◌, arith}
-use Rattle.std.specs.Prelude.{option_and_then, option_map, map, bytes_eq, nat_le}
+use Rattle.std.proofs.Common.{◌≡◌, ℕ, List, [], ◌∷◌, Option, Some, None, refl, ap, ap₂, subst, ◌∙◌}
+use Rattle.std.specs.Prelude.{option_map, map}
 use Rattle.std.proofs.lemmas.Option.{option_and_then_some, same_Some, none-some}
-use Rattle.std.proofs.lemmas.Slice.Eq.{bytes_eq-Decides}
 use Rattle.sup_specs.specs.Values.{Bytes}
 use Rattle.sup_specs.specs.declared.limits.TheConstants.{MAX}
-use Rattle.serde_json.specs.Data.{Data, null, boolean, number, unsigned, negative, float, string, array, object, Items, no_items, item, Members, no_members, member}
-use Rattle.serde_json.specs.Find.{get, as_str}
-use Rattle.sup_specs.specs.Texts.{IsText, text_fault}
-use Rattle.sup_specs.specs.declared.texts.Alphabet.TheVariants.{NodeBytes, Visible}
+use Rattle.serde_json.specs.Data.{Data, null, boolean, number, string, array, object, Items, no_items, item, Members, no_members, member}
+use Rattle.sup_specs.specs.Texts.{text_fault}
+use Rattle.sup_specs.specs.declared.texts.Alphabet.TheVariants.{NodeBytes}
 use Rattle.std.specs.List.{AllByRecursion}
 use Rattle.serde_json.specs.Find.{as_array, as_object}
 use Rattle.serde_json.specs.View.{items_of}
 use Rattle.sup_causal.specs.declared.dot.Dot.{Dot}
 use Rattle.sup_specs.proofs.TextLemmas.{text_from_no_fault, no_fault_from_text}
-use Rattle.sup_wire.specs.Forms.{count_value, dot_value, vector_members, IsName, IsCount, IsDot, IsNote}
-use Rattle.sup_wire.specs.FieldReads.{unfaulted, name_at, count_at, within_at}
+use Rattle.sup_wire.specs.Forms.{count_value, dot_value, vector_members, IsName, IsDot, IsNote}
+use Rattle.sup_wire.specs.FieldReads.{unfaulted, name_at, count_at}
 use Rattle.sup_wire.specs.RowReads.{two_in, two_at, dot_at, each_in}
 use Rattle.sup_wire.specs.DraftReads.{dots_at, name_from, note_from, notes_in}
 use Rattle.sup_wire.proofs.FieldLaws.{unfaulted-some, name_takes, name_again, within_takes, within_again}

@@ -1,5 +1,5 @@
 -- A state is cut in one way, so a message or an image is written as one text.
-use Rattle.std.proofs.Common.{◌≡◌, ℕ, ◌≤◌, Bool, true, false, cond, List, [], ◌∷◌, Some, None, Option, Ordering, Less, Equal, Greater, is_eq, refl, sym, ap, ap₂, ◌∙◌, subst, arith}
+use Rattle.std.proofs.Common.{◌≡◌, ℕ, ◌≤◌, Bool, cond, List, [], ◌∷◌, Some, Ordering, Less, Equal, Greater, is_eq, refl, sym, ap, ap₂, ◌∙◌, arith}
 use Rattle.std.specs.Prelude.{unwrap_or}
 use Rattle.std.specs.List.{AllByRecursion}
 use Rattle.std.specs.Map.{keys_of, lookup}
@@ -13,7 +13,7 @@ use Rattle.sup_specs.proofs.RisingLaws.{rising_same}
 use Rattle.sup_causal.specs.declared.dot.Dot.{Dot}
 use Rattle.sup_causal.specs.Dots.{has, dot_cmp}
 use Rattle.sup_causal.specs.DotLaws.{dot_total, dot_exact}
-use Rattle.sup_causal.specs.Cut.{entry, IsVector, IsCloud}
+use Rattle.sup_causal.specs.Cut.{entry, IsCloud}
 use Rattle.sup_causal.proofs.CutLemmas.{run_is_one}
 use Rattle.sup_tables.specs.States.{State}
 use Rattle.sup_tables.proofs.OperationLaws.{both_ways}

@@ -1,12 +1,10 @@
 -- Contexts and tables: what is read was written so, and what is written so is read.
-use Rattle.std.proofs.Common.{◌≡◌, ◌≢◌, ◌≤◌, ◌⊎◌, inl, inr, ℕ, Bool, true, false, ◌&&◌, cond, List, [], ◌∷◌, Option, Some, None, codes, refl, sym, ap, ap₂, subst, ◌∙◌, arith}
-use Rattle.std.specs.Prelude.{option_and_then, option_map, map, bytes_eq, nat_le}
-use Rattle.std.proofs.lemmas.Option.{option_and_then_some, same_Some, none-some}
-use Rattle.std.proofs.lemmas.Slice.Eq.{bytes_eq-Decides}
+use Rattle.std.proofs.Common.{◌≡◌, ℕ, List, [], ◌∷◌, Some, codes, sym, ap, ap₂, subst, ◌∙◌}
+use Rattle.std.specs.Prelude.{option_and_then}
+use Rattle.std.proofs.lemmas.Option.{option_and_then_some, same_Some}
 use Rattle.sup_specs.specs.Values.{Bytes}
-use Rattle.sup_specs.specs.declared.limits.TheConstants.{MAX}
-use Rattle.serde_json.specs.Data.{Data, null, boolean, number, unsigned, negative, float, string, array, object, Items, no_items, item, Members, no_members, member}
-use Rattle.serde_json.specs.Find.{get, as_str}
+use Rattle.serde_json.specs.Data.{Data, object, no_members, member}
+use Rattle.serde_json.specs.Find.{get}
 use Rattle.std.specs.List.{AllByRecursion}
 use Rattle.serde_json.specs.Find.{as_object}
 use Rattle.sup_causal.specs.declared.dot.Dot.{Dot}

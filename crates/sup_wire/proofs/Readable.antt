@@ -1,5 +1,5 @@
 -- The value of each draft reads back.
-use Rattle.std.proofs.Common.{◌≡◌, ℕ, ◌<◌, ◌≤◌, ◌^◌, max, List, [], ◌∷◌, map, Less, refl, lit<, lit≤, arith}
+use Rattle.std.proofs.Common.{◌≡◌, ℕ, ◌<◌, ◌≤◌, ◌^◌, max, List, [], ◌∷◌, map, Less, refl, lit≤, arith}
 use Rattle.std.specs.List.{AllByRecursion}
 use Rattle.std.specs.Map.{keys_of}
 use Rattle.sup_specs.specs.Values.{Bytes, text_cmp}
@@ -13,15 +13,13 @@ use Rattle.sup_causal.specs.declared.dot.Dot.{Dot}
 use Rattle.sup_tables.specs.declared.row.Entry.{Entry}
 use Rattle.sup_tables.specs.declared.row.Entry.TheVariants.{Member, Child, Name}
 use Rattle.sup_tables.specs.declared.row.Row.{Row}
-use Rattle.serde_json.specs.Data.{Data, array, object, depth, items_depth, members_depth}
-use Rattle.serde_json.specs.Read.{max_depth}
+use Rattle.serde_json.specs.Data.{Data, depth, items_depth, members_depth}
 use Rattle.serde_json.specs.View.{items_of}
 use Rattle.sup_wire.specs.declared.version.Version.{Version}
 use Rattle.sup_wire.specs.declared.version.Version.TheVariants.{One}
-use Rattle.sup_wire.specs.Drafts.{Parts, Draft, ack, push, delta, image}
-use Rattle.sup_wire.specs.Forms.{count_value, dot_value, vector_members, context_value, restart_value, shutdown_value, spec_value, entry_value, row_value, rows_value, value_in}
-use Rattle.sup_wire.specs.Writing.{ReadsBack}
-use Rattle.sup_wire.proofs.ReadBack.{AllAbove, IsReadable, AreReadable, AreMembers, readable_back}
+use Rattle.sup_wire.specs.Drafts.{Parts}
+use Rattle.sup_wire.specs.Forms.{dot_value, vector_members, context_value, restart_value, shutdown_value, spec_value, entry_value, row_value, rows_value}
+use Rattle.sup_wire.proofs.ReadBack.{AllAbove, IsReadable, AreReadable, AreMembers}
 
 -- numbers that fit 64 bits
 abbrev pub Fits : ℕ → Type 0

@@ -1,23 +1,19 @@
 -- Rows: what is read was written so, and what is written so is read.
-use Rattle.std.proofs.Common.{◌≡◌, ◌≢◌, ◌≤◌, ◌⊎◌, inl, inr, ℕ, Bool, true, false, ◌&&◌, cond, List, [], ◌∷◌, Option, Some, None, codes, refl, sym, ap, ap₂, subst, ◌∙◌, arith}
-use Rattle.std.specs.Prelude.{option_and_then, option_map, map, bytes_eq, nat_le}
+use Rattle.std.proofs.Common.{◌≡◌, inl, inr, List, Some, codes, refl, sym, ap, ap₂, subst, ◌∙◌}
+use Rattle.std.specs.Prelude.{bytes_eq}
 use Rattle.std.proofs.lemmas.Option.{option_and_then_some, same_Some, none-some}
-use Rattle.std.proofs.lemmas.Slice.Eq.{bytes_eq-Decides}
 use Rattle.sup_specs.specs.Values.{Bytes}
-use Rattle.sup_specs.specs.declared.limits.TheConstants.{MAX}
-use Rattle.serde_json.specs.Data.{Data, null, boolean, number, unsigned, negative, float, string, array, object, Items, no_items, item, Members, no_members, member}
-use Rattle.serde_json.specs.Find.{get, as_str}
-use Rattle.sup_specs.specs.Texts.{IsText, text_fault}
-use Rattle.sup_specs.specs.declared.texts.Alphabet.TheVariants.{NodeBytes, Visible}
+use Rattle.serde_json.specs.Data.{Data, string, array, Items, no_items, item}
+use Rattle.serde_json.specs.Find.{as_str}
 use Rattle.std.specs.List.{AllByRecursion}
 use Rattle.sup_tables.specs.declared.row.Entry.{Entry}
 use Rattle.sup_tables.specs.declared.row.Entry.TheVariants.{Member, Child, Name}
 use Rattle.sup_tables.specs.declared.row.Row.{Row}
 use Rattle.serde_json.specs.Find.{as_array}
 use Rattle.sup_wire.specs.declared.version.Version.{Version}
-use Rattle.sup_wire.specs.Forms.{dot_value, IsDot, spec_value, IsSpec, info_value, entry_value, IsEntry, row_value, IsRow, rows_value}
+use Rattle.sup_wire.specs.Forms.{dot_value, spec_value, info_value, entry_value, IsEntry, row_value, IsRow, rows_value}
 use Rattle.sup_wire.specs.FieldReads.{name_at, text_at}
-use Rattle.sup_wire.specs.RowReads.{Four, four_in, four_at, dot_at, each_in, spec_at, info_at, member_at, child_at, registered_at, entry_at, row_at, rows_at}
+use Rattle.sup_wire.specs.RowReads.{Four, four_in, four_at, dot_at, spec_at, info_at, member_at, child_at, registered_at, entry_at, row_at, rows_at}
 use Rattle.sup_wire.proofs.FieldLaws.{as_str-string, name_takes, name_again, text_takes, text_again, chosen, when, same}
 use Rattle.sup_wire.proofs.ListLaws.{as_array-array, dot_takes, dot_again, each_takes, each_again}
 use Rattle.sup_wire.proofs.ChildLaws.{spec_takes, spec_again, info_takes, info_again}

@@ -1,15 +1,12 @@
 -- What the writers of whole messages and images give.
-use Rattle.std.proofs.Common.{◌≡◌, ◌≢◌, ℕ, ◌<◌, ◌≤◌, ◌^◌, Result, Ok, Err, refl}
+use Rattle.std.proofs.Common.{◌≢◌, ℕ, ◌<◌, ◌^◌, Result, Ok, Err, refl}
 use Rattle.std.specs.Prelude.{OnOk}
 use Rattle.sup_specs.specs.Values.{Bytes}
-use Rattle.sup_specs.specs.declared.limits.TheConstants.{MAX}
 use Rattle.json.specs.Written.{Written}
 use Rattle.sup_tables.specs.States.{State}
 use Rattle.sup_wire.specs.declared.version.Version.{Version}
-use Rattle.sup_wire.specs.declared.message.Message.{Message}
 use Rattle.sup_wire.specs.declared.message.Message.TheVariants.{Ack, Push, Delta}
-use Rattle.sup_wire.specs.declared.image.Image.{Image}
-use Rattle.sup_wire.specs.Drafts.{Parts, Draft, ack, push, delta, image, IsCut, IsWhole, IsDraftOf, IsDraftOfImage}
+use Rattle.sup_wire.specs.Drafts.{Parts, ack, push, delta, image, IsCut, IsWhole, IsDraftOf, IsDraftOfImage}
 use Rattle.sup_wire.specs.Faults.{IsInRange, IsImageInRange}
 use Rattle.sup_wire.specs.Forms.{IsName, AreWritten, AreEnds, value_in}
 use Rattle.sup_wire.specs.Writing.{Adds, WritesDraft, tokens_of}

@@ -1,6 +1,6 @@
 -- What a text says of a message or an image, before its tables are known to be canonical; and the cut of a state (Almeida, Shoker, Baquero
 -- 2018: version vector and dot cloud) by which its context is written. The rest is this project's.
-use Rattle.std.specs.Prelude.{◌≡◌, ℕ, true, ◌≢◌, List, All}
+use Rattle.std.specs.Prelude.{◌≡◌, ℕ, true, List, All}
 use Rattle.sup_specs.specs.Values.{Bytes}
 use Rattle.sup_causal.specs.declared.dot.Dot.{Dot}
 use Rattle.sup_causal.specs.Dots.{has, IsCounted}

@@ -1,11 +1,11 @@
 -- What the fields of a JSON value are read as (this project). For private clauses.
-use Rattle.std.specs.Prelude.{ℕ, Bool, true, false, ◌&&◌, List, [], ◌∷◌, ◌++◌, Option, Some, None, option_map, option_and_then, Result, Ok, Err, codes, bytes_eq, nat_le, if◌then◌else◌, ◌≡◌}
+use Rattle.std.specs.Prelude.{ℕ, Bool, true, false, ◌&&◌, List, [], ◌∷◌, Option, Some, None, option_and_then, Result, Ok, Err, codes, bytes_eq, nat_le, if◌then◌else◌, ◌≡◌}
 use Rattle.sup_specs.specs.Values.{Bytes}
 use Rattle.sup_specs.specs.Texts.{text_fault}
 use Rattle.sup_specs.specs.declared.limits.TheConstants.{MAX}
 use Rattle.sup_specs.specs.declared.texts.Alphabet.TheVariants.{NodeBytes, Visible}
 use Rattle.sup_specs.specs.declared.texts.TextFault.{TextFault}
-use Rattle.serde_json.specs.Data.{Data, null, boolean, number, string, array, object, Items, no_items, item, Members, no_members, member}
+use Rattle.serde_json.specs.Data.{Data, null, boolean, number, string, array, object, Members, no_members, member}
 use Rattle.serde_json.specs.Find.{get, as_number, as_u64, as_str}
 use Rattle.sup_wire.specs.declared.fault.WireFault.{WireFault}
 use Rattle.sup_wire.specs.declared.fault.WireFault.TheVariants.{NotJson, NotMessage, BadVersion, NotCanonical, OutOfMemory}

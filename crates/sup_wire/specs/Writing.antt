@@ -1,5 +1,5 @@
 -- What is appended to a text (this project). For private clauses.
-use Rattle.std.specs.Prelude.{◌≡◌, ◌≤◌, ℕ, Some, List, [], ◌∷◌, map, ◌++◌}
+use Rattle.std.specs.Prelude.{◌≡◌, ◌≤◌, Some, List, ◌∷◌, map, ◌++◌}
 use Rattle.sup_specs.specs.Values.{Bytes}
 use Rattle.json.specs.Token.{Token}
 use Rattle.json.specs.Tree.{json_tokens}

@@ -3,7 +3,7 @@ use Rattle.sup_wire.specs.Drafts.{IsDraftOf, IsWholeMessage, SaysMessage}
 use Rattle.sup_wire.specs.DraftReads.{message_at}
 use Rattle.sup_wire.proofs.DraftLaws.{message_takes, message_again, version_again}
 use Rattle.sup_wire.proofs.DraftsOf.{message_kind, message_sound, one_message}
-use Rattle.sup_wire.proofs.Promises.{decode_ok, decode_whole, decode_fault, decode_only}
+use Rattle.sup_wire.proofs.Promises.{decode_ok, decode_fault, decode_only}
 use Rattle.sup_wire.proofs.codec.decode.Goals as goal
 
 pub returns-clause-ok : goal.returns-clause-ok

@@ -3,7 +3,7 @@ use Rattle.sup_wire.specs.Drafts.{IsDraftOfImage, IsWholeImage, SaysImage}
 use Rattle.sup_wire.specs.DraftReads.{stored_at}
 use Rattle.sup_wire.proofs.DraftLaws.{stored_takes, stored_again, version_again}
 use Rattle.sup_wire.proofs.DraftsOf.{image_kind, image_sound, one_image}
-use Rattle.sup_wire.proofs.Promises.{decode_ok, decode_whole, decode_fault, decode_only}
+use Rattle.sup_wire.proofs.Promises.{decode_ok, decode_fault, decode_only}
 use Rattle.sup_wire.proofs.codec.decode_image.Goals as goal
 
 pub returns-clause-ok : goal.returns-clause-ok

@@ -1,4 +1,4 @@
-use Rattle.std.proofs.Common.{codes, [], ◌∷◌, ap}
+use Rattle.std.proofs.Common.{codes, [], ◌∷◌}
 use Rattle.std.proofs.lemmas.Result.{on_ok_weaker}
 use Rattle.json.specs.Token.{begin_object, end_object, key}
 use Rattle.serde_json.specs.Data.{object}

@@ -1,8 +1,8 @@
 use Rattle.std.proofs.Common.{codes, [], ◌∷◌, ◌++◌}
 use Rattle.std.proofs.lemmas.Result.{on_ok_weaker}
-use Rattle.json.specs.Token.{begin_object, end_object, key}
+use Rattle.json.specs.Token.{begin_object, key}
 use Rattle.serde_json.specs.Data.{string}
-use Rattle.sup_wire.specs.Forms.{context_value, rows_value, count_value, version_value}
+use Rattle.sup_wire.specs.Forms.{context_value, rows_value, count_value}
 use Rattle.sup_wire.specs.Writing.{Adds, tokens_of, field_tokens, parts_lent}
 use Rattle.sup_wire.proofs.Adding.{adds_one, adds_then}
 use Rattle.sup_wire.proofs.writing.messages.write_delta.Goals as goal
