@@ -1,0 +1,17 @@
+pub mod Keys
+pub mod Few
+pub mod Adding
+pub mod ReadBack
+pub mod Readable
+pub mod Cuts
+pub mod FieldLaws
+pub mod ListLaws
+pub mod ChildLaws
+pub mod RowLaws
+pub mod PartLaws
+pub mod DraftLaws
+pub mod DraftsOf
+pub mod OneCut
+pub mod Formed
+pub mod Written
+pub mod Promises

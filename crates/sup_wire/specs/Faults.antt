@@ -1,0 +1,73 @@
+-- What a text says, and which fault it has (this project).
+use Rattle.std.specs.Prelude.{◌≡◌, ◌≢◌, ◌⊎◌, ◌++◌, ℕ, ◌≤◌, Option, Some, None, option_and_then, Result, Ok, Err, codes}
+use Rattle.std.specs.Str.{IsUtf8}
+use Rattle.sup_specs.specs.Values.{Bytes}
+use Rattle.sup_specs.specs.declared.limits.TheConstants.{MAX}
+use Rattle.serde_json.specs.Data.{Data}
+use Rattle.serde_json.specs.Find.{get, as_number, as_u64}
+use Rattle.serde_json.specs.Read.{read}
+use Rattle.serde_json.specs.Written.{compact_text}
+use Rattle.sup_wire.specs.declared.fault.WireFault.{WireFault}
+use Rattle.sup_wire.specs.declared.fault.WireFault.TheVariants.{NotJson, NotMessage, BadVersion, NotCanonical, OutOfMemory}
+use Rattle.sup_wire.specs.declared.message.Message.{Message}
+use Rattle.sup_wire.specs.declared.message.Message.TheVariants.{Ack, Push, Delta}
+use Rattle.sup_wire.specs.declared.image.Image.{Image}
+use Rattle.sup_wire.specs.Drafts.{Draft, IsSound}
+use Rattle.sup_wire.specs.Forms.{value_of, IsFormed, IsCount}
+
+-- the text is the JSON value
+pub record IsJson (text : Bytes) (d : Data) : Type 0 where
+  pub utf8 : IsUtf8 text
+  pub value : read text ≡ Some d
+
+-- the text is the value of x, whose draft this is, and each field is what it may be
+pub record Says {M : Type 0} (IsDraft : M → Draft → Type 0) (text : Bytes) (x : M) : Type 0 where
+  pub draft : Draft
+  pub same : IsDraft x draft
+  pub formed : IsFormed draft
+  pub json : IsJson text (value_of draft)
+
+-- the text is the compact one of the value of x, and is read as that value; where x is in its range, each field is what it may be
+pub record IsTextOf {M : Type 0} (IsDraft : M → Draft → Type 0) (InRange : M → Type 0) (text : Bytes) (x : M) : Type 0 where
+  pub draft : Draft
+  pub same : IsDraft x draft
+  pub compact : text ≡ compact_text (value_of draft)
+  pub json : IsJson text (value_of draft)
+  pub formed : InRange x → IsFormed draft
+
+-- the same behind a front
+pub record IsTextAfter {M : Type 0} (IsDraft : M → Draft → Type 0) (InRange : M → Type 0) (front all : Bytes) (x : M) : Type 0 where
+  pub text : Bytes
+  pub parts : all ≡ front ++ text
+  pub is : IsTextOf IsDraft InRange text x
+
+-- the number that a value has as its version
+abbrev pub version_at : Data → Option ℕ
+version_at d = option_and_then (λ v. option_and_then as_u64 (as_number v)) (get (codes "v") d)
+
+-- the value says no version, or version 1 and is of no message (or image) with all fields in their forms
+abbrev pub IsMisformed : (Draft → Type 0) → Data → Type 0
+IsMisformed Kind d = (version_at d ≡ None) ⊎ ((version_at d ≡ Some 1) × ((draft : Draft) → Kind draft → IsFormed draft → d ≢ value_of draft))
+
+-- why a text is no message (or no image), first fault first; no memory may stand in place of any answer
+abbrev pub IsFault : (Draft → Type 0) → Bytes → WireFault → Type 0
+IsFault Kind text NotJson = (d : Data) → ¬ IsJson text d
+IsFault Kind text NotMessage = (d : Data) × IsJson text d × IsMisformed Kind d
+IsFault Kind text BadVersion = (d : Data) × IsJson text d × ((n : ℕ) × (version_at d ≡ Some n) × (n ≢ 1))
+IsFault Kind text NotCanonical = (draft : Draft) × IsJson text (value_of draft) × Kind draft × IsFormed draft × ¬ IsSound draft
+IsFault Kind text OutOfMemory = Unit {0}
+
+-- the answer is this, or that memory was refused
+abbrev pub IsOrMemory : {T : Type 0} → T → Result T WireFault → Type 0
+IsOrMemory x (Ok y) = y ≡ x
+IsOrMemory x (Err e) = e ≡ OutOfMemory
+
+-- sender and receiver differ, and the number is in its range; all else holds of each message
+abbrev pub IsInRange : Message → Type 0
+IsInRange (Ack from to n) = (from ≢ to) × IsCount n
+IsInRange (Push from to state) = from ≢ to
+IsInRange (Delta from to n state) = (from ≢ to) × IsCount n
+
+-- the same of an image
+abbrev pub IsImageInRange : Image → Type 0
+IsImageInRange i = IsCount i.boot × (i.count ≤ MAX)

@@ -1,0 +1,52 @@
+-- What is appended to a text (this project). For private clauses.
+use Rattle.std.specs.Prelude.{◌≡◌, ◌≤◌, Some, List, ◌∷◌, map, ◌++◌}
+use Rattle.sup_specs.specs.Values.{Bytes}
+use Rattle.json.specs.Token.{Token}
+use Rattle.json.specs.Tree.{json_tokens}
+use Rattle.json.specs.Written.{Written}
+use Rattle.json.specs.Tree as tree
+use Rattle.serde_json.specs.Data.{Data, array, depth}
+use Rattle.serde_json.specs.View.{items_of}
+use Rattle.serde_json.specs.Written.{outline, blank}
+use Rattle.serde_json.specs.Read.{of_json, max_depth}
+use Rattle.sup_tables.specs.Lent.{rows_lent}
+use Rattle.sup_wire.specs.declared.writing.lending.LentParts.{LentParts}
+use Rattle.sup_wire.specs.declared.version.Version.{Version}
+use Rattle.sup_wire.specs.Drafts.{Parts, Draft}
+use Rattle.sup_wire.specs.Forms.{value_in, IsFormed}
+
+-- an array, an item for each element
+abbrev pub array_of : {X : Type 0} → (X → Data) → List X → Data
+array_of f xs = array (items_of (map f xs))
+
+-- the tokens of a value
+abbrev pub tokens_of : Data → List Token
+tokens_of d = json_tokens (outline d)
+
+-- a key, and the tokens of its value
+abbrev pub field_tokens : Bytes → Data → List Token
+field_tokens name d = Token.key name ∷ tokens_of d
+
+-- these tokens are appended
+pub record Adds (old new : Written) (ts : List Token) : Type 0 where
+  pub before : new.before ≡ old.before
+  pub tokens : new.tokens ≡ old.tokens ++ ts
+
+-- what stands behind the references
+abbrev pub parts_lent : LentParts → Parts
+parts_lent p = record { vector = p.vector.items; cloud = p.cloud.items; rows = rows_lent p.rows.items }
+
+-- what a value needs so that its text reads back
+pub record ReadsBack (d : Data) : Type 0 where
+  pub value : of_json (outline d) ≡ Some d
+  pub nests : tree.depth (outline d) ≤ depth d
+  pub whole : blank (outline d) ≡ outline d
+  pub shallow : depth d ≤ max_depth
+
+-- a draft of x is appended, and its value reads back; where x is in its range, each of its fields is what it may be
+pub record WritesDraft {M : Type 0} (IsDraft : M → Draft → Type 0) (InRange : M → Type 0) (v : Version) (old new : Written) (x : M) : Type 0 where
+  pub draft : Draft
+  pub same : IsDraft x draft
+  pub adds : Adds old new (tokens_of (value_in v draft))
+  pub back : ReadsBack (value_in v draft)
+  pub formed : InRange x → IsFormed draft

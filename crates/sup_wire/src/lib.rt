@@ -1,0 +1,16 @@
+//! Messages and images as exact JSON texts.
+#![tactic(auto)]
+
+pub mod codec;
+pub mod fault;
+pub mod image;
+pub mod laws;
+pub mod message;
+mod reading;
+pub mod version;
+mod writing;
+
+pub use codec::{decode, decode_image, encode, encode_after, encode_image, encode_image_after};
+pub use fault::WireFault;
+pub use image::Image;
+pub use message::Message;

@@ -1,0 +1,103 @@
+//! Fields, and what children and members are.
+ghost use Rattle.std.specs.Prelude.{◌≡◌, OnOk, codes};
+ghost use Rattle.serde_json.specs.Data.{string};
+ghost use Rattle.sup_specs.specs.Texts.{IsText};
+ghost use Rattle.sup_specs.specs.declared.texts.Alphabet.TheVariants.{Visible};
+ghost use Rattle.sup_wire.specs.Forms.{count_value, version_value, restart_value, shutdown_value, spec_value, info_value, IsShutdown, IsSpec};
+ghost use Rattle.sup_wire.specs.Writing.{Adds, tokens_of, field_tokens};
+
+use crate::version::Version;
+use json::Writer;
+use std::alloc::AllocError;
+use sup_specs::{ChildSpec, MemberInfo, Restart, Shutdown};
+
+// A field with a text.
+pub(crate) fn text_field(out: &mut Writer, name: &str, text: &str) -> Result<(), AllocError>
+    ensures { OnOk result (Adds out.old out.new (field_tokens name.now (string text.now))) }
+{
+    out.key(name)?;
+    out.string(text)
+}
+
+// A field with a number.
+pub(crate) fn number_field(out: &mut Writer, name: &str, n: u64) -> Result<(), AllocError>
+    ensures { OnOk result (Adds out.old out.new (field_tokens name.now (count_value n))) }
+{
+    out.key(name)?;
+    out.u64(n)
+}
+
+fn write_restart(out: &mut Writer, restart: Restart) -> Result<(), AllocError>
+    ensures { OnOk result (Adds out.old out.new (tokens_of (restart_value restart))) }
+{
+    out.string(match restart {
+        Restart::Permanent => "permanent",
+        Restart::Transient => "transient",
+        Restart::Temporary => "temporary",
+    })
+}
+
+fn write_shutdown(out: &mut Writer, shutdown: Shutdown) -> Result<(), AllocError>
+    ensures formed { IsShutdown shutdown }
+    ensures adds { OnOk result (Adds out.old out.new (tokens_of (shutdown_value shutdown))) }
+{
+    match shutdown {
+        Shutdown::Brutal => out.string("brutal_kill"),
+        Shutdown::Millis(millis) => out.u64(u64::from(millis)),
+        Shutdown::Infinity => out.string("infinity"),
+    }
+}
+
+fn restart_field(out: &mut Writer, restart: Restart) -> Result<(), AllocError>
+    ensures { OnOk result (Adds out.old out.new (field_tokens (codes "restart") (restart_value restart))) }
+{
+    out.key("restart")?;
+    write_restart(out, restart)
+}
+
+#[tactic(auto, using(crate::proofs::Adding::adds_field))]
+fn shutdown_field(out: &mut Writer, shutdown: Shutdown) -> Result<(), AllocError>
+    ensures formed { OnOk result (IsShutdown shutdown) }
+    ensures adds { OnOk result (Adds out.old out.new (field_tokens (codes "shutdown") (shutdown_value shutdown))) }
+{
+    out.key("shutdown")?;
+    write_shutdown(out, shutdown)
+}
+
+// The field of the version.
+pub(crate) fn version_field(out: &mut Writer, version: Version) -> Result<(), AllocError>
+    ensures { OnOk result (Adds out.old out.new (field_tokens (codes "v") (version_value version))) }
+{
+    number_field(out, "v", version.number())
+}
+
+// What a child is.
+pub(crate) fn write_spec(out: &mut Writer, spec: &ChildSpec) -> Result<(), AllocError>
+    ensures formed { OnOk result (IsSpec spec.now) }
+    ensures adds { OnOk result (Adds out.old out.new (tokens_of (spec_value spec.now))) }
+{
+    out.begin_object()?;
+    text_field(out, "arg", spec.arg.as_str())?;
+    text_field(out, "kind", spec.kind.as_str())?;
+    restart_field(out, spec.restart)?;
+    shutdown_field(out, spec.shutdown)?;
+    out.end_object()
+}
+
+// What is said of a member.
+pub(crate) fn write_info(
+    out: &mut Writer,
+    version: Version,
+    info: &MemberInfo,
+) -> Result<(), AllocError>
+    ensures formed { OnOk result (IsText Visible 0 1024 info.now.label) }
+    ensures adds { OnOk result (Adds out.old out.new (tokens_of (info_value version info.now))) }
+{
+    match version {
+        Version::One => {
+            out.begin_object()?;
+            text_field(out, "label", info.label.as_str())?;
+            out.end_object()
+        }
+    }
+}
