@@ -1,0 +1,29 @@
+//! Texts that are cut short.
+use crate::given::{ACK, DELTA, IMAGE, OPENING};
+use sup_wire::{decode, decode_image};
+
+#[test]
+fn no_front_of_a_message_is_a_message(rt: HostRuntime) {
+    for text in [ACK, DELTA] {
+        let bytes = text.as_bytes();
+        for end in 0..bytes.len() {
+            assert!(rt;
+                decode(rt.alloc(), &bytes[..end]).is_err(),
+                "{end} of {text}"
+            );
+        }
+    }
+}
+
+#[test]
+fn no_front_of_an_image_is_an_image(rt: HostRuntime) {
+    for text in [OPENING, IMAGE] {
+        let bytes = text.as_bytes();
+        for end in 0..bytes.len() {
+            assert!(rt;
+                decode_image(rt.alloc(), &bytes[..end]).is_err(),
+                "{end} of {text}"
+            );
+        }
+    }
+}
