@@ -1,5 +1,8 @@
 pub mod BegunLaws
 pub mod WindowLaws
-pub mod HeldLaws
 pub mod KeepingLaws
+pub mod OnceLaws
+pub mod HeldLaws
+pub mod CountedLaws
+pub mod ExitLaws
 pub mod KeptLaws

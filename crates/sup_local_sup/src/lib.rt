@@ -3,13 +3,24 @@
 
 pub mod begun;
 pub mod effect;
+pub mod fault;
+mod exits;
+mod keeping;
 pub mod kept;
+pub mod laws;
 pub mod leaving;
+pub mod plan;
+pub mod supervisor;
 pub mod verdict;
 pub mod wanted;
+pub mod window;
 
 pub use effect::{Effect, Effects, Incarnation};
+pub use fault::SupFault;
 pub use kept::Entry;
 pub use leaving::{Leaving, Ruling};
+pub use plan::Plan;
+pub use supervisor::Supervisor;
 pub use verdict::Verdict;
 pub use wanted::Wanted;
+pub use window::Window;
