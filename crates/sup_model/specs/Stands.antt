@@ -1,4 +1,4 @@
--- What a node, an outcome and a letter of the code stand for in the model.
+-- What a node, an outcome and a letter of the code stand for in the model (this project).
 use Rattle.sup_local_sup.specs.Supervising.{Supervisor}
 use Rattle.std.specs.Prelude.{ℕ, ◌≡◌, Bool, List, [], ◌∷◌, Option, Some, None, Result, Ok, Err}
 use Rattle.sup_replica.specs.declared.refusal.Refusal.{Refusal}
