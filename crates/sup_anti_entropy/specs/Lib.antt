@@ -2,3 +2,4 @@ pub mod Joins
 pub mod Buffers
 pub mod Peers
 pub mod Settling
+pub mod Promises

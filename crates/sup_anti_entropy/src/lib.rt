@@ -1,5 +1,4 @@
-//! What anti-entropy keeps, over any lattice.
+//! Anti-entropy over any lattice: what nodes that send each other their changes keep. No message is named here.
 #![tactic(auto)]
 
-/// Nothing yet.
-pub fn no_law() {}
+pub mod laws;

@@ -1,5 +1,5 @@
 -- The code's world, over tables, follows the model.
-use Rattle.std.specs.Prelude.{ℕ, ◌≡◌, ◌⊎◌, Bool, true, false, not, List, [], ◌∷◌, ◌++◌, map, Option, Some, None, Result, Ok, Err, refl}
+use Rattle.std.specs.Prelude.{ℕ, ◌≡◌, ◌⊎◌, Bool, true, false, not, List, [], ◌∷◌, ◌++◌, map, Option, Some, None, Result, Ok, Err, refl, IsOk}
 use Rattle.std.proofs.Common.{sym, ap, ◌∙◌, subst}
 use mathlib.Core.Logic.{inl, inr}
 use Rattle.sup_specs.specs.Values.{Bytes}
@@ -20,20 +20,20 @@ use Rattle.sup_replica.specs.ByTables.{by_tables}
 use Rattle.sup_model.specs.TableViews.{table_view}
 use Rattle.sup_model.specs.Posts.{Real, RealAnswer, RealStepped, real_step, real_after, real_new}
 use Rattle.sup_model.specs.Joint.{Joint, real_of, model_of, Holds}
-use Rattle.sup_model.specs.Refines.{Refined, real_answer_of, AnswersAlike}
+use Rattle.sup_model.specs.Refines.{WorldStands, Refined, real_answer_of, AnswersAlike}
 use Rattle.sup_model.specs.Settles.{known_at, Exchanged, Gathered, Spread, Settles}
-use Rattle.sup_model.specs.Follows.{WorldStandsFor, Follows, Makes, StepsFollow, NewStands, Apart, Distinct, AllAlike, Settled, SettlingSettles}
+use Rattle.sup_model.specs.Follows.{WorldStandsFor, Follows, Makes, StepsFollow, NewStands, WorldsStand, RunsFollow, Apart, Distinct, AllAlike, Settled, SettlingSettles}
 use Rattle.sup_model.proofs.TableLaws.{table_laws}
 use Rattle.sup_model.proofs.MailLaws.{Answers}
 use Rattle.sup_model.proofs.StepStands.{Stepping, step_stands}
-use Rattle.sup_model.proofs.RunStands.{refined, new_holds, new_joint, new_real, new_model}
+use Rattle.sup_model.proofs.RunStands.{refined, holds_stands, new_holds, new_joint, new_real, new_model}
 use Rattle.sup_model.proofs.OperationJoins.{operation_joins, covers_alike}
 use Rattle.sup_model.proofs.SettleStands.{settled_alike, all_of}
 use Rattle.sup_model.proofs.ExchangeLaws.{Took, exchange_took}
 
 -- the whole refinement, over tables
-pub tables_refined : (setting : Setting) (room : ℕ) (codec : Codec State) (names : List Bytes) (steps : List Step) → Refined by_tables table_view setting room codec names steps
-tables_refined = refined by_tables table_view table_laws
+pub runs_follow : RunsFollow
+runs_follow = refined by_tables table_view table_laws
 
 follows_at : (j : Joint State) → Holds table_view j → (st : Step) (x : Result (RealStepped State) Refusal) (y : Result Stepped Refusal)
     → y ≡ step (model_of j) st
@@ -51,7 +51,7 @@ follows_at j h st (Err q) (Err p) e a = record {
 follows_at j h st (Ok x) (Err p) e a = absurd a
 follows_at j h st (Err q) (Ok y) e a = record {
   after = model_of j; expected = Err UpToDate; told = a.0;
-  allows = inr (inr (refl, a.1, refl));
+  allows = inr (inr (refl, subst IsOk e refl, a.1, refl));
   stands = record { joint = j; holds = h; real_is = refl; model_is = refl };
 }
 
@@ -99,8 +99,12 @@ new_stands setting room codec names = record {
   model_is = new_model by_tables table_view table_laws setting room codec names;
 }
 
--- settling
+pub worlds_stand : WorldsStand
+worlds_stand real model s =
+    subst (λ w. WorldStands by_tables table_view real w) (sym s.model_is)
+    (subst (λ r. WorldStands by_tables table_view r (model_of s.joint)) (sym s.real_is) (holds_stands by_tables table_view table_laws s.joint s.holds))
 
+-- settling
 
 
 cons_is : {X : Type 0} (x y : X) (xs ys : List X) → x ≡ y → xs ≡ ys → (x ∷ xs) ≡ (y ∷ ys)

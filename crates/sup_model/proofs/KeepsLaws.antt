@@ -106,7 +106,7 @@ all-alike : {X : Type 0} (p q : X → Bool) → ((x : X) → p x ≡ q x) → (x
 all-alike p q same [] = refl
 all-alike p q same (x ∷ xs) = λ i. same x i && all-alike p q same xs i
 
-renewed_good : (s : Weigher) (n : Node Ops) (id : Bytes) (now : ℕ) → Good s n → Good s (record n { supervisor = restarted_with with_all n.supervisor id now })
+pub renewed_good : (s : Weigher) (n : Node Ops) (id : Bytes) (now : ℕ) → Good s n → Good s (record n { supervisor = restarted_with with_all n.supervisor id now })
 renewed_good s n id now good up =
     let g = good up in
     let ws = wanted by_operations s n in
@@ -258,7 +258,7 @@ after_good w (Err refusal) good h = good
 allowed_good : (w : World) (s : Step) (answer : Result Answer Refusal) (w' : World) → Allows w s answer w' → GoodWorld w → GoodWorld w'
 allowed_good w s answer w' (inl h) good = subst GoodWorld (sym h.1) (after_good w (step w s) good (step_good w s good))
 allowed_good w s answer w' (inr (inl h)) good = subst GoodWorld (sym h.2) good
-allowed_good w s answer w' (inr (inr h)) good = subst GoodWorld (sym h.2) good
+allowed_good w s answer w' (inr (inr h)) good = subst GoodWorld (sym h.3) good
 
 pub run_good : (w : World) (steps : List Step) (answers : List (Result Answer Refusal)) (w' : World) → Run w steps answers w' → GoodWorld w → GoodWorld w'
 run_good w [] [] w' run good = subst GoodWorld (sym run) good

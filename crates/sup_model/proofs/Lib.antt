@@ -20,3 +20,5 @@ pub mod ShipmentLaws
 pub mod ExchangeLaws
 pub mod FollowLaws
 pub mod RunLaws
+pub mod ArrivalLaws
+pub mod MemoryLaws

@@ -28,7 +28,8 @@ use Rattle.sup_model.proofs.Afters.{After, after-refused_if, after-then_do}
 use Rattle.sup_anti_entropy.specs.Joins.{Joins, newest_of, joined}
 use Rattle.sup_anti_entropy.specs.Peers.{In, Letter, delta, push, ack, Peer, Has, Gives, Local, Between, Sound, past_with, changed, sends, forgets}
 use Rattle.sup_anti_entropy.proofs.PeerLaws.{Grows, Moves, Fresh, moves_sound}
-use Rattle.sup_anti_entropy.proofs.StepLaws.{Change, moves_change, moves_stay, moves_alike, moves_ack, moves_forget, moves_send, up_to_date, part_gives, whole_gives, taken_has, known_both_ways}
+use Rattle.sup_anti_entropy.proofs.StepLaws.{moves_change, moves_stay, moves_alike, moves_ack, moves_forget, moves_send, up_to_date, part_gives, whole_gives, taken_has, known_both_ways}
+use Rattle.sup_anti_entropy.specs.Peers.{Change}
 use Rattle.sup_model.specs.Laws.{View, Laws, Alike}
 use Rattle.sup_model.specs.Clean.{HasRow, Clean, Added}
 use Rattle.sup_replica.specs.Stations.{Station, Mail, a_delta, a_push, an_ack, Move, shipped, notes, volatile, pushed, moved, ship_step, own_step, volatile_step, station_step, as_message, taken_with, acknowledged, mail_step}

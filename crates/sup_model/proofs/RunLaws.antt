@@ -197,7 +197,7 @@ module _ (w : World) (s : Step) (rest : List (Result Answer Refusal)) where
   allowed_tells answer mid (inl h) =
       ap (λ a. new_dots (a ∷ rest)) h.0 ∙ stepped_tells (step w s) (step_tells w s) ∙ ap (λ v. dots_in (issued w s v) ++ new_dots rest) (sym h.1)
   allowed_tells answer mid (inr (inl h)) = refused_tells _ answer mid h.0 h.2
-  allowed_tells answer mid (inr (inr h)) = refused_tells _ answer mid h.0 h.2
+  allowed_tells answer mid (inr (inr h)) = refused_tells _ answer mid h.0 h.3
 
 dots-append : (ops others : Ops) → dots_in (ops ++ others) ≡ dots_in ops ++ dots_in others
 dots-append ops others = ap (map (λ (r : Row). r.dot)) (filter_map-append (λ (op : Operation). op.add) ops others) ∙ map-append (λ (r : Row). r.dot) (added ops) (added others)
@@ -218,13 +218,13 @@ allowed_clean w s answer mid (inl h) clean = subst Clean (sym h.1) (go (step w s
   go (Ok x) c = c
   go (Err r) c = clean
 allowed_clean w s answer mid (inr (inl h)) clean = subst Clean (sym h.2) clean
-allowed_clean w s answer mid (inr (inr h)) clean = subst Clean (sym h.2) clean
+allowed_clean w s answer mid (inr (inr h)) clean = subst Clean (sym h.3) clean
 
 allowed_apart : (w : World) → Clean w → (s : Step) (answer : Result Answer Refusal) (mid : World) → Allows w s answer mid → (rest : List (Result Answer Refusal)) → Apart mid (new_dots rest) → Apart w (new_dots (answer ∷ rest))
 allowed_apart w clean s answer mid (inl h) rest apart =
     subst (λ a. Apart w (new_dots (a ∷ rest))) (sym h.0) (step_apart w clean (step w s) (step_is_at w s) rest (subst (λ v. Apart v (new_dots rest)) h.1 apart))
 allowed_apart w clean s answer mid (inr (inl h)) rest apart = subst (λ a. Apart w (new_dots (a ∷ rest))) (sym h.0) (subst (λ v. Apart v (new_dots rest)) h.2 apart)
-allowed_apart w clean s answer mid (inr (inr h)) rest apart = subst (λ a. Apart w (new_dots (a ∷ rest))) (sym h.0) (subst (λ v. Apart v (new_dots rest)) h.2 apart)
+allowed_apart w clean s answer mid (inr (inr h)) rest apart = subst (λ a. Apart w (new_dots (a ∷ rest))) (sym h.0) (subst (λ v. Apart v (new_dots rest)) h.3 apart)
 
 run_apart : (w : World) (steps : List Step) (answers : List (Result Answer Refusal)) (w' : World) → Clean w → Run w steps answers w' → Apart w (new_dots answers)
 run_apart w [] [] w' clean run = record { later = λ d h x home. absurd h; pairs = no_pairs }

@@ -1,7 +1,7 @@
 -- After any list of steps the code's world stands for the model's.
 use Rattle.sup_replica.specs.Stations.{Codec}
 use Rattle.sup_model.specs.Posts.{reads}
-use Rattle.std.specs.Prelude.{ℕ, zero, suc, ◌≡◌, ◌+◌, ◌≤◌, Bool, true, false, List, [], ◌∷◌, ◌++◌, map, refl, Option, Some, None, Result, Ok, Err}
+use Rattle.std.specs.Prelude.{ℕ, zero, suc, ◌≡◌, ◌+◌, ◌≤◌, Bool, true, false, List, [], ◌∷◌, ◌++◌, map, refl, Option, Some, None, Result, Ok, Err, IsOk}
 use Rattle.std.proofs.Common.{sym, ap, ◌∙◌, subst, arith}
 use mathlib.Core.Logic.{◌⊎◌, inl, inr}
 use Rattle.sup_specs.specs.Values.{Bytes}
@@ -52,7 +52,7 @@ module _ {K : Type 0} (k : Knowledge K) (view : View K) (laws : Laws k view) whe
     pub answer : Result Answer Refusal
     pub rest : List (Result Answer Refusal)
     pub mid : World
-    pub allows : ((answer ≡ answer_of y) × (mid ≡ world_after (model_of j) y)) ⊎ ((answer ≡ Err OutOfMemory) × (may_want s (is_late y) ≡ true) × (mid ≡ model_of j)) ⊎ ((answer ≡ Err UpToDate) × MayBeUpToDate (model_of j) s × (mid ≡ model_of j))
+    pub allows : ((answer ≡ answer_of y) × (mid ≡ world_after (model_of j) y)) ⊎ ((answer ≡ Err OutOfMemory) × (may_want s (is_late y) ≡ true) × (mid ≡ model_of j)) ⊎ ((answer ≡ Err UpToDate) × IsOk y × MayBeUpToDate (model_of j) s × (mid ≡ model_of j))
     pub runs : Run mid steps rest (model_of joint)
     pub told : AnswersAlike view (real_answer_of x) answer
     pub told_rest : AllAlike view (real_answers k (real_after k (real_of j) x) steps) rest
@@ -76,7 +76,7 @@ module _ {K : Type 0} (k : Knowledge K) (view : View K) (laws : Laws k view) whe
   ran_by j s steps h (Ok x) (Err p) a later = absurd a
   ran_by j s steps h (Err q) (Ok y) a later =
       let r = later j h in
-      record { joint = r.joint; answer = Err UpToDate; rest = r.answers; mid = model_of j; allows = inr (inr (refl, a.1, refl)); holds = r.holds; runs = r.runs; told = a.0; told_rest = r.told; real = r.real }
+      record { joint = r.joint; answer = Err UpToDate; rest = r.answers; mid = model_of j; allows = inr (inr (refl, refl, a.1, refl)); holds = r.holds; runs = r.runs; told = a.0; told_rest = r.told; real = r.real }
 
   pub run_stands : (steps : List Step) (j : Joint K) → Holds view j → Ran j steps
   run_stands [] j h = record { joint = j; answers = []; runs = refl; told = tt; real = refl; holds = h }

@@ -15,7 +15,7 @@ use Rattle.sup_replica.specs.ByTables.{by_tables}
 use Rattle.sup_model.specs.TableViews.{table_view}
 use Rattle.sup_model.specs.Posts.{Real, RealAnswer, RealStepped, reads, real_step, real_after, real_new}
 use Rattle.sup_model.specs.Joint.{Joint, real_of, model_of, Holds}
-use Rattle.sup_model.specs.Refines.{real_answer_of, AnswersAlike}
+use Rattle.sup_model.specs.Refines.{real_answer_of, AnswersAlike, WorldStands, Refined}
 use Rattle.sup_model.specs.Settles.{known_at, Settles}
 
 -- the code's world and the model's are the two halves of one joint world in which all holds
@@ -47,6 +47,14 @@ StepsFollow =
 
 abbrev pub NewStands : Type 0
 NewStands = (setting : Setting) (room : ℕ) (codec : Codec State) (names : List Bytes) → WorldStandsFor (real_new by_tables setting room codec names) (new setting (reads codec) names)
+
+-- what stands for a model does so node by node and letter by letter
+abbrev pub WorldsStand : Type 0
+WorldsStand = (real : Real State) (model : World) → WorldStandsFor real model → WorldStands by_tables table_view real model
+
+-- a clause of `World::run`: the answers are those of a run of the model
+abbrev pub RunsFollow : Type 0
+RunsFollow = (setting : Setting) (room : ℕ) (codec : Codec State) (names : List Bytes) (steps : List Step) → Refined by_tables table_view setting room codec names steps
 
 -- names that differ from one, and from one another
 abbrev pub Apart : Bytes → List Bytes → Type 0

@@ -11,3 +11,6 @@ pub mod TableViews
 pub mod Settles
 pub mod Follows
 pub mod Shipments
+pub mod Arrivals
+pub mod ChildRestarts
+pub mod Memory

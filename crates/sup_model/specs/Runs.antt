@@ -1,5 +1,5 @@
 -- Runs of the model world, and what a step of the code may answer (this project).
-use Rattle.std.specs.Prelude.{ℕ, ◌≡◌, ◌⊎◌, Bool, true, false, not, List, [], ◌∷◌, ◌++◌, length, drop, Option, Some, None, Result, Ok, Err}
+use Rattle.std.specs.Prelude.{ℕ, ◌≡◌, ◌⊎◌, Bool, true, false, not, List, [], ◌∷◌, ◌++◌, length, drop, Option, Some, None, Result, Ok, Err, IsOk}
 use Rattle.std.specs.Option.{option_map, unwrap_or}
 use Rattle.sup_specs.specs.Values.{Bytes}
 use Rattle.sup_causal.specs.declared.dot.Dot.{Dot}
@@ -59,12 +59,13 @@ may_want (AtNode at Restart now saves) late = true
 may_want (Delivery from k at drop now saves) late = true
 may_want (Raw at bytes) late = true
 
--- from w, a step may be answered so and leave w': as the model says, or out of memory, or up to date; refused, it leaves w
+-- from w, a step may be answered so and leave w': as the model says; or out of memory, where that may be; or, in place of an answer that is no
+-- refusal, up to date. A refused step leaves w
 abbrev pub Allows : World → Step → Result Answer Refusal → World → Type 0
 Allows w s answer w' =
     ((answer ≡ answer_of (step w s)) × (w' ≡ world_after w (step w s)))
     ⊎ ((answer ≡ Err OutOfMemory) × (may_want s (is_late (step w s)) ≡ true) × (w' ≡ w))
-    ⊎ ((answer ≡ Err UpToDate) × MayBeUpToDate w s × (w' ≡ w))
+    ⊎ ((answer ≡ Err UpToDate) × IsOk (step w s) × MayBeUpToDate w s × (w' ≡ w))
 
 -- these answers to these steps, one after another
 abbrev pub Run : World → List Step → List (Result Answer Refusal) → World → Type 0

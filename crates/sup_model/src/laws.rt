@@ -1,6 +1,9 @@
 //! Laws of the model world and of the code's world beside it, each the contract of a function that does nothing.
 ghost use Rattle.sup_model.specs.Headline.{MainTheorem, NoDotTwice, RepliesTellDots};
-ghost use Rattle.sup_model.specs.Follows.{StepsFollow, NewStands, SettlingSettles};
+ghost use Rattle.sup_model.specs.Follows.{StepsFollow, NewStands, WorldsStand, RunsFollow, SettlingSettles};
+ghost use Rattle.sup_model.specs.Arrivals.{BytesArrive, OtherBytesAreRefused};
+ghost use Rattle.sup_model.specs.ChildRestarts.{RestartsStay};
+ghost use Rattle.sup_model.specs.Memory.{StopsAreAnswered, FirstChecksComeFirst};
 ghost use Rattle.sup_model.specs.Shipments.{ShipmentIsEnough};
 
 /// After any list of steps from a new world, answered as they may be: nodes that absorbed the same operations agree, adds
@@ -34,4 +37,32 @@ pub fn settling_settles()
 /// The deltas since a state that the receiver has are as good as the whole state.
 pub fn a_shipment_is_enough()
     ensures { ShipmentIsEnough }
+{}
+
+/// After any list of steps the answers of the code's world are those of a run of the model, and it stands for the model's.
+pub fn runs_follow()
+    ensures { RunsFollow }
+{}
+
+/// What stands for a model does so node by node: a state for the operations that the node absorbed, a letter, joined to its
+/// receiver's state, for the receiver's operations and then the letter's; and the rest is equal.
+pub fn worlds_stand()
+    ensures { WorldsStand }
+{}
+
+/// A restart of a child changes its node's supervisor alone, and what is kept is still what is wanted.
+pub fn a_restarted_child_stays()
+    ensures { RestartsStay }
+{}
+
+/// Bytes that are read as a message come to a station as the world brings that message; other bytes are no message.
+pub fn bytes_come_as_they_are_read()
+    ensures read { BytesArrive }
+    ensures other { OtherBytesAreRefused }
+{}
+
+/// Want of memory never stands in place of the answer to a stop, nor of a refusal that an event's first checks give.
+pub fn memory_is_wanted_late()
+    ensures stop { StopsAreAnswered }
+    ensures first { FirstChecksComeFirst }
 {}
