@@ -1,7 +1,7 @@
 //! Stories of two nodes, at values that were worked out by hand.
 use crate::peers::{
-    acknowledge, exchange, expect_same, expect_sent, expect_up_to_date, knows, new_peer, node, restart,
-    shipment, start,
+    acknowledge, exchange, expect_same, expect_sent, expect_up_to_date, knows, new_peer, node,
+    restart, shipment, start,
 };
 use std::process::Abort;
 use sup_anti_entropy::NoteFault;

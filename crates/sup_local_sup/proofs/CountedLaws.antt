@@ -41,8 +41,8 @@ leaving_counted kept (GaveUp id) a = tt
 pub after_counted : (boot given : ℕ) (kept : List Kept) (wanted : List Wanted) → KeepsCounted kept → AreCounted wanted → KeepsCounted (kept_after boot given kept wanted)
 after_counted boot given kept wanted a b =
     all-append (λ (k : Kept). IsCounted k.1.dot) (filter (is_wanted wanted) kept) (numbered boot given (newly kept wanted))
-      (all-filter (λ (k : Kept). IsCounted k.1.dot) (is_wanted wanted) kept a)
-      (numbered_counted boot given (newly kept wanted) (all-filter (λ w. IsCounted w.dot) _ wanted b))
+    (all-filter (λ (k : Kept). IsCounted k.1.dot) (is_wanted wanted) kept a)
+    (numbered_counted boot given (newly kept wanted) (all-filter (λ w. IsCounted w.dot) _ wanted b))
 
 -- a next run has the entry's dot
 pub renewed_counted : (p : Bytes → Bool) (kept : List Kept) (e : Entry) → KeepsCounted kept → IsCounted e.dot → KeepsCounted (set_value p kept e)
@@ -60,6 +60,7 @@ found_counted p [] e is a = absurd (none_is e is)
     Nothing : Option Entry → Type 0
     Nothing None = Unit {0}
     Nothing (Some e) = ⊥
+
     none_is : (e : Entry) → None ≡ Some e → ⊥
     none_is e h = subst Nothing h tt
 found_counted p (k ∷ kept) e is a =

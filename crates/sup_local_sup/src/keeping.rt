@@ -16,8 +16,7 @@ use crate::kept::Entry;
 use crate::wanted::Wanted;
 use indexmap::IndexMap;
 use std::alloc::{AllocError, Global};
-use sup_specs::MAX;
-use sup_specs::{ChildId, Plain};
+use sup_specs::{ChildId, MAX, Plain};
 
 // Whether a kept entry is wanted.
 pub(crate) fn is_wanted(wanted: &[Wanted], id: &ChildId, entry: &Entry) -> bool

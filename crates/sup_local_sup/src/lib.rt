@@ -3,8 +3,8 @@
 
 pub mod begun;
 pub mod effect;
-pub mod fault;
 mod exits;
+pub mod fault;
 mod keeping;
 pub mod kept;
 pub mod laws;

@@ -5,8 +5,8 @@ ghost use Rattle.sup_specs.specs.declared.limits.TheConstants.{MAX as MOST};
 mod exiting;
 mod planning;
 
-use crate::kept::Entry;
 use crate::keeping::copied;
+use crate::kept::Entry;
 use crate::window::Window;
 use indexmap::IndexMap;
 use std::alloc::{AllocError, Global};

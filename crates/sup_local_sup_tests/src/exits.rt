@@ -42,7 +42,10 @@ fn a_permanent_child_is_always_started_again_a_temporary_never_and_a_transient_a
     for (reason, transient) in &rows {
         assert!(rt; is_started_again(&rt, Restart::Permanent, reason));
         assert!(rt; !is_started_again(&rt, Restart::Temporary, reason));
-        assert_eq!(rt; is_started_again(&rt, Restart::Transient, reason), *transient);
+        assert_eq!(rt;
+            is_started_again(&rt, Restart::Transient, reason),
+            *transient
+        );
     }
 }
 
@@ -58,7 +61,13 @@ fn an_exit_of_a_run_that_is_not_kept_is_stale_and_changes_nothing(rt: HostRuntim
     );
     let _restarted = crash(&rt, &mut s, "x", 1, 7);
     let kept = [("x", 1, 4), ("y", 1, 2), ("z", 1, 3)];
-    for (name, boot, k) in [("x", 1, 1), ("x", 1, 2), ("x", 2, 4), ("w", 1, 4), ("y", 1, 4)] {
+    for (name, boot, k) in [
+        ("x", 1, 1),
+        ("x", 1, 2),
+        ("x", 2, 4),
+        ("w", 1, 4),
+        ("y", 1, 4),
+    ] {
         let verdict = s.exited(&id(&rt, name), inc(boot, k), &ExitReason::Crash, 9);
         expect_stale(&rt, &verdict.expect(&rt, "a verdict"));
         expect_kept(&rt, &s, &kept);

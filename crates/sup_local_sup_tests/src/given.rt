@@ -3,7 +3,9 @@
 use std::process::Abort;
 use sup_causal::Dot;
 use sup_local_sup::{Effects, Incarnation, SupFault, Supervisor, Verdict, Wanted};
-use sup_specs::{ChildId, ChildSpec, ExitReason, Kind, NodeName, Restart, Shutdown, Text, TextFault};
+use sup_specs::{
+    ChildId, ChildSpec, ExitReason, Kind, NodeName, Restart, Shutdown, Text, TextFault,
+};
 
 pub(crate) fn try_id(rt: &impl AllocGlobal, id: &str) -> Result<ChildId, TextFault> {
     ChildId::parse(rt.alloc(), id)
@@ -49,11 +51,7 @@ pub(crate) fn child(
 }
 
 // A permanent child.
-pub(crate) fn permanent(
-    rt: &(impl Abort + AllocGlobal),
-    name: &str,
-    counter: u64,
-) -> Wanted {
+pub(crate) fn permanent(rt: &(impl Abort + AllocGlobal), name: &str, counter: u64) -> Wanted {
     child(rt, name, counter, Restart::Permanent)
 }
 

@@ -87,18 +87,31 @@ fn a_refused_growth_changes_nothing_and_the_call_can_be_made_again(rt: HostRunti
     expect_effects(&rt, &effects, &[("start", "x", 1, 1), ("start", "y", 1, 2)]);
     let kept = [("x", 1, 1), ("y", 1, 2)];
     let restarted: Seen<'_> = ("start", "x", 1, 3);
-    expect_restarted(&rt, &sure_crash(&rt, &mut first, ("x", 1), 10, &kept), restarted);
+    expect_restarted(
+        &rt,
+        &sure_crash(&rt, &mut first, ("x", 1), 10, &kept),
+        restarted,
+    );
     let mut s = sure_copy(&rt, &first);
     let kept = [("x", 1, 3), ("y", 1, 2)];
     let effects = sure_two(&rt, &mut s, ("y", "z"), &kept);
     expect_effects(
         &rt,
         &effects,
-        &[("stop", "y", 1, 2), ("stop", "x", 1, 3), ("start", "y", 1, 4), ("start", "z", 1, 5)],
+        &[
+            ("stop", "y", 1, 2),
+            ("stop", "x", 1, 3),
+            ("start", "y", 1, 4),
+            ("start", "z", 1, 5),
+        ],
     );
     let kept = [("y", 1, 4), ("z", 1, 5)];
     let restarted: Seen<'_> = ("start", "z", 1, 6);
-    expect_restarted(&rt, &sure_crash(&rt, &mut s, ("z", 5), 11, &kept), restarted);
+    expect_restarted(
+        &rt,
+        &sure_crash(&rt, &mut s, ("z", 5), 11, &kept),
+        restarted,
+    );
     let kept = [("y", 1, 4), ("z", 1, 6)];
     let verdict = sure_crash(&rt, &mut s, ("y", 4), 9, &kept);
     expect_gave_up(&rt, &verdict, &[("stop", "z", 1, 6)]);

@@ -39,7 +39,11 @@ fn a_restart_as_old_as_the_period_counts_and_an_older_one_does_not(rt: HostRunti
     for (now, gives_up) in [(15, true), (16, false)] {
         let mut s = supervisor(&rt, 1, 5);
         let _effects = keep_one(&rt, &mut s, permanent(&rt, "web", 2));
-        expect_restarted(&rt, &crash(&rt, &mut s, "web", 1, 10), ("start", "web", 1, 2));
+        expect_restarted(
+            &rt,
+            &crash(&rt, &mut s, "web", 1, 10),
+            ("start", "web", 1, 2),
+        );
         let verdict = crash(&rt, &mut s, "web", 2, now);
         if gives_up {
             expect_gave_up(&rt, &verdict, &[]);
@@ -56,7 +60,11 @@ fn restarts_that_are_far_apart_never_give_up(rt: HostRuntime) {
     let _effects = keep_one(&rt, &mut s, permanent(&rt, "web", 1));
     let mut k = 1;
     for now in [0, 4, 8, 12] {
-        expect_restarted(&rt, &crash(&rt, &mut s, "web", k, now), ("start", "web", 1, k + 1));
+        expect_restarted(
+            &rt,
+            &crash(&rt, &mut s, "web", k, now),
+            ("start", "web", 1, k + 1),
+        );
         k += 1;
     }
     expect_gave_up(&rt, &crash(&rt, &mut s, "web", k, 13), &[]);
@@ -66,10 +74,22 @@ fn restarts_that_are_far_apart_never_give_up(rt: HostRuntime) {
 fn after_a_give_up_all_moments_are_forgotten_and_the_incarnations_go_on(rt: HostRuntime) {
     let mut s = supervisor(&rt, 1, 5);
     let _effects = keep_one(&rt, &mut s, permanent(&rt, "web", 1));
-    expect_restarted(&rt, &crash(&rt, &mut s, "web", 1, 10), ("start", "web", 1, 2));
+    expect_restarted(
+        &rt,
+        &crash(&rt, &mut s, "web", 1, 10),
+        ("start", "web", 1, 2),
+    );
     expect_gave_up(&rt, &crash(&rt, &mut s, "web", 2, 10), &[]);
     let effects = keep_one(&rt, &mut s, permanent(&rt, "web", 1));
-    expect_effects(&rt, &effects.expect(&rt, "effects"), &[("start", "web", 1, 3)]);
-    expect_restarted(&rt, &crash(&rt, &mut s, "web", 3, 2), ("start", "web", 1, 4));
+    expect_effects(
+        &rt,
+        &effects.expect(&rt, "effects"),
+        &[("start", "web", 1, 3)],
+    );
+    expect_restarted(
+        &rt,
+        &crash(&rt, &mut s, "web", 3, 2),
+        ("start", "web", 1, 4),
+    );
     expect_kept(&rt, &s, &[("web", 1, 4)]);
 }

@@ -60,6 +60,10 @@ pub(crate) fn expect_kept(rt: &impl Abort, supervisor: &Supervisor, wanted: &[(&
     let kept = supervisor.kept();
     assert_eq!(rt; kept.len(), wanted.len(), "how many are kept");
     for ((id, entry), wanted) in kept.iter().zip(wanted) {
-        assert_eq!(rt; (id.as_str(), entry.inc.boot, entry.inc.k), *wanted, "a kept child");
+        assert_eq!(rt;
+            (id.as_str(), entry.inc.boot, entry.inc.k),
+            *wanted,
+            "a kept child"
+        );
     }
 }

@@ -17,7 +17,11 @@ fn of_three(rt: &(impl Abort + AllocGlobal)) -> Supervisor {
     expect_effects(
         rt,
         &effects.expect(rt, "effects"),
-        &[("start", "x", 1, 1), ("start", "y", 1, 2), ("start", "z", 1, 3)],
+        &[
+            ("start", "x", 1, 1),
+            ("start", "y", 1, 2),
+            ("start", "z", 1, 3),
+        ],
     );
     s
 }
@@ -49,7 +53,11 @@ fn what_is_dropped_is_stopped_in_reverse_order_and_then_what_is_new_is_started_b
     expect_effects(
         &rt,
         &effects.expect(&rt, "effects"),
-        &[("stop", "m", 1, 5), ("stop", "a", 1, 4), ("stop", "y", 1, 2)],
+        &[
+            ("stop", "m", 1, 5),
+            ("stop", "a", 1, 4),
+            ("stop", "y", 1, 2),
+        ],
     );
     expect_kept(&rt, &s, &[]);
 }

@@ -265,13 +265,13 @@ module _ {K : Type 0} (k : Knowledge K) (view : View K) (laws : Laws k view) whe
       let s = h.each t here in
       let c = change_of st.node.known n.known d known (laws.is_valid st.node.known t.site.node.known s.node.state) vd in
       let held : (if nat_lt st.node.count n.count then newest_of st.room (st.held ++ d ∷ []) else st.held) ≡ newest_of st.room (st.held ++ d ∷ []) =
-          ap (λ b. if b then newest_of st.room (st.held ++ d ∷ []) else st.held) (less st.node.count n.count count) in
+      ap (λ b. if b then newest_of st.room (st.held ++ d ∷ []) else st.held) (less st.node.count n.count count) in
       let sems : newest_of st.room (map view.sem st.held ++ view.sem d ∷ []) ≡ map view.sem (if nat_lt st.node.count n.count then newest_of st.room (st.held ++ d ∷ []) else st.held) =
-          ap (newest_of st.room) (sym (sem-last st.held d)) ∙ sem-newest st.room (st.held ++ d ∷ []) ∙ ap (map view.sem) (sym held) in
+      ap (newest_of st.room) (sym (sem-last st.held d)) ∙ sem-newest st.room (st.held ++ d ∷ []) ∙ ap (map view.sem) (sym held) in
       let pasts : (i : ℕ) → past_with (λ i. view.sem (t.past i)) st.node.count (view.sem n.known) i ≡ view.sem (past_with t.past st.node.count n.known i) =
-          λ i. elim (nat_le i st.node.count) as (λ b. (if b then view.sem (t.past i) else view.sem n.known) ≡ view.sem (if b then t.past i else n.known)) [ true ↦ refl | false ↦ refl ] in
+      λ i. elim (nat_le i st.node.count) as (λ b. (if b then view.sem (t.past i) else view.sem n.known) ≡ view.sem (if b then t.past i else n.known)) [ true ↦ refl | false ↦ refl ] in
       let same : changed (peer view t) st.room (view.sem n.known) (view.sem d) ≡ peer view (trio_with t (notes k st n d) m (past_with t.past st.node.count n.known) None None) =
-          λ i. record { name = sym name i; state = view.sem n.known; count = sym count i; past = λ x. pasts x i; held = sems i; acked = st.acked; sent = map (letter_of view) t.post.sent } in
+      λ i. record { name = sym name i; state = view.sem n.known; count = sym count i; past = λ x. pasts x i; held = sems i; acked = st.acked; sent = map (letter_of view) t.post.sent } in
       subst (Moves view.joins (Peers view j.trios) (peer view t)) same
       (moves_change view.joins (Peers view j.trios) (peer view t) st.room (view.sem n.known) (view.sem d) h.sound (t, here, refl) (record { more = c.0; delta = c.1; only = c.2 }))
 
@@ -281,10 +281,10 @@ module _ {K : Type 0} (k : Knowledge K) (view : View K) (laws : Laws k view) whe
   still_moves j t h here n m d name count up down =
       let st = t.post.station in
       let held : (if nat_lt st.node.count n.count then newest_of st.room (st.held ++ d ∷ []) else st.held) ≡ st.held =
-          ap (λ b. if b then newest_of st.room (st.held ++ d ∷ []) else st.held) (not_less st.node.count n.count count) in
+      ap (λ b. if b then newest_of st.room (st.held ++ d ∷ []) else st.held) (not_less st.node.count n.count count) in
       let base : Peer Bytes view.S = record (peer view t) { state = view.sem n.known } in
       let same : base ≡ peer view (trio_with t (notes k st n d) m t.past None None) =
-          λ i. record { name = sym name i; state = view.sem n.known; count = sym count i; past = λ x. view.sem (t.past x); held = map view.sem (sym held i); acked = st.acked; sent = map (letter_of view) t.post.sent } in
+      λ i. record { name = sym name i; state = view.sem n.known; count = sym count i; past = λ x. view.sem (t.past x); held = map view.sem (sym held i); acked = st.acked; sent = map (letter_of view) t.post.sent } in
       subst (Moves view.joins (Peers view j.trios) (peer view t)) same
       (moves_alike view.joins (Peers view j.trios) (peer view t) (view.sem n.known) h.sound (t, here, refl) up down)
 
@@ -312,23 +312,35 @@ module _ {K : Type 0} (k : Knowledge K) (view : View K) (laws : Laws k view) whe
       let st = t.post.station in
       elim v.how [
         | inl e ↦ record {
-            past = t.past; kept = λ n h. refl; name = name; node = s.node; fits = fits; reply = s.reply; effects = s.effects;
-            moves = still_moves j t h here o.node p.node (unwrap_or o.node.newest k.nothing) v.name e.0
-                (subst (λ x. view.joins.le (view.sem st.node.known) (view.sem x)) (sym e.1) (view.joins.itself (view.sem st.node.known))) (subst (λ x. view.joins.le (view.sem x) (view.sem st.node.known)) (sym e.1) (view.joins.itself (view.sem st.node.known)));
-            held = notes_valid st o.node (unwrap_or o.node.newest k.nothing) (h.each t here).held (inr e.0);
-            now = now_still t (h.each t here) o.node.count e.0;
-            letter = pushed_stands o.node.name o.node.count t.past st.node.name (sym v.name) o.letter p.letter s.letter v.letter;
-            fresh = pushed_fresh (Peers view j.trios) _ st.node.name o.letter;
-          }
+          past = t.past;
+          kept = λ n h. refl;
+          name = name;
+          node = s.node;
+          fits = fits;
+          reply = s.reply;
+          effects = s.effects;
+          moves = still_moves j t h here o.node p.node (unwrap_or o.node.newest k.nothing) v.name e.0
+              (subst (λ x. view.joins.le (view.sem st.node.known) (view.sem x)) (sym e.1) (view.joins.itself (view.sem st.node.known))) (subst (λ x. view.joins.le (view.sem x) (view.sem st.node.known)) (sym e.1) (view.joins.itself (view.sem st.node.known)));
+          held = notes_valid st o.node (unwrap_or o.node.newest k.nothing) (h.each t here).held (inr e.0);
+          now = now_still t (h.each t here) o.node.count e.0;
+          letter = pushed_stands o.node.name o.node.count t.past st.node.name (sym v.name) o.letter p.letter s.letter v.letter;
+          fresh = pushed_fresh (Peers view j.trios) _ st.node.name o.letter;
+        }
         | inr e ↦
-          let d : unwrap_or o.node.newest k.nothing ≡ e.0 = ap (λ x. unwrap_or x k.nothing) e.1 in
-          let vd : view.valid (unwrap_or o.node.newest k.nothing) = subst view.valid (sym d) (newest_is_valid o.node.newest p.node.newest e.0 e.1 s.node.newest) in
-          record {
-            past = past_with t.past st.node.count o.node.known; kept = past_old t.past st.node.count o.node.known; name = name; node = s.node; fits = fits; reply = s.reply; effects = s.effects;
-            moves = noted_moves j t h here o.node p.node (unwrap_or o.node.newest k.nothing) v.name e.2 (e.3 ∙ ap (λ x. k.with_more st.node.known x) (sym d)) vd;
-            held = notes_valid st o.node (unwrap_or o.node.newest k.nothing) (h.each t here).held (inl vd);
-            now = now_changed t.past st.node.count o.node.known o.node.count e.2 (laws.is_valid o.node.known p.node.known s.node.state);
-            letter = pushed_stands o.node.name o.node.count (past_with t.past st.node.count o.node.known) st.node.name (sym v.name) o.letter p.letter s.letter v.letter;
-            fresh = pushed_fresh (Peers view j.trios) _ st.node.name o.letter;
-          }
+            let d : unwrap_or o.node.newest k.nothing ≡ e.0 = ap (λ x. unwrap_or x k.nothing) e.1 in
+            let vd : view.valid (unwrap_or o.node.newest k.nothing) = subst view.valid (sym d) (newest_is_valid o.node.newest p.node.newest e.0 e.1 s.node.newest) in
+            record {
+              past = past_with t.past st.node.count o.node.known;
+              kept = past_old t.past st.node.count o.node.known;
+              name = name;
+              node = s.node;
+              fits = fits;
+              reply = s.reply;
+              effects = s.effects;
+              moves = noted_moves j t h here o.node p.node (unwrap_or o.node.newest k.nothing) v.name e.2 (e.3 ∙ ap (λ x. k.with_more st.node.known x) (sym d)) vd;
+              held = notes_valid st o.node (unwrap_or o.node.newest k.nothing) (h.each t here).held (inl vd);
+              now = now_changed t.past st.node.count o.node.known o.node.count e.2 (laws.is_valid o.node.known p.node.known s.node.state);
+              letter = pushed_stands o.node.name o.node.count (past_with t.past st.node.count o.node.known) st.node.name (sym v.name) o.letter p.letter s.letter v.letter;
+              fresh = pushed_fresh (Peers view j.trios) _ st.node.name o.letter;
+            }
       ]

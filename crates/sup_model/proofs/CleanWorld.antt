@@ -154,19 +154,19 @@ module _ (w : World) (site : Site) (here : In w.sites site) (o : Outcome Ops) (t
   home_after : (x : Row) → Added (acted w site o).world x → (y : Site) → In (acted w site o).world.sites y → x.dot.node ≡ y.node.name → HasRow y.node.known x
   home_after x a y h at = elim (from_added x a) [
     | inl old ↦
-      elim (sites_after y h) [
-        | inl e ↦
-          subst (λ (s : Site). HasRow s.node.known x) (sym e)
-          (t.keeps x (clean.home x old site here (at ∙ ap (λ (s : Site). s.node.name) e ∙ t.name)))
-        | inr g ↦ clean.home x old y g.0 at
-      ]
+        elim (sites_after y h) [
+          | inl e ↦
+              subst (λ (s : Site). HasRow s.node.known x) (sym e)
+              (t.keeps x (clean.home x old site here (at ∙ ap (λ (s : Site). s.node.name) e ∙ t.name)))
+          | inr g ↦ clean.home x old y g.0 at
+        ]
     | inr new ↦
-      elim (sites_after y h) [
-        | inl e ↦ subst (λ (s : Site). HasRow s.node.known x) (sym e) (t.there x new)
-        | inr g ↦
-          let same : o.node.name ≡ y.node.name = t.name ∙ sym (ap (λ (z : Dot). z.node) (t.fresh x new)) ∙ at in
-          absurd (true≢false (sym (subst (λ n. is_named o.node.name n ≡ true) same (text_itself o.node.name)) ∙ g.1))
-      ]
+        elim (sites_after y h) [
+          | inl e ↦ subst (λ (s : Site). HasRow s.node.known x) (sym e) (t.there x new)
+          | inr g ↦
+              let same : o.node.name ≡ y.node.name = t.name ∙ sym (ap (λ (z : Dot). z.node) (t.fresh x new)) ∙ at in
+              absurd (true≢false (sym (subst (λ n. is_named o.node.name n ≡ true) same (text_itself o.node.name)) ∙ g.1))
+        ]
   ]
 
   clear_after : (x y : Row) → Added (acted w site o).world x → Added (acted w site o).world y → x.dot ≡ y.dot → x ≡ y
@@ -200,9 +200,9 @@ home_stays w site here o t clean x h =
     elim (put-in (λ s. is_named o.node.name s.node.name) new w.sites h.site h.there) [
       | inl g ↦ record { site = h.site; there = g.1; known = h.known; own = h.own }
       | inr g ↦
-        let same : o.node.name ≡ h.site.node.name = text_same o.node.name h.site.node.name g.0 in
-        let own : x.dot.node ≡ site.node.name = h.own ∙ sym same ∙ t.name in
-        record { site = new; there = g.1; known = t.keeps x (clean.home x (record { site = h.site; there = h.there; has = inl h.known }) site here own); own = own ∙ sym t.name }
+          let same : o.node.name ≡ h.site.node.name = text_same o.node.name h.site.node.name g.0 in
+          let own : x.dot.node ≡ site.node.name = h.own ∙ sym same ∙ t.name in
+          record { site = new; there = g.1; known = t.keeps x (clean.home x (record { site = h.site; there = h.there; has = inl h.known }) site here own); own = own ∙ sym t.name }
     ]
 
 -- a dot of a reply is of a row that is new, and is at home then
@@ -214,11 +214,10 @@ new_dot w site here o t clean d r =
     let same : x.dot ≡ d = t.fresh x c.1.1 ∙ sym c.0 in
     let own : x.dot.node ≡ site.node.name = ap (λ (z : Dot). z.node) (t.fresh x c.1.1) in
     let site_there : In (acted w site o).world.sites (site_after site o) =
-        elim (put-in (λ s. is_named o.node.name s.node.name) (site_after site o) w.sites site here) [
-          | inl g ↦ absurd (true≢false (sym (subst (λ n. is_named o.node.name n ≡ true) t.name (text_itself o.node.name)) ∙ g.0))
-          | inr g ↦ g.1
-        ] in
-    (
+    elim (put-in (λ s. is_named o.node.name s.node.name) (site_after site o) w.sites site here) [
+      | inl g ↦ absurd (true≢false (sym (subst (λ n. is_named o.node.name n ≡ true) t.name (text_itself o.node.name)) ∙ g.0))
+      | inr g ↦ g.1
+    ] in (
       λ y h e. new_is_new w site here o t clean x y c.1.1 (record { site = h.site; there = h.there; has = inl h.known }) (e ∙ sym same),
       (x, record { site = site_after site o; there = site_there; known = t.there x c.1.1; own = own ∙ sym t.name }, same),
     )

@@ -144,28 +144,43 @@ module _ {K : Type 0} (k : Knowledge K) (view : View K) (laws : Laws k view) whe
       let answers = λ (count : ℕ) (past : ℕ → K). subst (λ n. BothOrNone (MailStands view n count past) mail p.letter) (sym v.name) (subst (λ l. BothOrNone (MailStands view st.node.name count past) mail l) (sym e.letter) (a.answers count past)) in
       elim v.how [
         | inl e2 ↦ record {
-            past = t.past; kept = λ n h. refl; held = notes_valid k view laws st o.node content (h.each t here).held (inl a.brings.valid); now = now_still k view laws t (h.each t here) o.node.count e2.0; name = name; node = s.node; fits = e.fits; reply = s.reply; effects = s.effects;
-            moves = still_moves k view laws j t h here o.node p.node content v.name e2.0 up
-                (view.joins.chain (view.sem o.node.known) (view.joins.join (view.sem st.node.known) (view.sem content)) (view.sem st.node.known) c.2
-                (view.joins.least (view.sem st.node.known) (view.sem content) (view.sem st.node.known) (view.joins.itself (view.sem st.node.known)) (laws.below st.node.known content vn a.brings.valid e2.1)));
-            letter = answers o.node.count t.past;
-            fresh = a.fresh (peer view (trio_with k view laws t (notes k st o.node content) p.node t.past None None)) v.name up in_it;
-          }
+          past = t.past;
+          kept = λ n h. refl;
+          held = notes_valid k view laws st o.node content (h.each t here).held (inl a.brings.valid);
+          now = now_still k view laws t (h.each t here) o.node.count e2.0;
+          name = name;
+          node = s.node;
+          fits = e.fits;
+          reply = s.reply;
+          effects = s.effects;
+          moves = still_moves k view laws j t h here o.node p.node content v.name e2.0 up
+              (view.joins.chain (view.sem o.node.known) (view.joins.join (view.sem st.node.known) (view.sem content)) (view.sem st.node.known) c.2
+              (view.joins.least (view.sem st.node.known) (view.sem content) (view.sem st.node.known) (view.joins.itself (view.sem st.node.known)) (laws.below st.node.known content vn a.brings.valid e2.1)));
+          letter = answers o.node.count t.past;
+          fresh = a.fresh (peer view (trio_with k view laws t (notes k st o.node content) p.node t.past None None)) v.name up in_it;
+        }
         | inr e2 ↦ record {
-            past = past_with t.past st.node.count o.node.known; kept = past_old t.past st.node.count o.node.known; held = notes_valid k view laws st o.node content (h.each t here).held (inl a.brings.valid);
-            now = now_changed k view laws t.past st.node.count o.node.known o.node.count e2 (laws.is_valid o.node.known p.node.known s.node.state); name = name; node = s.node; fits = e.fits; reply = s.reply; effects = s.effects;
-            moves = noted_moves k view laws j t h here o.node p.node content v.name e2 v.known a.brings.valid;
-            letter = answers o.node.count (past_with t.past st.node.count o.node.known);
-            fresh = a.fresh (peer view (trio_with k view laws t (notes k st o.node content) p.node (past_with t.past st.node.count o.node.known) None None)) v.name up in_it;
-          }
+          past = past_with t.past st.node.count o.node.known;
+          kept = past_old t.past st.node.count o.node.known;
+          held = notes_valid k view laws st o.node content (h.each t here).held (inl a.brings.valid);
+          now = now_changed k view laws t.past st.node.count o.node.known o.node.count e2 (laws.is_valid o.node.known p.node.known s.node.state);
+          name = name;
+          node = s.node;
+          fits = e.fits;
+          reply = s.reply;
+          effects = s.effects;
+          moves = noted_moves k view laws j t h here o.node p.node content v.name e2 v.known a.brings.valid;
+          letter = answers o.node.count (past_with t.past st.node.count o.node.known);
+          fresh = a.fresh (peer view (trio_with k view laws t (notes k st o.node content) p.node (past_with t.past st.node.count o.node.known) None None)) v.name up in_it;
+        }
       ]
 
   pub absorb_together : (j : Joint K) (t : Trio K) → Holds view j → In j.trios t → (content : K) (more : Ops) (mail : Option (Mail K)) (a : Option (Message K)) (letter : Option (Message Ops)) → Arrival j t content more mail letter
       → BothOrNone (MessageStands view) a letter → (saves : Bool)
       → (let st = t.post.station in
-        let x : Result (Outcome K) Refusal = Ok (absorbs k j.weigher st.node content a (k.covers st.node.known content)) in
-        let y : Result (Outcome Ops) Refusal = Ok (absorbs by_operations j.weigher t.site.node more letter (covers t.site.node.known more)) in
-        Together (Act k view laws j t) (then_do (kept_by saves x) (λ o. let r : Result (Move K) Refusal = Ok (moved k o (notes k st o.node content) mail) in r)) (kept_by saves y))
+      let x : Result (Outcome K) Refusal = Ok (absorbs k j.weigher st.node content a (k.covers st.node.known content)) in
+      let y : Result (Outcome Ops) Refusal = Ok (absorbs by_operations j.weigher t.site.node more letter (covers t.site.node.known more)) in
+      Together (Act k view laws j t) (then_do (kept_by saves x) (λ o. let r : Result (Move K) Refusal = Ok (moved k o (notes k st o.node content) mail) in r)) (kept_by saves y))
   absorb_together j t h here content more mail a letter r l saves =
       let st = t.post.station in
       let s = h.each t here in
@@ -174,8 +189,8 @@ module _ {K : Type 0} (k : Knowledge K) (view : View K) (laws : Laws k view) whe
       let x : Result (Outcome K) Refusal = Ok (absorbs k j.weigher st.node content a c) in
       let y : Result (Outcome Ops) Refusal = Ok (absorbs by_operations j.weigher t.site.node more letter (covers t.site.node.known more)) in
       let stand : OutcomeStands view (absorbs k j.weigher st.node content a c) (absorbs by_operations j.weigher t.site.node more letter (covers t.site.node.known more)) =
-          subst (λ b. OutcomeStands view (absorbs k j.weigher st.node content a c) (absorbs by_operations j.weigher t.site.node more letter b)) same
-          (absorbs_stand j.weigher st.node t.site.node content more a letter s.node (brought st.node t.site.node content more s.node.state r.brings) l c) in
+      subst (λ b. OutcomeStands view (absorbs k j.weigher st.node content a c) (absorbs by_operations j.weigher t.site.node more letter b)) same
+      (absorbs_stand j.weigher st.node t.site.node content more a letter s.node (brought st.node t.site.node content more s.node.state r.brings) l c) in
       through k view laws (Act k view laws j t) (Taken st.node content) (Ends letter) (λ o. moved k o (notes k st o.node content) mail) (kept_by saves x) (kept_by saves y)
       (kept_stands k view laws saves x y stand)
       (kept_after k view laws k (Taken st.node content) saves x (absorbs_taken j.weigher st.node content a c refl))
@@ -187,11 +202,11 @@ module _ {K : Type 0} (k : Knowledge K) (view : View K) (laws : Laws k view) whe
   -- the checks of a delivery, in both
   three_checks : (R : Move K → Outcome Ops → Type 0) (up b named saves : Bool) (x : Outcome K) (y : Outcome Ops) (f : Outcome K → Move K)
       → (let okx : Result (Outcome K) Refusal = Ok x in
-        let oky : Result (Outcome Ops) Refusal = Ok y in
-        let next = λ (o : Outcome K). let r : Result (Move K) Refusal = Ok (f o) in r in
-        (named ≡ true → Together R (then_do (kept_by saves okx) next) (kept_by saves oky))
-        → Together R (refused_if (not up) Down (refused_if (not b) BadMessage (then_do (kept_by saves (refused_if (not up) Down (refused_if (not true) BadMessage (refused_if (not named) WrongReceiver okx)))) next)))
-          (kept_by saves (refused_if (not up) Down (refused_if (not b) BadMessage (refused_if (not named) WrongReceiver oky)))))
+      let oky : Result (Outcome Ops) Refusal = Ok y in
+      let next = λ (o : Outcome K). let r : Result (Move K) Refusal = Ok (f o) in r in
+      (named ≡ true → Together R (then_do (kept_by saves okx) next) (kept_by saves oky))
+      → Together R (refused_if (not up) Down (refused_if (not b) BadMessage (then_do (kept_by saves (refused_if (not up) Down (refused_if (not true) BadMessage (refused_if (not named) WrongReceiver okx)))) next)))
+      (kept_by saves (refused_if (not up) Down (refused_if (not b) BadMessage (refused_if (not named) WrongReceiver oky)))))
   three_checks R true true true saves x y f h = h refl
   three_checks R true true false saves x y f h = refl
   three_checks R true false named saves x y f h = refl
@@ -223,7 +238,7 @@ module _ {K : Type 0} (k : Knowledge K) (view : View K) (laws : Laws k view) whe
       → Arrival j t content m.content (Some (an_ack t.post.station.node.name by n)) (Some (record { to = from; kind = is_ack; content = [] }))
   delta_arrival j s t from by to n whole content m h c named =
       let g = (h.sound.between (peer view s) (peer view t) (s, c.sender, refl) (t, c.receiver, refl)).deltas n (view.sem content)
-          (subst (λ x. In (map (letter_of view) s.post.sent) (delta x n (view.sem content))) named (in-letters k view laws s.post.sent (a_delta by to n whole content) c.sent)) in
+      (subst (λ x. In (map (letter_of view) s.post.sent) (delta x n (view.sem content))) named (in-letters k view laws s.post.sent (a_delta by to n whole content) c.sent)) in
       record {
         brings = record { whole = s.past n; stands = c.stands.4; valid = c.stands.5; within = g.within; gives = g.gives; clear = comes_clear j s t from (a_delta by to n whole content) m h c };
         answers = λ count past. (refl, c.stands.0 ∙ (h.each s c.sender).node.name ∙ sym c.named, refl);
@@ -257,10 +272,19 @@ module _ {K : Type 0} (k : Knowledge K) (view : View K) (laws : Laws k view) whe
       let v = max n (st.acked by) in
       let has = ack_has j s t from by to n m h c named in
       let old : Has view.joins (peer view t) (st.acked by) (peer view s) =
-          subst (λ x. Has view.joins (peer view t) (st.acked x) (peer view s)) (sym c.stands.0) (h.sound.between (peer view t) (peer view s) (t, c.receiver, refl) (s, c.sender, refl)).acked in
+      subst (λ x. Has view.joins (peer view t) (st.acked x) (peer view s)) (sym c.stands.0) (h.sound.between (peer view t) (peer view s) (t, c.receiver, refl) (s, c.sender, refl)).acked in
       let most = has_max (peer view t) (peer view s) n (st.acked by) has old in
       record {
-        past = t.past; kept = λ n h. refl; held = (h.each t c.receiver).held; now = (h.each t c.receiver).now; name = refl; node = (h.each t c.receiver).node; fits = (h.each t c.receiver).fits; reply = refl; effects = refl; letter = tt;
+        past = t.past;
+        kept = λ n h. refl;
+        held = (h.each t c.receiver).held;
+        now = (h.each t c.receiver).now;
+        name = refl;
+        node = (h.each t c.receiver).node;
+        fits = (h.each t c.receiver).fits;
+        reply = refl;
+        effects = refl;
+        letter = tt;
         fresh = λ x e. none_fresh k view laws (Peers view j.trios) (peer view (trio_with k view laws t (acknowledged k st by n) t.site.node t.past None None)) x e;
         moves = moves_ack view.joins (Peers view j.trios) (peer view t) (λ q. if is_named q by then v else st.acked q) h.sound (t, c.receiver, refl) (λ q w.
             (elim (eq_by_cmp text_cmp q.name by) as (λ b. eq_by_cmp text_cmp q.name by ≡ b → Has view.joins (peer view t) (if b then v else st.acked q.name) q) [
@@ -271,10 +295,10 @@ module _ {K : Type 0} (k : Knowledge K) (view : View K) (laws : Laws k view) whe
 
   ack_checks : (R : Move K → Outcome Ops → Type 0) (up b named saves : Bool) (count n : ℕ) (x : Move K) (y : Outcome Ops) → passes_greatest y.node ≡ false → y.saves ≡ false
       → (let okx : Result (Move K) Refusal = Ok x in
-        let oky : Result (Outcome Ops) Refusal = Ok y in
-        (named ≡ true → (n ≤ count) × R x y)
-        → Together R (refused_if (not up) Down (refused_if (not b) BadMessage (refused_if (not up) Down (refused_if (not named) WrongReceiver (refused_if (nat_lt count n) BadMessage okx)))))
-          (kept_by saves (refused_if (not up) Down (refused_if (not b) BadMessage (refused_if (not named) WrongReceiver oky)))))
+      let oky : Result (Outcome Ops) Refusal = Ok y in
+      (named ≡ true → (n ≤ count) × R x y)
+      → Together R (refused_if (not up) Down (refused_if (not b) BadMessage (refused_if (not up) Down (refused_if (not named) WrongReceiver (refused_if (nat_lt count n) BadMessage okx)))))
+      (kept_by saves (refused_if (not up) Down (refused_if (not b) BadMessage (refused_if (not named) WrongReceiver oky)))))
   ack_checks R true true true saves count n x y fits still h =
       let okx : Result (Move K) Refusal = Ok x in
       let oky : Result (Outcome Ops) Refusal = Ok y in

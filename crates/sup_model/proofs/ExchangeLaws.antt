@@ -160,15 +160,15 @@ last_message s sent m k is e =
 -- what a delta makes of a node
 delta_known : (w : World) (n : Node Ops) (from : Bytes) (more : Ops) → (takes by_operations w.weigher n from delta more).node.known ≡ n.known ++ more
 delta_known w n from more =
-    elim (covers n.known more) as (λ b. (absorbs by_operations w.weigher n more (answer_to by_operations from delta) b).node.known ≡ n.known ++ more) [ | true ↦ refl | false ↦ refl ]
+    elim (covers n.known more) as (λ b. (absorbs by_operations w.weigher n more (answer_to by_operations from delta) b).node.known ≡ n.known ++ more) [ true ↦ refl | false ↦ refl ]
 
 delta_name : (w : World) (n : Node Ops) (from : Bytes) (more : Ops) → (takes by_operations w.weigher n from delta more).node.name ≡ n.name
 delta_name w n from more =
-    elim (covers n.known more) as (λ b. (absorbs by_operations w.weigher n more (answer_to by_operations from delta) b).node.name ≡ n.name) [ | true ↦ refl | false ↦ refl ]
+    elim (covers n.known more) as (λ b. (absorbs by_operations w.weigher n more (answer_to by_operations from delta) b).node.name ≡ n.name) [ true ↦ refl | false ↦ refl ]
 
 delta_letter : (w : World) (n : Node Ops) (from : Bytes) (more : Ops) → (takes by_operations w.weigher n from delta more).letter ≡ answer_to by_operations from delta
 delta_letter w n from more =
-    elim (covers n.known more) as (λ b. (absorbs by_operations w.weigher n more (answer_to by_operations from delta) b).letter ≡ answer_to by_operations from delta) [ | true ↦ refl | false ↦ refl ]
+    elim (covers n.known more) as (λ b. (absorbs by_operations w.weigher n more (answer_to by_operations from delta) b).letter ≡ answer_to by_operations from delta) [ true ↦ refl | false ↦ refl ]
 
 -- what an exchange does
 pub record Took (w : World) (a b : Bytes) (w' : World) : Type 0 where

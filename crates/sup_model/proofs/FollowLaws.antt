@@ -39,18 +39,24 @@ follows_at : (j : Joint State) → Holds table_view j → (st : Step) (x : Resul
     → y ≡ step (model_of j) st
     → Answers (MayBeUpToDate (model_of j) st) (Stepping by_tables table_view table_laws) x y → Follows (model_of j) st (real_answer_of x) (real_after by_tables (real_of j) x)
 follows_at j h st (Ok x) (Ok y) e a = record {
-  after = y.world; expected = Ok y.answer; told = a.answer;
+  after = y.world;
+  expected = Ok y.answer;
+  told = a.answer;
   allows = inl ((λ i. answer_of (e i)), (λ i. world_after (model_of j) (e i)));
   stands = record { joint = a.joint; holds = a.holds; real_is = a.real; model_is = a.model };
 }
 follows_at j h st (Err q) (Err p) e a = record {
-  after = model_of j; expected = Err p; told = a;
+  after = model_of j;
+  expected = Err p;
+  told = a;
   allows = inl ((λ i. answer_of (e i)), (λ i. world_after (model_of j) (e i)));
   stands = record { joint = j; holds = h; real_is = refl; model_is = refl };
 }
 follows_at j h st (Ok x) (Err p) e a = absurd a
 follows_at j h st (Err q) (Ok y) e a = record {
-  after = model_of j; expected = Err UpToDate; told = a.0;
+  after = model_of j;
+  expected = Err UpToDate;
+  told = a.0;
   allows = inr (inr (refl, subst IsOk e refl, a.1, refl));
   stands = record { joint = j; holds = h; real_is = refl; model_is = refl };
 }
@@ -85,7 +91,8 @@ steps_follow real after st answer (inr m) model s =
     let wants : may_want st (is_late (step (model_of j) st)) ≡ true =
     wants_too st (real_step by_tables (real_of j) st) (step (model_of j) st) (MayBeUpToDate (model_of j) st) (step_stands by_tables table_view table_laws j s.holds st) late in
     record {
-      after = model; expected = Err OutOfMemory;
+      after = model;
+      expected = Err OutOfMemory;
       allows = inr (inl (refl, subst (λ w. may_want st (is_late (step w st)) ≡ true) (sym s.model_is) wants, refl));
       told = subst (λ a. AnswersAlike table_view a (Err OutOfMemory)) (sym m.0) refl;
       stands = subst (λ r. WorldStandsFor r model) (sym m.2) s;
@@ -105,7 +112,6 @@ worlds_stand real model s =
     (subst (λ r. WorldStands by_tables table_view r (model_of s.joint)) (sym s.real_is) (holds_stands by_tables table_view table_laws s.joint s.holds))
 
 -- settling
-
 
 cons_is : {X : Type 0} (x y : X) (xs ys : List X) → x ≡ y → xs ≡ ys → (x ∷ xs) ≡ (y ∷ ys)
 cons_is x y xs ys e f = λ i. e i ∷ f i

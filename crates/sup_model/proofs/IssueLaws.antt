@@ -49,14 +49,14 @@ entry_of : (rows : List Row) (p : Row → Bool) (d : Dot) → among dot_cmp (map
 entry_of [] p d e = absurd (true≢false (sym e))
 entry_of (y ∷ ys) p d e =
     let later : among dot_cmp (map (λ r. r.dot) (filter p ys)) d ≡ true → (x : Row) × (among row_cmp (y ∷ ys) x ≡ true) × (d ≡ x.dot) =
-        λ f. let c = entry_of ys p d f in
-        (c.0, elim (eq_by_cmp row_cmp c.0 y) as (λ b. (b || among row_cmp ys c.0) ≡ true) [ true ↦ refl | false ↦ c.1 ], c.2) in
+    λ f. let c = entry_of ys p d f in
+    (c.0, elim (eq_by_cmp row_cmp c.0 y) as (λ b. (b || among row_cmp ys c.0) ≡ true) [ true ↦ refl | false ↦ c.1 ], c.2) in
     elim (p y) as (λ b. among dot_cmp (map (λ r. r.dot) (cond b (y ∷ filter p ys) (filter p ys))) d ≡ true → (x : Row) × (among row_cmp (y ∷ ys) x ≡ true) × (d ≡ x.dot)) [
       | true ↦ λ f.
-        elim (dot_eq d y.dot) as (λ b. dot_eq d y.dot ≡ b → (b || among dot_cmp (map (λ r. r.dot) (filter p ys)) d) ≡ true → (x : Row) × (among row_cmp (y ∷ ys) x ≡ true) × (d ≡ x.dot)) [
-          | true ↦ λ s _. (y, ap (λ b. b || among row_cmp ys y) (row_itself y), dot_same d y.dot s)
-          | false ↦ λ _ g. later g
-        ] refl f
+          elim (dot_eq d y.dot) as (λ b. dot_eq d y.dot ≡ b → (b || among dot_cmp (map (λ r. r.dot) (filter p ys)) d) ≡ true → (x : Row) × (among row_cmp (y ∷ ys) x ≡ true) × (d ≡ x.dot)) [
+            | true ↦ λ s _. (y, ap (λ b. b || among row_cmp ys y) (row_itself y), dot_same d y.dot s)
+            | false ↦ λ _ g. later g
+          ] refl f
       | false ↦ later
     ] e
 
@@ -64,10 +64,10 @@ next_is_new : (r : Reading) → IsTop r → (table : Table) (key : Bytes) → am
 next_is_new r top table key =
     elim (among dot_cmp (live_dots r.rows table key) (next r)) as (λ b. among dot_cmp (live_dots r.rows table key) (next r) ≡ b → b ≡ false) [
       | true ↦ λ e.
-        let c = entry_of r.rows (is_at table key) (next r) e in
-        let h : c.0.dot.counter ≤ r.counter = top c.0 c.1 (ap (λ (d : Dot). d.node) (sym c.2)) in
-        let same : r.counter + 1 ≡ c.0.dot.counter = ap (λ (d : Dot). d.counter) c.2 in
-        absurd (omega (arith, h, same))
+          let c = entry_of r.rows (is_at table key) (next r) e in
+          let h : c.0.dot.counter ≤ r.counter = top c.0 c.1 (ap (λ (d : Dot). d.node) (sym c.2)) in
+          let same : r.counter + 1 ≡ c.0.dot.counter = ap (λ (d : Dot). d.counter) c.2 in
+          absurd (omega (arith, h, same))
       | false ↦ λ _. refl
     ] refl
 
@@ -78,10 +78,14 @@ pub none_some : {X : Type 0} (x : X) → None ≡ Some x → ⊥
 none_some x e = cc
 
 adds : (r : Reading) (op : Operation) (x : Row) → op.add ≡ Some x → x.dot ≡ next r → among dot_cmp op.removes (next r) ≡ false → Adds r op
-adds r op x e d f = record { row = x; is = e; issued = record {
-  dot = λ y g. ap (λ (z : Row). z.dot) (some_same x y (sym e ∙ g)) ∙ d;
-  own = λ y g. subst (λ z. among dot_cmp op.removes z ≡ false) (sym (ap (λ (z : Row). z.dot) (some_same x y (sym e ∙ g)) ∙ d)) f;
-} }
+adds r op x e d f = record {
+  row = x;
+  is = e;
+  issued = record {
+    dot = λ y g. ap (λ (z : Row). z.dot) (some_same x y (sym e ∙ g)) ∙ d;
+    own = λ y g. subst (λ z. among dot_cmp op.removes z ≡ false) (sym (ap (λ (z : Row). z.dot) (some_same x y (sym e ∙ g)) ∙ d)) f;
+  };
+}
 
 removes_only : (r : Reading) (op : Operation) → op.add ≡ None → Issued r op
 removes_only r op e = record { dot = λ y g. absurd (none_some y (sym e ∙ g)); own = λ y g. absurd (none_some y (sym e ∙ g)) }

@@ -39,8 +39,8 @@ module _ {K : Type 0} where
   put_post r e (t ∷ ts) names =
       let f : t.post.station.node.name ≡ t.site.node.name = names t (inl refl) in
       let head : (if is_named r.post.station.node.name t.post.station.node.name then r.post else t.post) ≡ (if is_named r.site.node.name t.site.node.name then r else t).post =
-          (λ i. if is_named (e i) (f i) then r.post else t.post)
-          ∙ (elim (is_named r.site.node.name t.site.node.name) as (λ b. (if b then r.post else t.post) ≡ (if b then r else t).post) [ true ↦ refl | false ↦ refl ]) in
+      (λ i. if is_named (e i) (f i) then r.post else t.post)
+      ∙ (elim (is_named r.site.node.name t.site.node.name) as (λ b. (if b then r.post else t.post) ≡ (if b then r else t).post) [ true ↦ refl | false ↦ refl ]) in
       let rest = put_post r e ts (λ u h. names u (inr h)) in
       λ i. head i ∷ rest i
 
@@ -49,7 +49,7 @@ module _ {K : Type 0} where
   put_site r [] = refl
   put_site r (t ∷ ts) =
       let head : (if is_named r.site.node.name t.site.node.name then r.site else t.site) ≡ (if is_named r.site.node.name t.site.node.name then r else t).site =
-          elim (is_named r.site.node.name t.site.node.name) as (λ b. (if b then r.site else t.site) ≡ (if b then r else t).site) [ true ↦ refl | false ↦ refl ] in
+      elim (is_named r.site.node.name t.site.node.name) as (λ b. (if b then r.site else t.site) ≡ (if b then r else t).site) [ true ↦ refl | false ↦ refl ] in
       let rest = put_site r ts in
       λ i. head i ∷ rest i
 
@@ -79,17 +79,19 @@ module _ {K : Type 0} where
       let rest = looked_up g m name ts (λ u h. names u (inr h)) in
       elim (is_named name t.site.node.name) as (λ b. is_named name t.site.node.name ≡ b → Found (record { weigher = g; codec = m; trios = t ∷ ts }) name ⊎ Missing (record { weigher = g; codec = m; trios = t ∷ ts }) name) [
         | true ↦ λ f. inl (record {
-            trio = t; there = inl refl; named = f;
-            post = ap (λ b. cond b (Some t.post) (find (λ (p : Post K). is_named name p.station.node.name) (map (λ t. t.post) ts))) (ap (is_named name) e ∙ f);
-            site = ap (λ b. cond b (Some t.site) (find (λ (s : Site). is_named name s.node.name) (map (λ t. t.site) ts))) f;
-          })
+          trio = t;
+          there = inl refl;
+          named = f;
+          post = ap (λ b. cond b (Some t.post) (find (λ (p : Post K). is_named name p.station.node.name) (map (λ t. t.post) ts))) (ap (is_named name) e ∙ f);
+          site = ap (λ b. cond b (Some t.site) (find (λ (s : Site). is_named name s.node.name) (map (λ t. t.site) ts))) f;
+        })
         | false ↦ λ f.
-          let post = ap (λ b. cond b (Some t.post) (find (λ (p : Post K). is_named name p.station.node.name) (map (λ t. t.post) ts))) (ap (is_named name) e ∙ f) in
-          let site = ap (λ b. cond b (Some t.site) (find (λ (s : Site). is_named name s.node.name) (map (λ t. t.site) ts))) f in
-          elim rest [
-            | inl h ↦ inl (record { trio = h.trio; there = inr h.there; named = h.named; post = post ∙ h.post; site = site ∙ h.site })
-            | inr h ↦ inr (record { post = post ∙ h.post; site = site ∙ h.site })
-          ]
+            let post = ap (λ b. cond b (Some t.post) (find (λ (p : Post K). is_named name p.station.node.name) (map (λ t. t.post) ts))) (ap (is_named name) e ∙ f) in
+            let site = ap (λ b. cond b (Some t.site) (find (λ (s : Site). is_named name s.node.name) (map (λ t. t.site) ts))) f in
+            elim rest [
+              | inl h ↦ inl (record { trio = h.trio; there = inr h.there; named = h.named; post = post ∙ h.post; site = site ∙ h.site })
+              | inr h ↦ inr (record { post = post ∙ h.post; site = site ∙ h.site })
+            ]
       ] refl
 
 module _ {K : Type 0} (k : Knowledge K) (view : View K) (laws : Laws k view) where
@@ -107,13 +109,13 @@ module _ {K : Type 0} (k : Knowledge K) (view : View K) (laws : Laws k view) whe
           | inl a ↦ elim (split z iz) [
             | inl b ↦ a ∙ sym b
             | inr b ↦
-              let e : r.site.node.name ≡ z.site.node.name = ap (λ (x : Trio K). x.site.node.name) (sym a) ∙ same in
-              absurd (true≢false (sym (subst (λ n. is_named r.site.node.name n ≡ true) e (text_itself r.site.node.name)) ∙ b.1))
+                let e : r.site.node.name ≡ z.site.node.name = ap (λ (x : Trio K). x.site.node.name) (sym a) ∙ same in
+                absurd (true≢false (sym (subst (λ n. is_named r.site.node.name n ≡ true) e (text_itself r.site.node.name)) ∙ b.1))
           ]
           | inr a ↦ elim (split z iz) [
             | inl b ↦
-              let e : r.site.node.name ≡ y.site.node.name = ap (λ (x : Trio K). x.site.node.name) (sym b) ∙ sym same in
-              absurd (true≢false (sym (subst (λ n. is_named r.site.node.name n ≡ true) e (text_itself r.site.node.name)) ∙ a.1))
+                let e : r.site.node.name ≡ y.site.node.name = ap (λ (x : Trio K). x.site.node.name) (sym b) ∙ sym same in
+                absurd (true≢false (sym (subst (λ n. is_named r.site.node.name n ≡ true) e (text_itself r.site.node.name)) ∙ a.1))
             | inr b ↦ h.one y z a.0 b.0 same
           ]
         ];

@@ -126,11 +126,17 @@ module _ {K : Type 0} (k : Knowledge K) (view : View K) (laws : Laws k view) whe
   rest_act j t h here o p s v fits =
       let st = t.post.station in
       let same : forgets (peer view t) ≡ peer view (trio_with k view laws t (volatile k st o.node) p.node t.past None None) =
-          λ i. record { name = sym v.name i; state = view.sem (sym v.known i); count = sym v.count i; past = λ n. view.sem (t.past n); held = []; acked = λ q. 0; sent = map (letter_of view) t.post.sent } in
+      λ i. record { name = sym v.name i; state = view.sem (sym v.known i); count = sym v.count i; past = λ n. view.sem (t.past n); held = []; acked = λ q. 0; sent = map (letter_of view) t.post.sent } in
       record {
-        past = t.past; kept = λ n h. refl; held = λ x h. absurd h; now = now_still k view laws t (h.each t here) o.node.count v.count;
+        past = t.past;
+        kept = λ n h. refl;
+        held = λ x h. absurd h;
+        now = now_still k view laws t (h.each t here) o.node.count v.count;
         name = sym s.node.name ∙ v.name ∙ (h.each t here).node.name;
-        node = s.node; fits = fits; reply = s.reply; effects = s.effects;
+        node = s.node;
+        fits = fits;
+        reply = s.reply;
+        effects = s.effects;
         moves = subst (Moves view.joins (Peers view j.trios) (peer view t)) same (moves_forget view.joins (Peers view j.trios) (peer view t) h.sound (t, here, refl));
         letter = no_letters o.node.name o.node.count t.past o.letter p.letter v.letter s.letter;
         fresh = none_fresh (Peers view j.trios) _;
@@ -161,9 +167,9 @@ module _ {K : Type 0} (k : Knowledge K) (view : View K) (laws : Laws k view) whe
       let up : t.post.station.node.up ≡ t.site.node.up = (h.each t here).node.up in
       subst (λ b. Together (Act k view laws j t) (refused_if (not b) Down (let r : Result (Move K) Refusal = Err BadMessage in r)) (kept_by saves (act_step by_operations j.weigher t.site.node (Of (Deliver bytes)) now))) (sym up)
       (go t.site.node.up) where
-    go : (b : Bool) → Together (Act k view laws j t) (refused_if (not b) Down (let r : Result (Move K) Refusal = Err BadMessage in r)) (kept_by saves (refused_if (not b) Down (let r : Result (Outcome Ops) Refusal = Err BadMessage in r)))
-    go true = refl
-    go false = refl
+        go : (b : Bool) → Together (Act k view laws j t) (refused_if (not b) Down (let r : Result (Move K) Refusal = Err BadMessage in r)) (kept_by saves (refused_if (not b) Down (let r : Result (Outcome Ops) Refusal = Err BadMessage in r)))
+        go true = refl
+        go false = refl
 
   pub stop_together : (j : Joint K) (t : Trio K) → Holds view j → In j.trios t → (now : ℕ) (saves : Bool)
       → Together (Act k view laws j t) (station_step k j.codec j.weigher t.post.station Stop now saves) (kept_by saves (act_step by_operations j.weigher t.site.node Stop now))

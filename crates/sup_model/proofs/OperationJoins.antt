@@ -117,9 +117,9 @@ named_alike a ops h d e =
     elim (named a d) as (λ b. named a d ≡ b → b ≡ true) [
       | true ↦ λ _. refl
       | false ↦ λ free.
-        let f = added_of_known a d (h.dots d ∙ known_of_named ops d e) free in
-        let l : HasLive ops f.0 = subst (λ rows. among row_cmp rows f.0 ≡ true) h.rows (live-from a f.0 (subst (λ x. named a x ≡ false) f.2 free) f.1) in
-        absurd (true≢false (sym e ∙ ap (named ops) f.2 ∙ (live-parts ops f.0 l).0))
+          let f = added_of_known a d (h.dots d ∙ known_of_named ops d e) free in
+          let l : HasLive ops f.0 = subst (λ rows. among row_cmp rows f.0 ≡ true) h.rows (live-from a f.0 (subst (λ x. named a x ≡ false) f.2 free) f.1) in
+          absurd (true≢false (sym e ∙ ap (named ops) f.2 ∙ (live-parts ops f.0 l).0))
     ] refl
 
 alike_back : (a ops : Ops) → Alike a ops → Alike ops a

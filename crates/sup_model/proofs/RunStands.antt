@@ -64,7 +64,12 @@ module _ {K : Type 0} (k : Knowledge K) (view : View K) (laws : Laws k view) whe
   ran_by j s steps h (Ok x) (Ok y) a later =
       let r = later a.joint a.holds in
       record {
-        joint = r.joint; answer = Ok y.answer; rest = r.answers; mid = y.world; allows = inl (refl, refl); holds = r.holds;
+        joint = r.joint;
+        answer = Ok y.answer;
+        rest = r.answers;
+        mid = y.world;
+        allows = inl (refl, refl);
+        holds = r.holds;
         runs = subst (λ w. Run w steps r.answers (model_of r.joint)) (sym a.model) r.runs;
         told = a.answer;
         told_rest = subst (λ w. AllAlike view (real_answers k w steps) r.answers) (sym a.real) r.told;
@@ -160,22 +165,26 @@ module _ {K : Type 0} (k : Knowledge K) (view : View K) (laws : Laws k view) whe
 
     carries : (s : Trio K) → In j.trios s → (mail : Mail K) (m : Message Ops) → In s.post.sent mail → In s.site.sent m → MailStands view s.post.station.node.name s.post.station.node.count s.past mail m → Carries k view pairs mail m
     carries s here (a_delta by to n whole content) m sent also e =
-        let comes = λ (t : Trio K) (there : In j.trios t). let c : Comes k view laws j s t s.site.node.name (a_delta by to n whole content) m = record { sender = here; receiver = there; named = refl; sent = sent; also = also; stands = e } in c in
-        (e.1, λ p is_in same.
-          let c = in-map pair_of j.trios p is_in in
-          let u = c.0 in
-          let named : to ≡ u.post.station.node.name = same ∙ ap (λ (x : Pair K). x.site.node.name) c.2 ∙ sym (h.each u c.1).node.name in
-          let b = (delta_arrival k view laws j s u s.site.node.name by to n whole content m h (comes u c.1) named).brings in
-          subst (λ (x : Pair K). view.stands (k.with_more x.post.station.node.known content) (x.site.node.known ++ m.content)) (sym c.2)
-          (brought k view laws u.post.station.node u.site.node content m.content (h.each u c.1).node.state b))
+        let comes = λ (t : Trio K) (there : In j.trios t). let c : Comes k view laws j s t s.site.node.name (a_delta by to n whole content) m = record { sender = here; receiver = there; named = refl; sent = sent; also = also; stands = e } in c in (
+          e.1,
+          λ p is_in same.
+              let c = in-map pair_of j.trios p is_in in
+              let u = c.0 in
+              let named : to ≡ u.post.station.node.name = same ∙ ap (λ (x : Pair K). x.site.node.name) c.2 ∙ sym (h.each u c.1).node.name in
+              let b = (delta_arrival k view laws j s u s.site.node.name by to n whole content m h (comes u c.1) named).brings in
+              subst (λ (x : Pair K). view.stands (k.with_more x.post.station.node.known content) (x.site.node.known ++ m.content)) (sym c.2)
+              (brought k view laws u.post.station.node u.site.node content m.content (h.each u c.1).node.state b),
+        )
     carries s here (a_push by to content) m sent also e =
-        let comes = λ (t : Trio K) (there : In j.trios t). let c : Comes k view laws j s t s.site.node.name (a_push by to content) m = record { sender = here; receiver = there; named = refl; sent = sent; also = also; stands = e } in c in
-        (e.1, λ p is_in same.
-          let c = in-map pair_of j.trios p is_in in
-          let u = c.0 in
-          let b = (push_arrival k view laws j s u s.site.node.name by to content m h (comes u c.1)).brings in
-          subst (λ (x : Pair K). view.stands (k.with_more x.post.station.node.known content) (x.site.node.known ++ m.content)) (sym c.2)
-          (brought k view laws u.post.station.node u.site.node content m.content (h.each u c.1).node.state b))
+        let comes = λ (t : Trio K) (there : In j.trios t). let c : Comes k view laws j s t s.site.node.name (a_push by to content) m = record { sender = here; receiver = there; named = refl; sent = sent; also = also; stands = e } in c in (
+          e.1,
+          λ p is_in same.
+              let c = in-map pair_of j.trios p is_in in
+              let u = c.0 in
+              let b = (push_arrival k view laws j s u s.site.node.name by to content m h (comes u c.1)).brings in
+              subst (λ (x : Pair K). view.stands (k.with_more x.post.station.node.known content) (x.site.node.known ++ m.content)) (sym c.2)
+              (brought k view laws u.post.station.node u.site.node content m.content (h.each u c.1).node.state b),
+        )
     carries s here (an_ack by to n) m sent also e = e.1
 
     carries_all : (s : Trio K) → In j.trios s → (xs : List (Mail K)) (ms : List (Message Ops)) → ((x : Mail K) → In xs x → In s.post.sent x) → ((m : Message Ops) → In ms m → In s.site.sent m)

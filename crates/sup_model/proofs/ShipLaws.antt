@@ -98,13 +98,21 @@ module _ {K : Type 0} (k : Knowledge K) (view : View K) (laws : Laws k view) whe
   sent_act : (j : Joint K) (t : Trio K) → Holds view j → In j.trios t → (to : Bytes) (whole : Bool) (content : K) → view.valid content
       → ((q : Peer Bytes view.S) → Peers view j.trios q → to ≡ q.name → Gives view.joins (peer view t) t.post.station.node.count (view.sem content) q)
       → (let mail = a_delta t.post.station.node.name to t.post.station.node.count whole content in
-        let m : Move K = record { done = record { reply = Sent; effects = [] }; letter = Some mail; station = t.post.station } in
-        Act k view laws j t m (only t.site.node Sent [] (Some (record { to = to; kind = is_delta; content = t.site.node.known }))))
+      let m : Move K = record { done = record { reply = Sent; effects = [] }; letter = Some mail; station = t.post.station } in
+      Act k view laws j t m (only t.site.node Sent [] (Some (record { to = to; kind = is_delta; content = t.site.node.known }))))
   sent_act j t h here to whole content vc gives =
       let s = h.each t here in
       let l = h.sound.local (peer view t) (t, here, refl) in
       record {
-        past = t.past; kept = λ n h. refl; held = s.held; now = s.now; name = refl; node = s.node; fits = s.fits; reply = refl; effects = refl;
+        past = t.past;
+        kept = λ n h. refl;
+        held = s.held;
+        now = s.now;
+        name = refl;
+        node = s.node;
+        fits = s.fits;
+        reply = refl;
+        effects = refl;
         moves = moves_stay view.joins (Peers view j.trios) (peer view t) h.sound (t, here, refl);
         letter = (refl, refl, refl, omega arith, laws.moves t.post.station.node.known (t.past t.post.station.node.count) t.site.node.known s.node.state s.now l.now_below l.now_above, vc);
         fresh = λ x e. subst (λ y. Fresh view.joins (Peers view j.trios) (peer view t) (letter_of view y)) (sym (some_same _ x e)) (λ q w same. gives q w same);
@@ -129,23 +137,23 @@ module _ {K : Type 0} (k : Knowledge K) (view : View K) (laws : Laws k view) whe
       let mail = mail_of_shipment st.node.name to in
       elim (missing == 0) as (λ b. (missing == 0) ≡ b → Shipping j t to C (mail (if b then None else if nat_le missing (length st.held) then Some part else Some all))) [
         | true ↦ λ e.
-          let none : st.node.count - st.acked u.post.station.node.name ≡ 0 = subst (λ n. st.node.count - st.acked n ≡ 0) named (eqb-true missing 0 e) in
-          let below = up_to_date view.joins W (peer view t) (peer view u) h.sound wp (u, there, refl) none in
-          (refl, covers_below u.post.station.node.known st.node.known u.site.node.known t.site.node.known (h.each u there).node.state (h.each t here).node.state (pair_clear j u t h there here) below)
+            let none : st.node.count - st.acked u.post.station.node.name ≡ 0 = subst (λ n. st.node.count - st.acked n ≡ 0) named (eqb-true missing 0 e) in
+            let below = up_to_date view.joins W (peer view t) (peer view u) h.sound wp (u, there, refl) none in
+            (refl, covers_below u.post.station.node.known st.node.known u.site.node.known t.site.node.known (h.each u there).node.state (h.each t here).node.state (pair_clear j u t h there here) below)
         | false ↦ λ _.
-          elim (nat_le missing (length st.held)) as (λ b. nat_le missing (length st.held) ≡ b → Shipping j t to C (mail (if b then Some part else Some all))) [
-            | true ↦ λ e. sent_act j t h here to false (joined k.with_more k.nothing newest) (together_valid newest newest_ok) (λ q w same.
-              let fits : missing ≤ length (map view.sem st.held) = subst (λ n. missing ≤ n) (sym (sem-length k view laws st.held)) (leb-true missing (length st.held) e) in
-              let g = part_gives view.joins W (peer view t) to h.sound wp fits q w same in
-              let f = subst (λ xs. Gives view.joins (peer view t) st.node.count (joined view.joins.join view.joins.nothing xs) q) (sem-newest k view laws missing st.held) g in
-              gives_alike (peer view t) q st.node.count (joined view.joins.join view.joins.nothing (map view.sem newest)) (view.sem (joined k.with_more k.nothing newest)) f (joined_down newest newest_ok) (joined_up newest newest_ok))
-            | false ↦ λ _. sent_act j t h here to true st.node.known (laws.is_valid st.node.known t.site.node.known (h.each t here).node.state) (λ q w same. whole_gives view.joins W (peer view t) h.sound wp q w)
-          ] refl
+            elim (nat_le missing (length st.held)) as (λ b. nat_le missing (length st.held) ≡ b → Shipping j t to C (mail (if b then Some part else Some all))) [
+              | true ↦ λ e. sent_act j t h here to false (joined k.with_more k.nothing newest) (together_valid newest newest_ok) (λ q w same.
+                  let fits : missing ≤ length (map view.sem st.held) = subst (λ n. missing ≤ n) (sym (sem-length k view laws st.held)) (leb-true missing (length st.held) e) in
+                  let g = part_gives view.joins W (peer view t) to h.sound wp fits q w same in
+                  let f = subst (λ xs. Gives view.joins (peer view t) st.node.count (joined view.joins.join view.joins.nothing xs) q) (sem-newest k view laws missing st.held) g in
+                  gives_alike (peer view t) q st.node.count (joined view.joins.join view.joins.nothing (map view.sem newest)) (view.sem (joined k.with_more k.nothing newest)) f (joined_down newest newest_ok) (joined_up newest newest_ok))
+              | false ↦ λ _. sent_act j t h here to true st.node.known (laws.is_valid st.node.known t.site.node.known (h.each t here).node.state) (λ q w same. whole_gives view.joins W (peer view t) h.sound wp q w)
+            ] refl
       ] refl
 
   ship_checked : (up named : Bool) (saves : Bool) (C : Type 0) (R : Move K → Outcome Ops → Type 0) (x : Result (Move K) Refusal) (o : Outcome Ops) → passes_greatest o.node ≡ false → o.saves ≡ false
       → (let ok : Result (Outcome Ops) Refusal = Ok o in Answers C R x ok
-        → Answers C R (refused_if (not up) Down (refused_if named UnknownNode x)) (kept_by saves (refused_if (not up) Down (refused_if named UnknownNode ok))))
+      → Answers C R (refused_if (not up) Down (refused_if named UnknownNode x)) (kept_by saves (refused_if (not up) Down (refused_if named UnknownNode ok))))
   ship_checked false named saves C R x o fits still h = refl
   ship_checked true true saves C R x o fits still h = refl
   ship_checked true false saves C R x o fits still h =

@@ -67,11 +67,11 @@ both-then_do R Q (Err r) (Ok b) f g h next = absurd h
 own_clash : (m : Node Ops) (op : Operation) → NoClash m.known → Issued (reading by_operations m) op → NoClash (m.known ++ op ∷ [])
 own_clash m op clear i x y hx hy same =
     let late = λ (x y : Row) (old : HasRow m.known x) (new : op.add ≡ Some y) (same : x.dot ≡ y.dot).
-        let d = same ∙ i.dot y new in
-        let at : x.dot.node ≡ m.name = ap (λ (z : Dot). z.node) d in
-        let g : x.dot.counter ≤ greatest m.known m.name = subst (λ n. x.dot.counter ≤ greatest m.known n) at (added-greatest m.known x old) in
-        let c : x.dot.counter ≡ greatest m.known m.name + 1 = ap (λ (z : Dot). z.counter) d in
-        let none : ⊥ = omega (arith, g, c) in none in
+    let d = same ∙ i.dot y new in
+    let at : x.dot.node ≡ m.name = ap (λ (z : Dot). z.node) d in
+    let g : x.dot.counter ≤ greatest m.known m.name = subst (λ n. x.dot.counter ≤ greatest m.known n) at (added-greatest m.known x old) in
+    let c : x.dot.counter ≡ greatest m.known m.name + 1 = ap (λ (z : Dot). z.counter) d in
+    let none : ⊥ = omega (arith, g, c) in none in
     row-append m.known (op ∷ []) x (x ≡ y) hx
     (λ old. row-append m.known (op ∷ []) y (x ≡ y) hy (λ other. clear x y old other same) (λ new. absurd (late x y old (row-one op y new) same)))
     (λ new. row-append m.known (op ∷ []) y (x ≡ y) hy (λ other. absurd (late y x other (row-one op x new) (sym same))) (λ also. some_same y x (sym (row-one op y also) ∙ row-one op x new)))
@@ -111,7 +111,11 @@ module _ {K : Type 0} (k : Knowledge K) (view : View K) (laws : Laws k view) whe
 
   pub reconciled_stands : (s : Weigher) (n : Node K) (m : Node Ops) → NodeStands view n m → NodeStands view (reconciled k s n) (reconciled by_operations s m)
   reconciled_stands s n m h = record {
-    name = h.name; up = h.up; count = h.count; state = h.state; newest = h.newest;
+    name = h.name;
+    up = h.up;
+    count = h.count;
+    state = h.state;
+    newest = h.newest;
     supervisor = after_stands n.supervisor m.supervisor (wanted k s n) (wanted by_operations s m) h.supervisor (wanted_same s n m h.name h.state);
   }
 
@@ -132,7 +136,11 @@ module _ {K : Type 0} (k : Knowledge K) (view : View K) (laws : Laws k view) whe
         effects = λ j. last_stops (h.supervisor.kept j) leaving ++ effects_alike (left n.supervisor leaving) (left m.supervisor leaving) (wanted k s n') (wanted by_operations s m') u ws j;
         letter = tt;
         node = record {
-          name = h.name; up = h.up; count = ap (λ c. c + 1) h.count; state = state; newest = one;
+          name = h.name;
+          up = h.up;
+          count = ap (λ c. c + 1) h.count;
+          state = state;
+          newest = one;
           supervisor = after_stands (left n.supervisor leaving) (left m.supervisor leaving) (wanted k s n') (wanted by_operations s m') u ws;
         };
         saves = refl;
@@ -161,7 +169,11 @@ module _ {K : Type 0} (k : Knowledge K) (view : View K) (laws : Laws k view) whe
         letter = tt;
         saves = refl;
         node = record {
-          name = h.name; up = h.up; count = h.count; state = h.state; newest = h.newest;
+          name = h.name;
+          up = h.up;
+          count = h.count;
+          state = h.state;
+          newest = h.newest;
           supervisor = record {
             boot = u.boot;
             given = ap (λ g. g + 1) u.given;
@@ -218,9 +230,16 @@ module _ {K : Type 0} (k : Knowledge K) (view : View K) (laws : Laws k view) whe
       let also : Result (Outcome Ops) Refusal = Ok (only (stopped m) Stopped [] None) in
       both-refused_if (OutcomeStands view) (not n.up) (not m.up) Down ok also (ap not h.up)
       (record {
-        reply = refl; effects = refl; letter = tt; saves = refl;
+        reply = refl;
+        effects = refl;
+        letter = tt;
+        saves = refl;
         node = record {
-          name = h.name; up = refl; count = h.count; state = h.state; newest = tt;
+          name = h.name;
+          up = refl;
+          count = h.count;
+          state = h.state;
+          newest = tt;
           supervisor = record { boot = h.supervisor.boot; given = h.supervisor.given; kept = refl; window = laws.forgets n.supervisor.window m.supervisor.window h.supervisor.window };
         };
       })
@@ -228,7 +247,11 @@ module _ {K : Type 0} (k : Knowledge K) (view : View K) (laws : Laws k view) whe
       let n' = booted n in
       let m' = booted m in
       let after : NodeStands view n' m' = record {
-        name = h.name; up = refl; count = h.count; state = h.state; newest = tt;
+        name = h.name;
+        up = refl;
+        count = h.count;
+        state = h.state;
+        newest = tt;
         supervisor = record { boot = ap (λ b. b + 1) h.supervisor.boot; given = refl; kept = refl; window = laws.forgets n.supervisor.window m.supervisor.window h.supervisor.window };
       } in
       let ok : Result (Outcome K) Refusal = Ok (keeps k s n' (Boot (n.supervisor.boot + 1)) None) in

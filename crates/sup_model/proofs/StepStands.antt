@@ -53,11 +53,16 @@ module _ {K : Type 0} (k : Knowledge K) (view : View K) (laws : Laws k view) whe
       let s = h.each t here in
       let r = trio_with k view laws t m.station o.node a.past m.letter o.letter in
       record {
-        old = t; there = here; new = r; goes = act_goes k view laws j t m o s a;
+        old = t;
+        there = here;
+        new = r;
+        goes = act_goes k view laws j t m o s a;
         real = real_put j r a.node.name (λ u is_in. (h.each u is_in).node.name);
         model = model_put j r;
         answer = record {
-          at = s.node.name; reply = a.reply; effects = a.effects;
+          at = s.node.name;
+          reply = a.reply;
+          effects = a.effects;
           number = numbers_same k view laws t.post.station.node.name t.post.station.node.count t.past m.station.node.name m.station.node.count a.past t.post.sent t.site.sent s.mail m.letter o.letter a.letter;
         };
       }
@@ -89,7 +94,7 @@ module _ {K : Type 0} (k : Knowledge K) (view : View K) (laws : Laws k view) whe
   -- the node's part of a step
   node_part : (C : Type 0) (j : Joint K) (t : Trio K) → Holds view j → In j.trios t → (b c : Bool) → b ≡ c → (x : Result (Move K) Refusal) (y : Result (Outcome Ops) Refusal) → Answers C (Act k view laws j t) x y
       → Answers C (Stepping0 j) (refused_if (not b) UnknownNode (then_do x (λ m. let r : Result (RealStepped K) Refusal = Ok (real_acted (real_of j) t.post m) in r)))
-        (refused_if (not c) UnknownNode (then_do y (λ o. let r : Result Stepped Refusal = Ok (acted (model_of j) t.site o) in r)))
+      (refused_if (not c) UnknownNode (then_do y (λ o. let r : Result Stepped Refusal = Ok (acted (model_of j) t.site o) in r)))
   node_part C j t h here b c e x y a = answers-refused_if C (Stepping0 j) (not b) (not c) UnknownNode _ _ (ap not e) (done C j t h here x y a)
 
   here_same : (j : Joint K) → Holds view j → (to : Bytes) → is_some (post_of (real_of j) to) ≡ is_some (site_of (model_of j) to)
@@ -123,11 +128,11 @@ module _ {K : Type 0} (k : Knowledge K) (view : View K) (laws : Laws k view) whe
       node_part C j f.trio h f.there (is_some (post_of (real_of j) to)) (is_some (site_of (model_of j) to)) (here_same j h to) (station_step k j.codec j.weigher f.trio.post.station (Of (Ship to)) now saves)
       (kept_by saves (act_step by_operations j.weigher f.trio.site.node (Of (Ship to)) now))
       (weaker (Covers g.trio.site.node.known f.trio.site.node.known) C (Act k view laws j f.trio) covered _ _ both) where
-    weaker : {A B : Type 0} (C D : Type 0) (R : A → B → Type 0) → (C → D) → (x : Result A Refusal) (y : Result B Refusal) → Answers C R x y → Answers D R x y
-    weaker C D R f (Ok a) (Ok b) h = h
-    weaker C D R f (Err r) (Err q) h = h
-    weaker C D R f (Ok a) (Err q) h = h
-    weaker C D R f (Err r) (Ok b) h = (h.0, f h.1)
+        weaker : {A B : Type 0} (C D : Type 0) (R : A → B → Type 0) → (C → D) → (x : Result A Refusal) (y : Result B Refusal) → Answers C R x y → Answers D R x y
+        weaker C D R f (Ok a) (Ok b) h = h
+        weaker C D R f (Err r) (Err q) h = h
+        weaker C D R f (Ok a) (Err q) h = h
+        weaker C D R f (Err r) (Ok b) h = (h.0, f h.1)
 
   other_at : (j : Joint K) (at : Bytes) (f : Found j at) → Holds view j → (act : Deed) (now : ℕ) (saves : Bool) → target_here (real_of j) act ≡ target_is_here (model_of j) act
       → Together (Act k view laws j f.trio) (post_step k (real_of j) f.trio.post.station act now saves) (kept_by saves (act_step by_operations j.weigher f.trio.site.node act now))
@@ -179,9 +184,14 @@ module _ {K : Type 0} (k : Knowledge K) (view : View K) (laws : Laws k view) whe
         | inr e ↦ elim (option_cases (slice_get s.site.sent n)) [
           | inl f ↦ absurd (subst (λ p. BothOrNone Q (Some e.0) p) f (subst (λ o. BothOrNone Q o (slice_get s.site.sent n)) e.1 b))
           | inr f ↦ inl (record {
-              mail = e.0; message = f.0; mailed = e.1; also = f.1; sent = get-in s.post.sent n e.0 e.1; sent_also = get-in s.site.sent n f.0 f.1;
-              stands = subst (λ p. BothOrNone Q (Some e.0) p) f.1 (subst (λ o. BothOrNone Q o (slice_get s.site.sent n)) e.1 b);
-            })
+            mail = e.0;
+            message = f.0;
+            mailed = e.1;
+            also = f.1;
+            sent = get-in s.post.sent n e.0 e.1;
+            sent_also = get-in s.site.sent n f.0 f.1;
+            stands = subst (λ p. BothOrNone Q (Some e.0) p) f.1 (subst (λ o. BothOrNone Q o (slice_get s.site.sent n)) e.1 b);
+          })
         ]
       ]
 
@@ -219,7 +229,12 @@ module _ {K : Type 0} (k : Knowledge K) (view : View K) (laws : Laws k view) whe
     arrived f b name (inr m) = answers-missing C (Stepping0 j) (post_of (real_of j) name) (site_of (model_of j) name) UnknownNode (RealArrives b.mail) (ModelArrives b.message) m.post m.site
     arrived f b name (inl t) =
         let comes : Comes k view laws j f.trio t.trio from b.mail b.message = record {
-          sender = f.there; receiver = t.there; named = text_same from f.trio.site.node.name f.named; sent = b.sent; also = b.sent_also; stands = b.stands;
+          sender = f.there;
+          receiver = t.there;
+          named = text_same from f.trio.site.node.name f.named;
+          sent = b.sent;
+          also = b.sent_also;
+          stands = b.stands;
         } in
         let x = arrives k j.weigher t.trio.post.station b.mail drop saves in
         let y = kept_by saves (deliver by_operations j.weigher t.trio.site.node from b.message (drop == 0)) in
@@ -278,7 +293,10 @@ module _ {K : Type 0} (k : Knowledge K) (view : View K) (laws : Laws k view) whe
 
   stepping : (j : Joint K) → Holds view j → (C : Type 0) (x : Result (RealStepped K) Refusal) (y : Result Stepped Refusal) → Answers C (Stepping0 j) x y → After (λ (s : Stepped). Clean s.world) y → Answers C Stepping x y
   stepping j h C (Ok x) (Ok y) a clean = record {
-    joint = with_trio j a.new; real = a.real; model = a.model; answer = a.answer;
+    joint = with_trio j a.new;
+    real = a.real;
+    model = a.model;
+    answer = a.answer;
     holds = goes_holds k view laws j a.old a.new h a.there a.goes (subst Clean a.model clean);
   }
   stepping j h C (Err r) (Err q) a clean = a

@@ -1,9 +1,9 @@
 -- One act of one node, over what it knows (this project): events, stops and restarts, and what comes of messages.
-use Rattle.std.specs.Prelude.{ℕ, ◌+◌, Bool, true, false, not, ◌&&◌, List, [], ◌∷◌, ◌++◌, Option, Some, None, Result, Ok, Err, if◌then◌else◌}
+use Rattle.std.specs.Prelude.{ℕ, ◌+◌, Bool, true, false, not, ◌&&◌, List, [], Option, Some, None, Result, Ok}
 use Rattle.sup_specs.specs.Values.{Bytes}
 use Rattle.sup_placement.specs.Place.{Weigher}
 use Rattle.sup_local_sup.specs.declared.effect.Effect.{Effect}
-use Rattle.sup_local_sup.specs.Supervising.{Supervisor, forgotten, wanted_after, wanted_effects}
+use Rattle.sup_local_sup.specs.Supervising.{forgotten, wanted_after, wanted_effects}
 use Rattle.sup_replica.specs.declared.event.Act.{Act}
 use Rattle.sup_replica.specs.declared.event.Act.TheVariants.{Event as Of, Stop, Restart}
 use Rattle.sup_replica.specs.declared.done.Reply.{Reply}

@@ -1,7 +1,7 @@
 -- A node that ships the deltas that a peer has not acknowledged: Almeida, Shoker, Baquero 2018, 6, with this project's bounded buffer.
 -- A station's answer and what it becomes are one function of the station, the act, the moment and whether a save would hold: the first half
 -- makes it ready, and the second, which is the save, either carries it out whole or refuses and changes nothing.
-use Rattle.std.specs.Prelude.{ℕ, ◌-◌, Bool, true, false, not, nat_lt, List, [], Option, Some, None, Result, Ok, Err, if◌then◌else◌}
+use Rattle.std.specs.Prelude.{ℕ, ◌-◌, Bool, true, not, nat_lt, List, [], Option, Some, None, Result, Ok, Err, if◌then◌else◌}
 use Rattle.std.specs.Option.{unwrap_or, option_map}
 use Rattle.sup_specs.specs.Values.{Bytes}
 use Rattle.sup_anti_entropy.specs.Buffers.{Shipment, holds_more, shipment_of, acknowledged_by}
@@ -17,7 +17,7 @@ use Rattle.sup_replica.specs.declared.letter.LetterKind.TheVariants.{Part, Whole
 use Rattle.sup_replica.specs.declared.refusal.Refusal.{Refusal}
 use Rattle.sup_replica.specs.declared.refusal.Refusal.TheVariants.{Down, UnknownNode, UpToDate, BadMessage, WrongReceiver}
 use Rattle.sup_replica.specs.Checks.{refused_if, then_do}
-use Rattle.sup_replica.specs.Nodes.{Knowledge, Node, Kind, delta, push, ack, Message, Told, Outcome, is_named}
+use Rattle.sup_replica.specs.Nodes.{Knowledge, Node, Kind, delta, push, Message, Told, Outcome, is_named}
 use Rattle.sup_replica.specs.Acts.{act_step, deliver, kept_by}
 
 pub record Station (K : Type 0) : Type 0 where

@@ -19,7 +19,12 @@ impl Config {
     pub fn new(intensity: u16, period: u32, buffer: u16) -> Option<Config>
         ensures { result ≡ config_of intensity period buffer }
     {
-        if intensity <= 1000 && 1 <= period && period <= 1_000_000 && 1 <= buffer && buffer <= 1024 {
+        if intensity <= 1000
+            && 1 <= period
+            && period <= 1_000_000
+            && 1 <= buffer
+            && buffer <= 1024
+        {
             Some(Config {
                 intensity,
                 period,

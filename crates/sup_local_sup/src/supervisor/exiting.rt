@@ -17,15 +17,14 @@ ghost use Rattle.sup_specs.specs.declared.limits.TheConstants.{MAX as MOST};
 
 use crate::effect::{Effect, Effects, Incarnation};
 use crate::exits::is_due;
-use crate::keeping::{keep_others, renew, stops_of_others};
 use crate::fault::SupFault;
+use crate::keeping::{keep_others, renew, stops_of_others};
 use crate::kept::Entry;
 use crate::leaving::Ruling;
 use crate::supervisor::Supervisor;
 use crate::verdict::Verdict;
 use std::alloc::{AllocError, Global};
-use sup_specs::MAX;
-use sup_specs::{ChildId, ExitReason, Plain};
+use sup_specs::{ChildId, ExitReason, MAX, Plain};
 
 impl Supervisor {
     /// Makes of an exit what it calls for: the child begins its next run in its place, or is done and kept no longer, or
@@ -120,13 +119,7 @@ impl Supervisor {
     }
 
     /// What an exit calls for: of `now` and the last restart the later moment counts. Nothing changes.
-    pub fn ruling(
-        &self,
-        id: &ChildId,
-        inc: Incarnation,
-        reason: &ExitReason,
-        now: u64,
-    ) -> Ruling
+    pub fn ruling(&self, id: &ChildId, inc: Incarnation, reason: &ExitReason, now: u64) -> Ruling
         ensures ruling { result ≡ ruling self.now id.now inc reason.now now }
         ensures counted { (dot : Dot) → result ≡ Finish dot → IsCounted dot }
     {
@@ -205,12 +198,7 @@ impl Supervisor {
 }
 
 // The begin of a run.
-fn run(
-    alloc: Global,
-    id: &ChildId,
-    inc: Incarnation,
-    entry: &Entry,
-) -> Result<Effect, AllocError>
+fn run(alloc: Global, id: &ChildId, inc: Incarnation, entry: &Entry) -> Result<Effect, AllocError>
     ensures { IfOk result (λ e. e ≡ start (id.now, record entry.now { inc = inc })) }
 {
     let id = id.try_clone(alloc)?;

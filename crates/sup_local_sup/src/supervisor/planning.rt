@@ -8,7 +8,9 @@ ghost use Rattle.sup_local_sup.specs.declared.fault.SupFault.TheVariants.{CountS
 
 use crate::effect::{Effect, Effects};
 use crate::fault::SupFault;
-use crate::keeping::{copied, fresh, keep_others, keep_wanted, push_fresh, push_starts, stops, stops_of_others};
+use crate::keeping::{
+    copied, fresh, keep_others, keep_wanted, push_fresh, push_starts, stops, stops_of_others,
+};
 use crate::kept::Entry;
 use crate::leaving::Leaving;
 use crate::plan::Plan;

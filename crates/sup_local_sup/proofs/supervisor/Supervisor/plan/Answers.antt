@@ -13,7 +13,7 @@ use Rattle.sup_local_sup.proofs.supervisor.Supervisor.plan.Goals as goal
 pub push_fresh-requires-clause-new : goal.push_fresh-requires-clause-new
 push_fresh-requires-clause-new c =
     let kept : c.keep_wanted.new.kept.entries ++ c.in_ok-more.more.items ≡ staying c.in_ok-kept.kept.entries c.args.wanted.now ++ numbered c.self.inside.boot c.self.inside.given (newly c.in_ok-kept.kept.entries c.args.wanted.now) =
-        (λ j. (c.keep_wanted.ensures.entries ∙ ap (λ es. staying es c.args.wanted.now) c.in_ok-reserve.ensures.entries) j ++ c.in_ok-more.ensures.items j) in
+    (λ j. (c.keep_wanted.ensures.entries ∙ ap (λ es. staying es c.args.wanted.now) c.in_ok-reserve.ensures.entries) j ++ c.in_ok-more.ensures.items j) in
     subst (λ es. IsDistinct bytes_eq (keys_of es)) (sym kept) (kept_once c.self.inside.boot c.self.inside.given c.in_ok-kept.kept.entries c.args.wanted.now c.requires.ids (subst (λ es. IsDistinct bytes_eq (keys_of es)) c.in_ok-reserve.ensures.entries c.in_ok-reserve.ensures.unique))
 
 pub invariant_of-result : goal.invariant_of-result
