@@ -1,5 +1,5 @@
 //! A story of ten calls that goes on where a growth was refused: the call answers so and changes nothing, and made once
-//! more it does what it should have done. `bench/refused_restarts.sh` refuses each growth of the story in turn.
+//! more it does what it should have done.
 use crate::given::{child, inc, keep_two, try_child, try_id};
 use crate::seen::{Seen, expect_effects, expect_gave_up, expect_kept, expect_restarted};
 use std::process::Abort;
