@@ -58,16 +58,14 @@ fn a_restart_as_old_as_the_period_counts_and_an_older_one_does_not(rt: HostRunti
 fn restarts_that_are_far_apart_never_give_up(rt: HostRuntime) {
     let mut s = supervisor(&rt, 2, 7);
     let _effects = keep_one(&rt, &mut s, permanent(&rt, "web", 1));
-    let mut k = 1;
-    for now in [0, 4, 8, 12] {
+    for (k, next, now) in [(1, 2, 0), (2, 3, 4), (3, 4, 8), (4, 5, 12)] {
         expect_restarted(
             &rt,
             &crash(&rt, &mut s, "web", k, now),
-            ("start", "web", 1, k + 1),
+            ("start", "web", 1, next),
         );
-        k += 1;
     }
-    expect_gave_up(&rt, &crash(&rt, &mut s, "web", k, 13), &[]);
+    expect_gave_up(&rt, &crash(&rt, &mut s, "web", 5, 13), &[]);
 }
 
 #[test]
