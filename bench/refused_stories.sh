@@ -1,0 +1,33 @@
+#!/usr/bin/env bash
+# Runs tests that tell a story with each allocation refused in turn: a call that is refused changes nothing, and made once
+# more it does what it should have done, so each run of the test passes.
+# It needs a C compiler, for the few lines that refuse. The first run proves and builds the crates of tests.
+# usage: bench/refused_stories.sh [CRATE TEST ...]
+set -eu
+top=$(cd "$(dirname "$0")/.." && pwd)
+work=$(mktemp -d)
+trap 'rm -rf "$work"' EXIT
+[ $# -gt 0 ] || set -- sup_local_sup_tests refused::a_refused_growth_changes_nothing_and_the_call_can_be_made_again
+"${CC:-cc}" -shared -fPIC -O1 -o "$work/refuse.so" "$top/bench/refuse_allocation.c" -ldl
+
+while [ $# -ge 2 ]; do
+  crate=$1
+  story=$2
+  shift 2
+  tests=$top/crates/$crate/out/${crate}_tests
+  [ -x "$tests" ] || (cd "$top/crates/$crate" && rt test >"$work/built")
+  refused=0
+  while :; do
+    : >"$work/mark"
+    status=0
+    REFUSED=$((refused + 1)) LD_PRELOAD=$work/refuse.so "$tests" "$story" >"$work/output" 2>&1 9>"$work/mark" || status=$?
+    [ -s "$work/mark" ] || break
+    refused=$((refused + 1))
+    if [ "$status" != 0 ]; then
+      echo "$story: allocation $refused refused: status $status"
+      cat "$work/output"
+      exit 1
+    fi
+  done
+  echo "$story: $refused allocations, each refused in turn, and the story ends well"
+done
