@@ -1,5 +1,5 @@
 -- Rows of others put in where their dots are new.
-use Rattle.std.proofs.Common.{◌≡◌, Bool, true, false, ◌&&◌, ◌||◌, cond, not, List, [], ◌∷◌, ◌++◌, ◌+◌, ◌<◌, ℕ, length, get_or, take, suc, zero, Option, Some, None, IsSome, refl, sym, ap, ◌∙◌, subst}
+use Rattle.std.proofs.Common.{◌≡◌, Bool, true, false, ◌&&◌, ◌||◌, cond, not, List, [], ◌∷◌, ◌++◌, ◌+◌, ◌<◌, ℕ, length, get_or, take, Option, Some, None, IsSome, refl, sym, ap, ◌∙◌, subst}
 use Rattle.std.specs.declared.cmp.Ordering.{Ordering}
 use Rattle.std.specs.Ordering.{eq_by_cmp}
 use Rattle.std.specs.Option.{option_or}
@@ -17,11 +17,11 @@ use Rattle.sup_causal.specs.declared.dot.Dot.{Dot}
 use Rattle.sup_causal.specs.Dots.{dot_cmp, dot_eq}
 use Rattle.sup_causal.specs.DotLaws.{dot_total}
 use Rattle.sup_dot_store.specs.declared.dot_fun.DotFun.{DotFun}
-use Rattle.sup_dot_store.specs.Index.{IsIndex, PutsRow, TakesDots, HasSameRows, HasFreshRow, StopsAt, row_value, value_under}
+use Rattle.sup_dot_store.specs.Index.{IsIndex, PutsRow, TakesDots, HasSameRows, HasFreshTwice, row_value, value_under}
 use mathlib.Core.Bool.{false≢true}
-use Rattle.std.proofs.Common.{arith}
-use Rattle.std.proofs.Math.Bool.{or-false}
-use Rattle.std.proofs.lemmas.List.Folds.{list_any-append, list_any_more}
+use Rattle.std.proofs.Math.Bool.{or-false, or-true}
+use Rattle.sup_dot_store.proofs.FreshTwice.{repeat_later}
+use Rattle.std.proofs.lemmas.List.Folds.{list_any-append, list_any_more, list_any_at}
 use Rattle.sup_specs.specs.Rising.{among}
 
 -- of two dots that a test tells apart, neither is the other
@@ -141,7 +141,7 @@ module _ {K V : Type 0} {cmp : K → K → Ordering} (total : IsTotalOrder cmp) 
   }
 
   -- a dot that has a value is among the rows
-  listed : (rows : List (K × Dot × V)) (k : K) (d : Dot) → IsSome (row_value cmp rows k d) → list_any (λ r. dot_eq d r.1) rows ≡ true
+  pub listed : (rows : List (K × Dot × V)) (k : K) (d : Dot) → IsSome (row_value cmp rows k d) → list_any (λ r. dot_eq d r.1) rows ≡ true
   listed [] k d some = absurd (false≢true some)
   listed (r ∷ rows) k d some = at (eq_by_cmp cmp k r.0) (dot_eq d r.1) some (listed rows k d)
     where
@@ -150,64 +150,23 @@ module _ {K V : Type 0} {cmp : K → K → Ordering} (total : IsTotalOrder cmp) 
       at true false h later = later h
       at false false h later = later h
 
-  -- a dot that has no value under any key is not
-  unlisted : (rows : List (K × Dot × V)) (d : Dot) → ((k : K) → row_value cmp rows k d ≡ None) → list_any (λ r. dot_eq d r.1) rows ≡ false
-  unlisted [] d none = refl
-  unlisted (r ∷ rows) d none = at (dot_eq d r.1) refl (unlisted rows d)
+  -- the dot of the next row, which stands in no other, has no key
+  pub not_yet : (now : BTreeMap K (DotFun V)) (keys : BTreeMap Dot K) → IsIndex cmp now keys → (row : K × Dot × V) (left : List (K × Dot × V))
+      → IsPutSoFar cmp mine all (row ∷ left) old now → mine row.1 ≡ false → ¬ HasFreshTwice mine all → get dot_cmp keys row.1 ≡ None
+  not_yet now keys index row left h fresh none = at (get dot_cmp keys row.1) refl
     where
-      at : (e : Bool) → dot_eq d r.1 ≡ e → (((k : K) → row_value cmp rows k d ≡ None) → list_any (λ q. dot_eq d q.1) rows ≡ false) → (e || list_any (λ q. dot_eq d q.1) rows) ≡ false
-      at true is later =
-          let here : cond (eq_by_cmp cmp r.0 r.0 && dot_eq d r.1) (Some r.2) (row_value cmp rows r.0 d) ≡ None = none r.0 in
-          let hit : (eq_by_cmp cmp r.0 r.0 && dot_eq d r.1) ≡ true = λ i. (eq_by_cmp_equiv total).refl r.0 i && is i in
-          let found : Some r.2 ≡ None = sym (ap (λ b. cond b (Some r.2) (row_value cmp rows r.0 d)) hit) ∙ here in absurd cc
-      at false is later =
-          later (λ k. sym (ap (λ b. cond b (Some r.2) (row_value cmp rows k d)) (and_right (eq_by_cmp cmp k r.0) (dot_eq d r.1) is)) ∙ none k)
+      at : (o : Option K) → get dot_cmp keys row.1 ≡ o → o ≡ None
+      at None is = refl
+      at (Some key) is =
+          let put : list_any (λ r. dot_eq row.1 r.1) h.put ≡ true = listed h.put key row.1 (subst IsSome (h.fresh key row.1 fresh) (index.there row.1 key is)) in
+          absurd (none (subst (HasFreshTwice mine) (sym h.cut) (repeat_later mine h.put left row fresh put)))
 
-  -- a dot that has a key stands among the rows that were put in
-  pub stops_at_taken : (now : BTreeMap K (DotFun V)) (keys : BTreeMap Dot K) → IsIndex cmp now keys → (row : K × Dot × V) (left : List (K × Dot × V))
-      → IsPutSoFar cmp mine all (row ∷ left) old now → mine row.1 ≡ false → IsSome (get dot_cmp keys row.1) → StopsAt cmp mine all true now
-  stops_at_taken now keys index row left h fresh some = record {
-    put = h.put;
-    next = row;
-    rest = left;
-    cut = h.cut;
-    fresh = fresh;
-    values = h.fresh;
-    taken = at (get dot_cmp keys row.1) refl some;
-  }
-    where
-      at : (o : Option K) → get dot_cmp keys row.1 ≡ o → IsSome o → list_any (λ r. dot_eq row.1 r.1) h.put ≡ true
-      at None is found = absurd (false≢true found)
-      at (Some key) is found = listed h.put key row.1 (subst IsSome (h.fresh key row.1 fresh) (index.there row.1 key is))
-
-  -- a dot that has no value does not
-  pub stops_at_free : (now : BTreeMap K (DotFun V)) (row : K × Dot × V) (left : List (K × Dot × V))
-      → IsPutSoFar cmp mine all (row ∷ left) old now → mine row.1 ≡ false → ((k : K) → value_under cmp now k row.1 ≡ None) → StopsAt cmp mine all false now
-  stops_at_free now row left h fresh none = record {
-    put = h.put;
-    next = row;
-    rest = left;
-    cut = h.cut;
-    fresh = fresh;
-    values = h.fresh;
-    taken = unlisted h.put row.1 (λ k. sym (h.fresh k row.1 fresh) ∙ none k);
-  }
-
-  -- what is said where it stopped holds where no row has changed since
-  pub stops_same : (is_taken : Bool) (now new : BTreeMap K (DotFun V)) → HasSameRows cmp now new → StopsAt cmp mine all is_taken now → StopsAt cmp mine all is_taken new
-  stops_same is_taken now new same s = record {
-    put = s.put;
-    next = s.next;
-    rest = s.rest;
-    cut = s.cut;
-    fresh = s.fresh;
-    values = λ k d outside. same k d ∙ s.values k d outside;
-    taken = s.taken;
-  }
-
-  -- the row at which it stopped
-  pub stopped_row : (is_taken : Bool) (now : BTreeMap K (DotFun V)) → StopsAt cmp mine all is_taken now → HasFreshRow mine all is_taken
-  stopped_row is_taken now s = record { before = s.put; row = s.next; rest = s.rest; cut = s.cut; fresh = s.fresh; taken = s.taken }
+  pub next_is_fresh : (now : BTreeMap K (DotFun V)) (row : K × Dot × V) (left : List (K × Dot × V)) → IsPutSoFar cmp mine all (row ∷ left) old now → mine row.1 ≡ false → list_any (λ r. not (mine r.1)) all ≡ true
+  next_is_fresh now row left h fresh =
+      ap (list_any (λ r. not (mine r.1))) h.cut
+      ∙ list_any-append (λ r. not (mine r.1)) h.put (row ∷ left)
+      ∙ ap (λ b. list_any (λ r. not (mine r.1)) h.put || (not b || list_any (λ r. not (mine r.1)) left)) fresh
+      ∙ or-true (list_any (λ r. not (mine r.1)) h.put)
 
   -- what was put in and is taken out again leaves what was there
   pub all_undone : (now again : BTreeMap K (DotFun V)) (taken : Dot → Bool)
@@ -252,26 +211,9 @@ module _ (known : Dot → Bool) where
       at true e = apart known d dot e outside
       at false e = refl
 
--- where a row's dot is not known, there is a first such row
 module _ {K V : Type 0} (known : Dot → Bool) where
-  fresh_first : (r : K × Dot × V) (rs : List (K × Dot × V)) → known r.1 ≡ false → HasFreshRow known (r ∷ rs) false
-  fresh_first r rs fresh = record { before = []; row = r; rest = rs; cut = refl; fresh = fresh; taken = refl }
-
-  fresh_later : (r : K × Dot × V) (rs : List (K × Dot × V)) → HasFreshRow known rs false → (b : Bool) → known r.1 ≡ b → HasFreshRow known (r ∷ rs) false
-  fresh_later r rs h false outside = fresh_first r rs outside
-  fresh_later r rs h true inside = record {
-    before = r ∷ h.before;
-    row = h.row;
-    rest = h.rest;
-    cut = ap (λ qs. r ∷ qs) h.cut;
-    fresh = h.fresh;
-    taken = (λ i. (turned h.row.1 r.1 ∙ apart known r.1 h.row.1 inside h.fresh) i || h.taken i);
-  }
-
-  pub fresh_row_at : (rows : List (K × Dot × V)) (i : ℕ) (row : K × Dot × V) → i < length rows → row ≡ get_or rows i row → known row.1 ≡ false → HasFreshRow known rows false
-  fresh_row_at [] i row within is fresh = absurd (omega arith)
-  fresh_row_at (r ∷ rs) zero row within is fresh = fresh_first r rs (ap (λ (q : K × Dot × V). known q.1) (sym is) ∙ fresh)
-  fresh_row_at (r ∷ rs) (suc i) row within is fresh = fresh_later r rs (fresh_row_at rs i row (omega arith) is fresh) (known r.1) refl
+  pub fresh_at : (rows : List (K × Dot × V)) (i : ℕ) (row : K × Dot × V) → i < length rows → row ≡ get_or rows i row → known row.1 ≡ false → list_any (λ r. not (known r.1)) rows ≡ true
+  fresh_at rows i row within is fresh = list_any_at (λ r. not (known r.1)) rows i row within (ap (λ (q : K × Dot × V). not (known q.1)) (sym is) ∙ ap not fresh)
 
   -- one row more is looked at
   pub dots_more : (rows : List (K × Dot × V)) (i : ℕ) (row : K × Dot × V) (before now : Bool) (d : Dot) → i < length rows → row ≡ get_or rows i row

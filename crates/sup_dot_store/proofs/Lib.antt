@@ -12,3 +12,4 @@ pub mod IndexMade
 pub mod RowValues
 pub mod JoinedInPlace
 pub mod FreshRows
+pub mod FreshTwice

@@ -1,10 +1,10 @@
 -- Where the dots of functions under keys stand (this project).
-use Rattle.std.specs.Prelude.{◌≡◌, ℕ, ◌+◌, Bool, true, false, ◌&&◌, cond, List, [], ◌∷◌, ◌++◌, length, Option, Some, None, IsSome, is_some}
+use Rattle.std.specs.Prelude.{◌≡◌, ℕ, ◌+◌, ◌<◌, Bool, true, false, ◌&&◌, cond, List, [], ◌∷◌, length, Option, Some, None, IsSome, is_some}
 use Rattle.std.specs.declared.cmp.Ordering.{Ordering}
 use Rattle.std.specs.declared.cmp.Ordering.TheVariants.{Less}
 use Rattle.std.specs.Ordering.{eq_by_cmp}
 use Rattle.std.specs.BTreeMap.{BTreeMap, get, values}
-use Rattle.std.specs.List.{list_any}
+use Rattle.std.specs.List.{count_by}
 use Rattle.sup_causal.specs.declared.dot.Dot.{Dot}
 use Rattle.sup_causal.specs.Dots.{dot_cmp, dot_eq}
 use Rattle.sup_dot_store.specs.declared.dot_fun.DotFun.{DotFun}
@@ -65,25 +65,11 @@ abbrev pub row_value : {K V : Type 0} → (K → K → Ordering) → List (K × 
 row_value cmp [] k d = None
 row_value cmp (r ∷ rs) k d = cond (eq_by_cmp cmp k r.0 && dot_eq d r.1) (Some r.2) (row_value cmp rs k d)
 
--- a row of a dot that is not known; taken says whether its dot stands among the rows before it
-pub record HasFreshRow {K V : Type 0} (known : Dot → Bool) (rows : List (K × Dot × V)) (is_taken : Bool) : Type 0 where
-  pub before : List (K × Dot × V)
-  pub row : K × Dot × V
-  pub rest : List (K × Dot × V)
-  pub cut : rows ≡ before ++ row ∷ rest
-  pub fresh : known row.1 ≡ false
-  pub taken : list_any (λ r. dot_eq row.1 r.1) before ≡ is_taken
-
--- The rows are put in up to one that isn't: those of them whose dots are not known are there, and no others. The dot
--- of that one is not known; taken says whether it stands among the rows before it.
-pub record StopsAt {K V : Type 0} (cmp : K → K → Ordering) (known : Dot → Bool) (rows : List (K × Dot × V)) (is_taken : Bool) (new : BTreeMap K (DotFun V)) : Type 0 where
-  pub put : List (K × Dot × V)
-  pub next : K × Dot × V
-  pub rest : List (K × Dot × V)
-  pub cut : rows ≡ put ++ next ∷ rest
-  pub fresh : known next.1 ≡ false
-  pub values : (k : K) (d : Dot) → known d ≡ false → value_under cmp new k d ≡ row_value cmp put k d
-  pub taken : list_any (λ r. dot_eq next.1 r.1) put ≡ is_taken
+-- a dot that is not known stands in two of the rows
+pub record HasFreshTwice {K V : Type 0} (known : Dot → Bool) (rows : List (K × Dot × V)) : Type 0 where
+  pub dot : Dot
+  pub fresh : known dot ≡ false
+  pub twice : 1 < count_by (λ r. dot_eq dot r.1) rows
 
 -- one value more, where none was
 abbrev pub PutsRow : {K V : Type 0} → (K → K → Ordering) → K → Dot → V → BTreeMap K (DotFun V) → BTreeMap K (DotFun V) → Type 0

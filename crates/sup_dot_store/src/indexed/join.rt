@@ -1,16 +1,17 @@
 //! The rows of others, taken in where they are new, and rows taken away where others know that they are gone.
 
-ghost use Rattle.std.specs.Prelude.{◌≡◌, ◌≤◌, ◌&&◌, not, true, false, None, IsSome, IfOk, IfErr, IfSome, IfNone, OnOk, OnErr};
+ghost use Rattle.std.specs.Prelude.{◌≡◌, ◌≤◌, ◌↔◌, ◌&&◌, not, true, false, IsSome, IsTrue, IfOk, IfSome, IfNone, OnOk, OnErr, IsErrOf};
 ghost use Rattle.std.specs.Option.{option_copied};
-ghost use Rattle.std.specs.BTreeMap.{get, values};
+ghost use Rattle.std.specs.BTreeMap.{values};
 ghost use Rattle.std.specs.List.{list_any};
+ghost use Rattle.std.specs.List.Sorted.{IsSortedByKey};
 ghost use Rattle.sup_specs.specs.Rising.{among};
 ghost use Rattle.sup_causal.specs.declared.dot.Dot.{Dot as DotValue};
 ghost use Rattle.sup_causal.specs.Join.{lesser};
 ghost use Rattle.sup_causal.specs.Dots.{has, dot_cmp, dot_eq};
 ghost use Rattle.sup_dot_store.specs.Contents.{stores_of};
-ghost use Rattle.sup_dot_store.specs.Index.{AreGone, HasFreshRow, HasLesser, HasSameRows, PutsRow, StopsAt, TakesDots, count_in, row_value, value_under};
-ghost use Rattle.sup_dot_store.specs.declared.indexed.join.NotPut.TheVariants.{TwoKeys, OutOfMemory};
+ghost use Rattle.sup_dot_store.specs.Index.{AreGone, HasFreshTwice, HasLesser, HasSameRows, TakesDots, count_in, row_value, value_under};
+ghost use Rattle.sup_dot_store.specs.declared.indexed.join.NotPut.TheVariants.{TwoKeys};
 ghost use Rattle.sup_dot_store.specs.Outcomes.{outcome};
 
 use crate::dot_fun::DotFun;
@@ -24,7 +25,7 @@ use sup_specs::Plain;
 /// Why rows were not put in.
 #[derive(Clone, Copy, Debug, PartialEq, Eq)]
 pub enum NotPut {
-    /// A dot has values under two keys.
+    /// By the rows a dot has values under two keys, or two values under one.
     TwoKeys,
     OutOfMemory,
 }
@@ -41,64 +42,55 @@ impl From<AllocError> for NotPut {
 }
 
 impl<K: Plain, V: Plain> Indexed<K, V> {
-    /// Puts in those of the rows whose dots the context lacks. An `Err` changes no row, and comes at such a row: `TwoKeys`
-    /// where its dot stands among the rows before it, `OutOfMemory` where it doesn't.
+    /// Puts in those of the rows whose dots the context lacks. An `Err` changes no row, and comes only where there is such a
+    /// row: `TwoKeys` exactly where such a dot stands in two of the rows, `OutOfMemory` where none does.
     pub fn put_fresh(
         &mut self,
         alloc: Global,
-        rows: Vec<(K, Dot, V)>,
+        mut rows: Vec<(K, Dot, V)>,
         mine: &CausalContext,
     ) -> Result<(), NotPut>
         requires { (k : K) (d : DotValue) → IsSome (value_under K.cmp self.old.stores k d) → has mine.now d ≡ true }
         ensures known { (k : K) (d : DotValue) → has mine.now d ≡ true → value_under K.cmp self.new.stores k d ≡ value_under K.cmp self.old.stores k d }
         ensures fresh { OnOk result ((k : K) (d : DotValue) → has mine.now d ≡ false → value_under K.cmp self.new.stores k d ≡ row_value K.cmp rows.items k d) }
         ensures err { OnErr result (HasSameRows K.cmp self.old.stores self.new.stores) }
-        ensures two_keys { IfErr result (λ fault. fault ≡ TwoKeys → HasFreshRow (has mine.now) rows.items true) }
-        ensures no_memory { IfErr result (λ fault. fault ≡ OutOfMemory → HasFreshRow (has mine.now) rows.items false) }
+        ensures two_keys { IsErrOf result TwoKeys ↔ HasFreshTwice (has mine.now) rows.items }
+        ensures fresh_row { OnErr result (list_any (λ r. not (has mine.now r.1)) rows.items ≡ true) }
     {
+        // In order, rows of one dot are neighbours. Neither the order nor the look at them takes memory, so that a refused
+        // growth never hides a dot that stands twice.
+        rows.sort_unstable_by_key(|row| row.1);
+        if repeats_fresh(&rows, mine) {
+            return Err(NotPut::TwoKeys);
+        }
         let fresh = fresh_dots(alloc, &rows, mine)?;
-        if let Err(fault) = self.put_rows(alloc, rows, mine) {
+        if let Err(refused) = self.put_rows(alloc, rows, mine) {
             self.take_dots(&fresh);
-            return Err(fault);
+            return Err(NotPut::from(refused));
         }
         Ok(())
     }
 
-    // Puts in those of the rows whose dots the context lacks. An `Err` stops at such a row, with those before it put in.
+    // Puts in those of the rows whose dots the context lacks. An `Err` comes at such a row, with those before it put in.
     fn put_rows(
         &mut self,
         alloc: Global,
         rows: Vec<(K, Dot, V)>,
         mine: &CausalContext,
-    ) -> Result<(), NotPut>
-        requires { (k : K) (d : DotValue) → IsSome (value_under K.cmp self.old.stores k d) → has mine.now d ≡ true }
+    ) -> Result<(), AllocError>
+        requires known { (k : K) (d : DotValue) → IsSome (value_under K.cmp self.old.stores k d) → has mine.now d ≡ true }
+        requires once { ¬ HasFreshTwice (has mine.now) rows.items }
         ensures known { (k : K) (d : DotValue) → has mine.now d ≡ true → value_under K.cmp self.new.stores k d ≡ value_under K.cmp self.old.stores k d }
         ensures fresh { OnOk result ((k : K) (d : DotValue) → has mine.now d ≡ false → value_under K.cmp self.new.stores k d ≡ row_value K.cmp rows.items k d) }
         ensures brought { (k : K) (d : DotValue) → has mine.now d ≡ false → IsSome (value_under K.cmp self.new.stores k d) → IsSome (row_value K.cmp rows.items k d) }
-        ensures two_keys { IfErr result (λ fault. fault ≡ TwoKeys → StopsAt K.cmp (has mine.now) rows.items true self.new.stores) }
-        ensures no_memory { IfErr result (λ fault. fault ≡ OutOfMemory → StopsAt K.cmp (has mine.now) rows.items false self.new.stores) }
+        ensures err { OnErr result (list_any (λ r. not (has mine.now r.1)) rows.items ≡ true) }
     {
         for (key, dot, value) in rows {
             if mine.contains(&dot) {
                 continue;
             }
-            self.put_new(alloc, key, dot, value)?;
+            self.put(alloc, key, dot, value)?;
         }
-        Ok(())
-    }
-
-    // Puts in a row. `TwoKeys` exactly where its dot has a value. An `Err` changes no row.
-    fn put_new(&mut self, alloc: Global, key: K, dot: Dot, value: V) -> Result<(), NotPut>
-        ensures put { OnOk result (PutsRow K.cmp key dot value self.old.stores self.new.stores) }
-        ensures free { OnOk result (get dot_cmp self.old.keys dot ≡ None) }
-        ensures err { OnErr result (HasSameRows K.cmp self.old.stores self.new.stores) }
-        ensures two_keys { IfErr result (λ fault. fault ≡ TwoKeys → IsSome (get dot_cmp self.old.keys dot)) }
-        ensures no_memory { IfErr result (λ fault. fault ≡ OutOfMemory → get dot_cmp self.old.keys dot ≡ None) }
-    {
-        if self.keys.contains_key(&dot) {
-            return Err(NotPut::TwoKeys);
-        }
-        self.put(alloc, key, dot, value)?;
         Ok(())
     }
 
@@ -137,6 +129,20 @@ impl<K: Plain, V: Plain> Indexed<K, V> {
     }
 }
 
+// Whether a dot that the context lacks stands in two of the rows, which go by their dots.
+fn repeats_fresh<K: Plain, V: Plain>(rows: &[(K, Dot, V)], mine: &CausalContext) -> bool
+    requires { IsSortedByKey (λ r. r.1) dot_cmp rows.now }
+    ensures { IsTrue result ↔ HasFreshTwice (has mine.now) rows.now }
+{
+    for later in 1..rows.len() {
+        let dot = rows[later].1;
+        if rows[later - 1].1 == dot && !mine.contains(&dot) {
+            return true;
+        }
+    }
+    false
+}
+
 // The dots of the rows that the context lacks. An `Err` comes only where there is one.
 fn fresh_dots<K: Plain, V: Plain>(
     alloc: Global,
@@ -144,7 +150,7 @@ fn fresh_dots<K: Plain, V: Plain>(
     mine: &CausalContext,
 ) -> Result<Vec<Dot>, AllocError>
     ensures dots { IfOk result (λ dots. (d : DotValue) → among dot_cmp dots.items d ≡ (not (has mine.now d) && list_any (λ r. dot_eq d r.1) rows.now)) }
-    ensures err { OnErr result (HasFreshRow (has mine.now) rows.now false) }
+    ensures err { OnErr result (list_any (λ r. not (has mine.now r.1)) rows.now ≡ true) }
 {
     let mut dots = Vec::new(alloc);
     for (_, dot, _) in rows {

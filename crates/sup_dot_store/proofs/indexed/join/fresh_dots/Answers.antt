@@ -2,7 +2,7 @@ use Rattle.std.proofs.Common.{◌&&◌, not, sym, ap, ◌∙◌, take_all, arith
 use Rattle.std.specs.List.{list_any}
 use Rattle.sup_causal.specs.Dots.{has, dot_cmp, dot_eq}
 use Rattle.sup_specs.specs.Rising.{among}
-use Rattle.sup_dot_store.proofs.FreshRows.{on_err, known_stays, fresh_added, dots_more, fresh_row_at}
+use Rattle.sup_dot_store.proofs.FreshRows.{on_err, known_stays, fresh_added, dots_more, fresh_at}
 use Rattle.sup_dot_store.proofs.indexed.join.fresh_dots.Goals as goal
 
 pub loop-dot-preserved-then-contains : goal.loop-dot-preserved-then-contains
@@ -23,7 +23,7 @@ pub returns-in_err-push-clause-err : goal.returns-in_err-push-clause-err
 returns-in_err-push-clause-err g c =
     let mine = has c.args.mine.now in
     let row = c.loop-dot-item.result in
-    on_err c.from_residual.result (fresh_row_at mine c.args.rows.now c.loop-dot.dot-index row c.loop-dot-test.true c.loop-dot-item.is (sym c.contains.ensures.has ∙ c.if-contains.false))
+    on_err c.from_residual.result (fresh_at mine c.args.rows.now c.loop-dot.dot-index row c.loop-dot-test.true c.loop-dot-item.is (sym c.contains.ensures.has ∙ c.if-contains.false))
 
 pub returns-clause-dots : goal.returns-clause-dots
 returns-clause-dots g c d =
