@@ -204,3 +204,17 @@ fn rows_keep_their_order_their_forms_and_their_cover(rt: HostRuntime) {
         assert!(rt; fault(&rt, text.as_bytes()) == wanted, "{rows}");
     }
 }
+
+// The deltas of a member with a child and of its replacement, but for the order.
+#[test]
+fn rows_or_dots_of_a_message_that_stand_backwards_are_refused(rt: HostRuntime) {
+    for text in [
+        "{\"ctx\":{\"cloud\":[],\"vector\":{\"a\":2}},\"from\":\"a\",\"kind\":\"delta\",\"n\":2,\"rows\":[[\"child\",\"web\",[\"a\",2],{\"arg\":\"\",\"kind\":\"worker\",\"restart\":\"permanent\",\"shutdown\":5000}],[\"member\",\"a\",[\"a\",1],{\"label\":\"\"}]],\"to\":\"b\",\"v\":1}",
+        "{\"ctx\":{\"cloud\":[[\"a\",3],[\"a\",2]],\"vector\":{}},\"from\":\"a\",\"kind\":\"push\",\"rows\":[[\"child\",\"web\",[\"a\",3],{\"arg\":\"x\",\"kind\":\"worker\",\"restart\":\"permanent\",\"shutdown\":5000}]],\"to\":\"b\",\"v\":1}",
+    ] {
+        assert!(rt;
+            fault(&rt, text.as_bytes()) == Some(WireFault::NotCanonical),
+            "{text}"
+        );
+    }
+}

@@ -1,38 +1,30 @@
 //! Messages that are made by hand, and texts that come back as they were read.
-use crate::given::{ACK, DELTA, child_id, node, worker};
+use crate::given::{ACK, ACK_OF_JOINED, ACK_OF_REMOVED, DELTA, JOINED, REMOVED, REPLACED, STARTED};
+use crate::made::{ack, first_sent, joined_sent, removed_sent, replaced_sent, second_sent};
 use std::process::Abort;
-use sup_causal::Lattice;
-use sup_tables::Tables;
 use sup_wire::{Message, decode, encode};
 
-#[test]
-fn an_acknowledgement_has_one_text(rt: HostRuntime) {
-    let message = Message::Ack {
-        from: node(&rt, "b"),
-        to: node(&rt, "a"),
-        n: 1,
-    };
-    let text = encode(rt.alloc(), &message).expect(&rt, "room");
-    assert!(rt; text.as_slice() == ACK.as_bytes());
+fn expect_text(rt: &(impl Abort + AllocGlobal), message: Option<Message>, wanted: &str) {
+    let message = message.expect(rt, "room");
+    let text = encode(rt.alloc(), &message).expect(rt, "room");
+    assert!(rt; text.as_slice() == wanted.as_bytes(), "{wanted}");
 }
 
-// The delta of a child behind another one, as its sender makes it.
+// A node removes a child while another one replaces it.
 #[test]
-fn the_delta_of_a_second_child_has_one_text(rt: HostRuntime) {
-    let (first, _) = Tables::empty(rt.alloc())
-        .put_child(node(&rt, "a"), child_id(&rt, "x"), worker(&rt))
-        .expect(&rt, "a child");
-    let (delta, _) = first
-        .put_child(node(&rt, "a"), child_id(&rt, "y"), worker(&rt))
-        .expect(&rt, "a child");
-    let message = Message::Delta {
-        from: node(&rt, "a"),
-        to: node(&rt, "b"),
-        n: 2,
-        delta,
-    };
-    let text = encode(rt.alloc(), &message).expect(&rt, "room");
-    assert!(rt; text.as_slice() == DELTA.as_bytes());
+fn the_messages_of_an_add_beside_a_removal_have_one_text(rt: HostRuntime) {
+    expect_text(&rt, joined_sent(&rt), JOINED);
+    expect_text(&rt, Some(ack(&rt, "b", 2, "a")), ACK_OF_JOINED);
+    expect_text(&rt, removed_sent(&rt), REMOVED);
+    expect_text(&rt, Some(ack(&rt, "a", 2, "b")), ACK_OF_REMOVED);
+    expect_text(&rt, replaced_sent(&rt), REPLACED);
+}
+
+#[test]
+fn the_messages_of_two_deltas_in_turn_have_one_text(rt: HostRuntime) {
+    expect_text(&rt, first_sent(&rt), STARTED);
+    expect_text(&rt, Some(ack(&rt, "b", 1, "a")), ACK);
+    expect_text(&rt, second_sent(&rt), DELTA);
 }
 
 #[test]
@@ -40,6 +32,12 @@ fn each_text_is_written_as_it_was_read(rt: HostRuntime) {
     for text in [
         ACK,
         DELTA,
+        STARTED,
+        JOINED,
+        REMOVED,
+        REPLACED,
+        ACK_OF_JOINED,
+        ACK_OF_REMOVED,
         "{\"ctx\":{\"cloud\":[[\"b\",2],[\"a\",4]],\"vector\":{\"a\":2,\"c\":1}},\"from\":\"a\",\"kind\":\"push\",\"rows\":[],\"to\":\"b\",\"v\":1}",
         "{\"ctx\":{\"cloud\":[],\"vector\":{\"a\":1}},\"from\":\"a\",\"kind\":\"push\",\"rows\":[[\"member\",\"a\",[\"a\",1],{\"label\":\"\\\"q\\\\\"}]],\"to\":\"b\",\"v\":1}",
         "{\"ctx\":{\"cloud\":[],\"vector\":{\"a\":2}},\"from\":\"a\",\"kind\":\"delta\",\"n\":9007199254740991,\"rows\":[[\"child\",\"x\",[\"a\",2],{\"arg\":\"z\",\"kind\":\"k\",\"restart\":\"temporary\",\"shutdown\":\"brutal_kill\"}],[\"name\",\"n\",[\"a\",1],\"x\"]],\"to\":\"b\",\"v\":1}",

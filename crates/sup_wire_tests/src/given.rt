@@ -4,9 +4,31 @@ use sup_specs::{ChildId, ChildSpec, Kind, MemberInfo, NodeName, Restart, Shutdow
 
 pub(crate) const ACK: &str = "{\"from\":\"b\",\"kind\":\"ack\",\"n\":1,\"to\":\"a\",\"v\":1}";
 
+/// Of a first child, from its sender's first change.
+pub(crate) const STARTED: &str =
+    "{\"ctx\":{\"cloud\":[],\"vector\":{\"a\":1}},\"from\":\"a\",\"kind\":\"delta\",\"n\":1,\"rows\":[[\"child\",\"x\",[\"a\",1],{\"arg\":\"\",\"kind\":\"worker\",\"restart\":\"permanent\",\"shutdown\":5000}]],\"to\":\"b\",\"v\":1}";
+
 /// A delta of one child behind another one that the sender knows.
 pub(crate) const DELTA: &str =
     "{\"ctx\":{\"cloud\":[[\"a\",2]],\"vector\":{}},\"from\":\"a\",\"kind\":\"delta\",\"n\":2,\"rows\":[[\"child\",\"y\",[\"a\",2],{\"arg\":\"\",\"kind\":\"worker\",\"restart\":\"permanent\",\"shutdown\":5000}]],\"to\":\"b\",\"v\":1}";
+
+/// Of a member that joined and started a child.
+pub(crate) const JOINED: &str =
+    "{\"ctx\":{\"cloud\":[],\"vector\":{\"a\":2}},\"from\":\"a\",\"kind\":\"delta\",\"n\":2,\"rows\":[[\"member\",\"a\",[\"a\",1],{\"label\":\"\"}],[\"child\",\"web\",[\"a\",2],{\"arg\":\"\",\"kind\":\"worker\",\"restart\":\"permanent\",\"shutdown\":5000}]],\"to\":\"b\",\"v\":1}";
+
+/// Of one that took these in and removed the child.
+pub(crate) const REMOVED: &str =
+    "{\"ctx\":{\"cloud\":[],\"vector\":{\"a\":2}},\"from\":\"b\",\"kind\":\"delta\",\"n\":2,\"rows\":[[\"member\",\"a\",[\"a\",1],{\"label\":\"\"}]],\"to\":\"a\",\"v\":1}";
+
+/// Of the member, which replaced the child meanwhile.
+pub(crate) const REPLACED: &str =
+    "{\"ctx\":{\"cloud\":[[\"a\",2],[\"a\",3]],\"vector\":{}},\"from\":\"a\",\"kind\":\"push\",\"rows\":[[\"child\",\"web\",[\"a\",3],{\"arg\":\"x\",\"kind\":\"worker\",\"restart\":\"permanent\",\"shutdown\":5000}]],\"to\":\"b\",\"v\":1}";
+
+pub(crate) const ACK_OF_JOINED: &str =
+    "{\"from\":\"b\",\"kind\":\"ack\",\"n\":2,\"to\":\"a\",\"v\":1}";
+
+pub(crate) const ACK_OF_REMOVED: &str =
+    "{\"from\":\"a\",\"kind\":\"ack\",\"n\":2,\"to\":\"b\",\"v\":1}";
 
 pub(crate) const OPENING: &str =
     "{\"boot\":1,\"count\":0,\"ctx\":{\"cloud\":[],\"vector\":{}},\"kind\":\"image\",\"node\":\"a\",\"rows\":[],\"v\":1}";
@@ -19,26 +41,22 @@ pub(crate) fn node(rt: &impl Abort, name: &str) -> NodeName {
     NodeName::parse(name).expect(rt, "a node's name")
 }
 
-pub(crate) fn child_id(rt: &(impl Abort + AllocGlobal), id: &str) -> ChildId {
-    ChildId::parse(rt.alloc(), id).expect(rt, "an id")
+pub(crate) fn try_id(rt: &impl AllocGlobal, id: &str) -> Option<ChildId> {
+    ChildId::parse(rt.alloc(), id).ok()
 }
 
-fn text(rt: &(impl Abort + AllocGlobal), text: &str) -> Text {
-    Text::parse(rt.alloc(), text).expect(rt, "a text")
-}
-
-/// The specification that a child has where nothing is said of it.
-pub(crate) fn worker(rt: &(impl Abort + AllocGlobal)) -> ChildSpec {
-    ChildSpec {
-        kind: Kind::parse(rt.alloc(), "worker").expect(rt, "a kind"),
-        arg: text(rt, ""),
+/// The specification that a child has where no more than its argument is said of it.
+pub(crate) fn try_worker(rt: &impl AllocGlobal, arg: &str) -> Option<ChildSpec> {
+    Some(ChildSpec {
+        kind: Kind::parse(rt.alloc(), "worker").ok()?,
+        arg: Text::parse(rt.alloc(), arg).ok()?,
         restart: Restart::Permanent,
         shutdown: Shutdown::Millis(5000),
-    }
+    })
 }
 
-pub(crate) fn unlabelled(rt: &(impl Abort + AllocGlobal)) -> MemberInfo {
-    MemberInfo {
-        label: text(rt, ""),
-    }
+pub(crate) fn try_unlabelled(rt: &impl AllocGlobal) -> Option<MemberInfo> {
+    Some(MemberInfo {
+        label: Text::parse(rt.alloc(), "").ok()?,
+    })
 }

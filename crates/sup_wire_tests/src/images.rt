@@ -1,26 +1,19 @@
 //! Images.
-use crate::given::{ACK, DELTA, IMAGE, OPENING, child_id, node, unlabelled, worker};
+use crate::given::{ACK, DELTA, IMAGE, OPENING};
+use crate::made::{joined_kept, opening};
 use std::process::Abort;
-use sup_causal::Lattice;
-use sup_tables::Tables;
-use sup_wire::{Image, WireFault, decode_image, encode_image};
+use sup_wire::{WireFault, decode_image, encode_image};
+
+#[test]
+fn the_image_of_a_new_node_has_one_text(rt: HostRuntime) {
+    let text = encode_image(rt.alloc(), &opening(&rt)).expect(&rt, "room");
+    assert!(rt; text.as_slice() == OPENING.as_bytes());
+}
 
 // A node that has joined and started a child.
 #[test]
 fn the_image_of_a_member_with_a_child_has_one_text(rt: HostRuntime) {
-    let (joined, _) = Tables::empty(rt.alloc())
-        .put_member(node(&rt, "a"), unlabelled(&rt))
-        .expect(&rt, "a member");
-    let (started, _) = joined
-        .put_child(node(&rt, "a"), child_id(&rt, "web"), worker(&rt))
-        .expect(&rt, "a child");
-    let state = joined.joined(rt.alloc(), &started).expect(&rt, "room");
-    let image = Image {
-        node: node(&rt, "a"),
-        boot: 1,
-        count: 2,
-        state,
-    };
+    let image = joined_kept(&rt).expect(&rt, "room");
     let text = encode_image(rt.alloc(), &image).expect(&rt, "room");
     assert!(rt; text.as_slice() == IMAGE.as_bytes());
 }
@@ -51,6 +44,10 @@ fn texts_of_no_image_are_told_apart(rt: HostRuntime) {
         (
             "{\"boot\":1,\"count\":0,\"ctx\":{\"cloud\":[],\"vector\":{}},\"kind\":\"image\",\"node\":\"a\",\"rows\":[],\"v\":2}",
             WireFault::BadVersion,
+        ),
+        (
+            "{\"boot\":1,\"count\":2,\"ctx\":{\"cloud\":[],\"vector\":{\"a\":2}},\"kind\":\"image\",\"node\":\"a\",\"rows\":[[\"child\",\"web\",[\"a\",2],{\"arg\":\"\",\"kind\":\"worker\",\"restart\":\"permanent\",\"shutdown\":5000}],[\"member\",\"a\",[\"a\",1],{\"label\":\"\"}]],\"v\":1}",
+            WireFault::NotCanonical,
         ),
         (
             "{\"boot\":1,\"count\":0,\"ctx\":{\"cloud\":[[\"a\",1]],\"vector\":{}},\"kind\":\"image\",\"node\":\"a\",\"rows\":[],\"v\":1}",

@@ -11,4 +11,8 @@ mod given;
 #[cfg(test)]
 mod images;
 #[cfg(test)]
+mod made;
+#[cfg(test)]
 mod prefixes;
+#[cfg(test)]
+mod refused;
