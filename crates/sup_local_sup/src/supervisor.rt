@@ -64,6 +64,21 @@ impl Supervisor {
         })
     }
 
+    /// Which boot of its node it is of.
+    pub fn boot(&self) -> u64
+        ensures { result ≡ self.now.boot }
+    {
+        self.boot
+    }
+
+    /// How many incarnations it gave out in this boot.
+    pub fn given(&self) -> u64
+        ensures value { result ≡ self.now.given }
+        ensures within { result ≤ MOST }
+    {
+        self.given
+    }
+
     /// The kept children, each found by its id, in the order in which they were started.
     pub fn kept(&self) -> &IndexMap<ChildId, Entry>
         ensures { result.now.entries ≡ self.now.kept }

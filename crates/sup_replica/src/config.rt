@@ -1,16 +1,27 @@
 //! What is set for a node.
-ghost use Rattle.std.specs.Prelude.{◌≡◌};
-ghost use Rattle.sup_replica.specs.Configs.{config_of};
+ghost use Rattle.std.specs.Prelude.{◌≡◌, ◌≤◌};
+ghost use Rattle.sup_replica.specs.Configs.{config_of, default};
 
-/// How often children may restart, and how many deltas are held. Made by [`Config::new`].
+use std::marker::Model;
+
+/// How often children may restart, and how many deltas are held. Made by [`Config::new`]. A contract sees it as a record.
 #[derive(Clone, Copy, Debug, PartialEq, Eq)]
 pub struct Config {
-    /// How many restarts within the period don't end the node's membership.
-    pub intensity: u16,
-    /// In units of the moments that acts are given, as seconds.
-    pub period: u32,
-    /// How many of the newest deltas are held for peers that lack them.
-    pub buffer: u16,
+    intensity: u16,
+    period: u32,
+    buffer: u16,
+}
+
+impl Model for Config {
+    ghost use Rattle.sup_replica.specs.Configs.{Config, AreInLimits};
+
+    ghost Value = { Config };
+
+    ghost view = { λ c. record { intensity = c.intensity; period = c.period; buffer = c.buffer } };
+
+    ghost inverse = { λ c. record { intensity = c.intensity; period = c.period; buffer = c.buffer } };
+
+    ghost invariant = { λ c. AreInLimits c.intensity c.period c.buffer };
 }
 
 impl Config {
@@ -34,11 +45,37 @@ impl Config {
             None
         }
     }
+
+    /// How many restarts within the period don't end the node's membership.
+    pub fn intensity(&self) -> u16
+        ensures value { result ≡ self.now.intensity }
+        ensures within { result ≤ 1000 }
+    {
+        self.intensity
+    }
+
+    /// In units of the moments that acts are given, as seconds.
+    pub fn period(&self) -> u32
+        ensures value { result ≡ self.now.period }
+        ensures within { (1 ≤ result) × (result ≤ 1000000) }
+    {
+        self.period
+    }
+
+    /// How many of the newest deltas are held for peers that lack them.
+    pub fn buffer(&self) -> u16
+        ensures value { result ≡ self.now.buffer }
+        ensures within { (1 ≤ result) × (result ≤ 1024) }
+    {
+        self.buffer
+    }
 }
 
 /// As Erlang/OTP's supervisor has it: one restart within five seconds. 64 deltas are held.
 impl Default for Config {
-    fn default() -> Config {
+    fn default() -> Config
+        ensures { result ≡ default }
+    {
         Config {
             intensity: 1,
             period: 5,

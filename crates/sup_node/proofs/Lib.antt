@@ -1,0 +1,3 @@
+pub mod PlacingLaws
+pub mod StepLaws
+pub mod PlanLaws

@@ -1,0 +1,11 @@
+use Rattle.std.specs.Prelude.{refl}
+use mathlib.Core.Logic.{inr}
+use Rattle.sup_node.specs.Contents.{station_of}
+use Rattle.sup_node.proofs.PlanLaws.{may-lack}
+use Rattle.sup_node.proofs.node.Node.happens.Goals as goal
+
+pub returns-in-Err-carry_out : goal.returns-in-Err-carry_out
+returns-in-Err-carry_out g c = (
+  c.in-Err-carry_out.ensures.refused,
+  inr (refl, may-lack g.W.Weigh.weight_of (station_of c.args.self.now) c.args.now c.in-Ok.planned c.args.event.now c.in-Ok.ensures),
+)

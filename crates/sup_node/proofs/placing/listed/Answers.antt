@@ -1,0 +1,12 @@
+use Rattle.std.proofs.Common.{sym, subst}
+use Rattle.sup_tables.specs.Stored.{child_row}
+use Rattle.sup_local_sup.specs.Keeping.{AreCounted}
+use Rattle.sup_replica.specs.Nodes.{eligible}
+use Rattle.sup_node.proofs.PlacingLaws.{counted_taken}
+use Rattle.sup_node.proofs.placing.listed.Goals as goal
+
+pub returns-clause-counted : goal.returns-clause-counted
+returns-clause-counted g c =
+    subst AreCounted (sym c.loop-winner.invariant)
+    (counted_taken c.loop-winner.winner-index c.in_ok-winners.winners.items c.deref-winner-items.result.now c.deref-winner-items.ensures.value g.W.Weigh.weight_of c.args.me.now (eligible c.args.tables.now.rows)
+    (λ w. child_row w.key.now w.dot.now w.value.now) c.in_ok-winners.ensures.counted)

@@ -1,0 +1,132 @@
+-- What an act makes ready, and what a node becomes once that is carried out (this project).
+use Rattle.std.specs.Prelude.{ℕ, ◌≡◌, ◌+◌, Bool, true, false, List, [], Option, Some, None, Result, Ok, Err, IsOk}
+use mathlib.Core.Logic.{◌⊎◌}
+use Rattle.sup_tables.specs.States.{State}
+use Rattle.sup_tables.specs.Joined.{join_states}
+use Rattle.sup_wire.specs.declared.image.Image.{Image}
+use Rattle.sup_anti_entropy.specs.Buffers.{holds_more}
+use Rattle.sup_placement.specs.Place.{Weigher}
+use Rattle.sup_local_sup.specs.declared.effect.Effect.{Effect}
+use Rattle.sup_local_sup.specs.declared.leaving.Leaving.{Leaving}
+use Rattle.sup_local_sup.specs.Planning.{carried_out, restarted, leaving_after, leaving_effects}
+use Rattle.sup_replica.specs.declared.done.Reply.{Reply}
+use Rattle.sup_replica.specs.declared.done.Reply.TheVariants.{Boot}
+use Rattle.sup_replica.specs.declared.refusal.Refusal.{Refusal}
+use Rattle.sup_replica.specs.declared.refusal.Refusal.TheVariants.{OutOfMemory, CountSpent}
+use Rattle.sup_replica.specs.Checks.{refused_if, then_do}
+use Rattle.sup_replica.specs.Nodes.{Node, Outcome}
+use Rattle.sup_replica.specs.ByTables.{by_tables}
+use Rattle.sup_replica.specs.Steps.{passes_greatest, wanted}
+use Rattle.sup_replica.specs.Stations.{Station, acknowledged}
+use Rattle.sup_node.specs.declared.change.Change.{Change}
+use Rattle.sup_node.specs.declared.change.Change.TheVariants.{Nothing, Begins, Learns, Acknowledges}
+use Rattle.sup_node.specs.declared.change.Learned.{Learned}
+use Rattle.sup_node.specs.declared.change.Ready.{Ready}
+
+-- what a node keeps
+abbrev pub image_of : Node State → Image
+image_of n = record { node = n.name; boot = n.supervisor.boot; count = n.count; state = n.known }
+
+-- the newest own operation, where this one is own or none
+abbrev pub newer : Option State → Option State → Option State
+newer (Some own) old = Some own
+newer None old = old
+
+-- tables that took in a delta, and what is kept then
+abbrev pub learned : Node State → Learned → Node State
+learned n l = record n {
+  known = l.image.state;
+  count = l.image.count;
+  supervisor = carried_out n.supervisor l.plan;
+  newest = newer l.own n.newest;
+}
+
+abbrev pub changed : Node State → Change → Node State
+changed n Nothing = n
+changed n (Begins id now) = record n { supervisor = restarted n.supervisor id now }
+changed n (Learns l) = learned n l
+changed n (Acknowledges from number) = n
+
+-- whether the image changes, and so is saved first
+abbrev pub saves : Change → Bool
+saves Nothing = false
+saves (Begins id now) = false
+saves (Learns l) = true
+saves (Acknowledges from number) = false
+
+-- the image that is saved, if it changes
+abbrev pub image_in : Change → Option Image
+image_in Nothing = None
+image_in (Begins id now) = None
+image_in (Learns l) = Some l.image
+image_in (Acknowledges from number) = None
+
+-- the change's image is the changed node's
+abbrev pub IsImageOf : Node State → Change → Type 0
+IsImageOf n Nothing = Unit {0}
+IsImageOf n (Begins id now) = Unit {0}
+IsImageOf n (Learns l) = l.image ≡ image_of (learned n l)
+IsImageOf n (Acknowledges from number) = Unit {0}
+
+-- the same of a station: what it learned stands behind the held deltas, and an acknowledged number only rises
+abbrev pub station_after : Station State → Change → Station State
+station_after s Nothing = s
+station_after s (Begins id now) = record s { node = changed s.node (Begins id now) }
+station_after s (Learns l) = record s { node = learned s.node l; held = holds_more s.room s.held l.delta }
+station_after s (Acknowledges from number) = acknowledged by_tables s from number
+
+-- the change counts its delta as own, if it learns one
+abbrev pub IsOwn : Node State → Change → Type 0
+IsOwn n Nothing = Unit {0}
+IsOwn n (Begins id now) = Unit {0}
+IsOwn n (Learns l) = (l.own ≡ Some l.delta) × (l.image.count ≡ n.count + 1)
+IsOwn n (Acknowledges from number) = ⊥
+
+-- the change counts this delta of another's, if it learns one
+abbrev pub IsOf : State → Node State → Change → Type 0
+IsOf delta n Nothing = Unit {0}
+IsOf delta n (Begins id now) = ⊥
+IsOf delta n (Learns l) = (l.own ≡ None) × (l.delta ≡ delta) × (l.image.count ≡ n.count + 1)
+IsOf delta n (Acknowledges from number) = ⊥
+
+-- what is told and becomes, where no number passes the greatest
+abbrev pub checked : Result (Outcome State) Refusal → Result (Outcome State) Refusal
+checked step = then_do step (λ o. refused_if (passes_greatest o.node) CountSpent (Ok o))
+
+abbrev pub outcome_of : Node State → Ready → Outcome State
+outcome_of n p = record { done = record { reply = p.reply; effects = p.effects }; letter = None; node = changed n p.change; saves = saves p.change }
+
+-- what is ready is the step's outcome, or it is refused as the step says; or for memory, and that only where the step says no refusal but of
+-- numbers
+abbrev pub Readies : Result (Outcome State) Refusal → Node State → Result Ready Refusal → Type 0
+Readies step n (Ok p) = (checked step ≡ Ok (outcome_of n p)) × IsImageOf n p.change
+Readies step n (Err r) = (checked step ≡ Err r) ⊎ ((r ≡ OutOfMemory) × IsOk step)
+
+-- a stopped node, by its image
+abbrev pub stopped_node : ℕ → ℕ → Image → Node State
+stopped_node intensity period i = record {
+  name = i.node;
+  known = i.state;
+  up = false;
+  count = i.count;
+  supervisor = record { boot = i.boot; given = 0; kept = []; window = record { intensity = intensity; period = period; moments = [] } };
+  newest = None;
+}
+
+-- a restart's node and effects, or why it is refused
+abbrev pub RestartsAs : Result (Outcome State) Refusal → Result (Node State × List Effect) Refusal → Type 0
+RestartsAs step (Ok r) = checked step ≡ Ok (record { done = record { reply = Boot r.0.supervisor.boot; effects = r.1 }; letter = None; node = r.0; saves = true })
+RestartsAs step (Err r) = (checked step ≡ Err r) ⊎ ((r ≡ OutOfMemory) × IsOk step)
+
+-- a node that takes in a delta, of its own operation or of others'
+abbrev pub with_delta : Node State → Option State → State → Node State
+with_delta n own delta = record n { known = join_states n.known delta; count = n.count + 1; newest = newer own n.newest }
+
+-- and then keeps what is wanted, without those that leave
+abbrev pub learns : Weigher → Node State → Option State → Reply → Leaving → State → Outcome State
+learns g n own reply leaving delta = record {
+  done = record { reply = reply; effects = leaving_effects n.supervisor leaving (wanted by_tables g (with_delta n own delta)) };
+  letter = None;
+  node = record (with_delta n own delta) { supervisor = leaving_after n.supervisor leaving (wanted by_tables g (with_delta n own delta)) };
+  saves = true;
+}

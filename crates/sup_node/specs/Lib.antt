@@ -1,0 +1,6 @@
+pub mod Changes
+pub mod Texts
+pub mod Contents
+pub mod NodeSteps
+pub mod Taking
+pub mod Whereabouts

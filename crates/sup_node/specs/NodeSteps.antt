@@ -1,0 +1,115 @@
+-- What a node that runs answers to an event, and what it becomes: the station's step, over the bytes that come and leave (this project).
+use Rattle.std.specs.Prelude.{◌≡◌, ◌+◌, ◌≤◌, ℕ, Bool, true, false, List, [], Option, None, Result, Ok, Err, if◌then◌else◌}
+use mathlib.Core.Logic.{◌⊎◌}
+use Rattle.sup_specs.specs.Values.{Bytes}
+use Rattle.sup_tables.specs.States.{State}
+use Rattle.sup_placement.specs.Place.{Weigher}
+use Rattle.sup_wire.specs.declared.image.Image.{Image}
+use Rattle.sup_replica.specs.Configs.{Config}
+use Rattle.sup_replica.specs.declared.event.Event.{Event}
+use Rattle.sup_replica.specs.declared.event.Event.TheVariants.{Join, Leave, Start, Replace, Delete, Register, Unregister, Exit, Ship, Push, Deliver}
+use Rattle.sup_replica.specs.declared.event.Act.TheVariants.{Event as Of, Restart}
+use Rattle.sup_local_sup.specs.declared.effect.Effect.{Effect}
+use Rattle.sup_replica.specs.declared.done.Done.{Done}
+use Rattle.sup_replica.specs.declared.refusal.Refusal.{Refusal}
+use Rattle.sup_replica.specs.declared.refusal.Refusal.TheVariants.{OutOfMemory, KeepFailed, CountSpent}
+use Rattle.sup_replica.specs.Nodes.{fresh}
+use Rattle.sup_replica.specs.ByTables.{by_tables}
+use Rattle.sup_replica.specs.Steps.{passes_greatest}
+use Rattle.sup_replica.specs.declared.done.Reply.TheVariants.{Boot}
+use Rattle.sup_replica.specs.Stations.{Station, Mail, Move, station_step}
+use Rattle.sup_node.specs.declared.change.Change.{Change}
+use Rattle.sup_node.specs.declared.change.Change.TheVariants.{Nothing, Begins, Learns, Acknowledges}
+use Rattle.sup_node.specs.declared.planned.Planned.{Planned}
+use Rattle.sup_node.specs.Changes.{stopped_node, changed, learned, saves, station_after, image_of}
+use Rattle.sup_node.specs.Texts.{IsReadAs, IsDoneOf, reads_as}
+
+-- what an event's bytes are read as, where it brings a message; nothing is asked of another
+abbrev pub Reads : Event → Option (Mail State) → Type 0
+Reads (Join label) mail = Unit {0}
+Reads (Leave m) mail = Unit {0}
+Reads (Start id spec) mail = Unit {0}
+Reads (Delete id) mail = Unit {0}
+Reads (Replace id spec) mail = Unit {0}
+Reads (Register name id) mail = Unit {0}
+Reads (Unregister name) mail = Unit {0}
+Reads (Exit id inc reason) mail = Unit {0}
+Reads (Ship to) mail = Unit {0}
+Reads (Push to) mail = Unit {0}
+Reads (Deliver bytes) mail = IsReadAs bytes mail
+
+-- the step, where these bytes are read so; `saved` says whether a save holds
+abbrev pub stepped : Weigher → Station State → Event → ℕ → Option (Mail State) → Bool → Result (Move State) Refusal
+stepped g s event now mail saved = station_step by_tables (reads_as mail) g s (Of event) now saved
+
+-- want of memory may be told: of a delivery always, of another event where it is refused for no reason but numbers
+abbrev pub MayLack : Weigher → Station State → Event → ℕ → Type 0
+MayLack g s (Deliver bytes) now = Unit {0}
+MayLack g s event now = (r : Refusal) → stepped g s event now None true ≡ Err r → r ≡ CountSpent
+
+-- an event is refused: as the step says, or for memory
+abbrev pub IsRefused : Weigher → Station State → Event → ℕ → Refusal → Type 0
+IsRefused g s event now r = ((mail : Option (Mail State)) × Reads event mail × (stepped g s event now mail true ≡ Err r)) ⊎ ((r ≡ OutOfMemory) × MayLack g s event now)
+
+-- what an event's plan asks of the node that carries it out: no number passes the greatest, and no more is acknowledged than there is
+abbrev pub Fits : Station State → Change → Type 0
+Fits s Nothing = Unit {0}
+Fits s (Begins id now) = passes_greatest (changed s.node (Begins id now)) ≡ false
+Fits s (Learns l) = (passes_greatest (learned s.node l) ≡ false) × (l.image ≡ image_of (learned s.node l)) × (l.image.count ≡ s.node.count + 1)
+Fits s (Acknowledges from number) = number ≤ s.node.count
+
+-- what is made ready is the step's move, and what the node becomes; where its save fails, it is refused
+pub record IsReady (step : Bool → Result (Move State) Refusal) (s : Station State) (p : Planned) : Type 0 where
+  pub move : Move State
+  pub moves : step true ≡ Ok move
+  pub unsaved : step false ≡ (if saves p.change then Err KeepFailed else Ok move)
+  pub done : IsDoneOf move p.done
+  pub after : station_after s p.change ≡ move.station
+  pub fits : Fits s p.change
+
+pub record IsPlanOf (g : Weigher) (s : Station State) (event : Event) (now : ℕ) (p : Planned) : Type 0 where
+  pub mail : Option (Mail State)
+  pub reads : Reads event mail
+  pub ready : IsReady (stepped g s event now mail) s p
+
+abbrev pub Plans : Weigher → Station State → Event → ℕ → Result Planned Refusal → Type 0
+Plans g s event now (Ok p) = IsPlanOf g s event now p
+Plans g s event now (Err r) = IsRefused g s event now r
+
+-- the answer to an event and what the node becomes
+pub record Answers (g : Weigher) (s : Station State) (event : Event) (now : ℕ) (done : Done) (t : Station State) : Type 0 where
+  pub mail : Option (Mail State)
+  pub reads : Reads event mail
+  pub move : Move State
+  pub moves : stepped g s event now mail true ≡ Ok move
+  pub told : IsDoneOf move done
+  pub after : t ≡ move.station
+
+abbrev pub Goes : Weigher → Station State → Event → ℕ → Result Done Refusal → Station State → Type 0
+Goes g s event now (Ok done) t = Answers g s event now done t
+Goes g s event now (Err r) t = (t ≡ s) × IsRefused g s event now r
+
+-- a node that was just made
+abbrev pub fresh_station : Bytes → Config → Station State
+fresh_station name c = record { node = fresh by_tables name c.intensity c.period; held = []; room = c.buffer; acked = λ q. 0 }
+
+-- a stopped node, by its image
+abbrev pub stopped_by : Config → Image → Station State
+stopped_by c i = record { node = stopped_node c.intensity c.period i; held = []; room = c.buffer; acked = λ q. 0 }
+
+-- a restart from an image of the node, before the image is saved
+abbrev pub restart_of : Weigher → Config → Image → Bool → Result (Move State) Refusal
+restart_of g c image saved = station_step by_tables (reads_as None) g (stopped_by c image) Restart 0 saved
+
+pub record IsRestart (g : Weigher) (c : Config) (image : Image) (effects : List Effect) (t : Station State) : Type 0 where
+  pub move : Move State
+  pub moves : restart_of g c image true ≡ Ok move
+  pub unsaved : restart_of g c image false ≡ Err KeepFailed
+  pub told : effects ≡ move.done.effects
+  pub reply : move.done.reply ≡ Boot t.node.supervisor.boot
+  pub letter : move.letter ≡ None
+  pub after : t ≡ move.station
+
+-- it is refused as the step says, or for memory
+abbrev pub IsRestartRefused : Weigher → Config → Image → Refusal → Type 0
+IsRestartRefused g c image r = (restart_of g c image true ≡ Err r) ⊎ (r ≡ OutOfMemory)

@@ -1,0 +1,67 @@
+-- What the bytes of a letter or an image say (this project): the forms of messages and images.
+use Rattle.std.specs.Prelude.{◌≡◌, false, [], Option, Some, None}
+use Rattle.sup_specs.specs.Values.{Bytes}
+use Rattle.sup_tables.specs.States.{State}
+use Rattle.sup_wire.specs.declared.message.Message.{Message}
+use Rattle.sup_wire.specs.declared.message.Message.TheVariants.{Ack, Push, Delta}
+use Rattle.sup_wire.specs.declared.image.Image.{Image}
+use Rattle.sup_wire.specs.Drafts.{IsDraftOf, IsDraftOfImage, IsWholeMessage, IsWholeImage}
+use Rattle.sup_wire.specs.Faults.{Says, IsTextOf, IsInRange, IsImageInRange}
+use Rattle.sup_replica.specs.declared.letter.Letter.{Letter}
+use Rattle.sup_replica.specs.declared.done.Done.{Done}
+use Rattle.sup_replica.specs.Stations.{Mail, a_delta, a_push, an_ack, Codec, Move, receiver_of, kind_of}
+
+-- the message that mail is written as: whether a delta is all that its sender knows isn't written
+abbrev pub message_of : Mail State → Message
+message_of (a_delta from to n whole content) = Delta from to n content
+message_of (a_push from to content) = Push from to content
+message_of (an_ack from to n) = Ack from to n
+
+-- the mail that a message is taken as
+abbrev pub mail_of : Message → Mail State
+mail_of (Delta from to n content) = a_delta from to n false content
+mail_of (Push from to content) = a_push from to content
+mail_of (Ack from to n) = an_ack from to n
+
+-- the text is the message's one text, and is read as the message
+pub record IsMessageText (text : Bytes) (m : Message) : Type 0 where
+  pub form : IsTextOf IsDraftOf IsInRange text m
+  pub says : Says IsDraftOf text m
+  pub whole : IsWholeMessage m
+
+pub record IsImageText (text : Bytes) (i : Image) : Type 0 where
+  pub form : IsTextOf IsDraftOfImage IsImageInRange text i
+  pub says : Says IsDraftOfImage text i
+  pub whole : IsWholeImage i
+
+-- the mail that bytes are read as; none where no message has these bytes
+abbrev pub IsReadAs : Bytes → Option (Mail State) → Type 0
+IsReadAs bytes None = (m : Message) → IsWholeMessage m → ¬ Says IsDraftOf bytes m
+IsReadAs bytes (Some mail) = (m : Message) × IsWholeMessage m × Says IsDraftOf bytes m × (mail ≡ mail_of m)
+
+-- the same of an image
+abbrev pub IsImageReadAs : Bytes → Option Image → Type 0
+IsImageReadAs bytes None = (i : Image) → IsWholeImage i → ¬ Says IsDraftOfImage bytes i
+IsImageReadAs bytes (Some image) = IsWholeImage image × Says IsDraftOfImage bytes image
+
+-- a codec that reads this; what is written is said of the letter alone
+abbrev pub reads_as : Option (Mail State) → Codec State
+reads_as mail = record { write = λ _. []; read = λ _. mail }
+
+-- the letter is this mail's
+pub record IsLetter (mail : Mail State) (letter : Letter) : Type 0 where
+  pub to : letter.to ≡ receiver_of mail
+  pub kind : letter.kind ≡ kind_of mail
+  pub text : IsMessageText letter.bytes (message_of mail)
+
+abbrev pub IsLetterOf : Option (Mail State) → Option Letter → Type 0
+IsLetterOf None None = Unit {0}
+IsLetterOf None (Some letter) = ⊥
+IsLetterOf (Some mail) None = ⊥
+IsLetterOf (Some mail) (Some letter) = IsLetter mail letter
+
+-- the answer is this move's
+pub record IsDoneOf (move : Move State) (done : Done) : Type 0 where
+  pub reply : done.reply ≡ move.done.reply
+  pub effects : done.effects ≡ move.done.effects
+  pub letter : IsLetterOf move.letter done.out

@@ -1,0 +1,117 @@
+//! A node.
+ghost use Rattle.std.specs.Prelude.{◌≡◌, false, IfOk, IsErr, OnOk, OnErr, MatchResult};
+
+use crate::planned::Planned;
+use crate::state::NodeState;
+use std::alloc::{AllocError, Global};
+use std::marker::PhantomData;
+use sup_local_sup::Effects;
+use sup_placement::Weigh;
+use sup_replica::{Config, Done, Event, Refusal};
+use sup_specs::NodeName;
+use sup_wire::Image;
+
+/// A node that runs. Its type names how children are weighed, since what it keeps depends on it.
+#[derive(Drop)]
+pub struct Node<W: Weigh> {
+    pub(crate) state: NodeState,
+    weigher: PhantomData<W>,
+}
+
+impl<W: Weigh> Node<W> {
+    ghost use Rattle.sup_node.specs.Changes.{saves, station_after};
+    ghost use Rattle.sup_node.specs.Contents.{station_in, station_of};
+    ghost use Rattle.sup_node.specs.NodeSteps.{Plans, Goes, Fits, IsRestart, IsRestartRefused, fresh_station};
+
+    /// The node that is in this state.
+    pub fn of(state: NodeState) -> Node<W>
+        ensures { station_of result ≡ station_in state }
+    {
+        Node {
+            state,
+            weigher: PhantomData,
+        }
+    }
+
+    /// A node that was just made: in its first boot, with empty tables.
+    ///
+    /// # Errors
+    ///
+    /// Refused only for memory.
+    pub fn fresh(alloc: Global, name: NodeName, config: Config) -> Result<Node<W>, AllocError>
+        ensures { IfOk result (λ n. station_of n ≡ fresh_station name config) }
+    {
+        let state = NodeState::fresh(alloc, name, config)?;
+        Ok(Node::of(state))
+    }
+
+    /// The node that goes on from an image, in the next boot, and what it starts.
+    ///
+    /// # Errors
+    ///
+    /// `CountSpent` where the boot would pass `MAX`; `OutOfMemory`.
+    pub fn from_image(
+        alloc: Global,
+        image: Image,
+        config: Config,
+        weigher: &W,
+    ) -> Result<(Node<W>, Effects), Refusal>
+        ensures { MatchResult result (λ r. IsRestart W.weight_of config image r.1 (station_of r.0)) (λ r. IsRestartRefused W.weight_of config image r) }
+    {
+        let (state, effects) = NodeState::from_image(alloc, image, config, weigher)?;
+        Ok((Node::of(state), effects))
+    }
+
+    /// Makes an event at the moment `now` ready, in the order of checks. Nothing changes.
+    ///
+    /// # Errors
+    ///
+    /// The refusal of the first check that fails. Want of memory is told of a delivery, and of another event only where none
+    /// fails but that of numbers.
+    pub fn plan(&self, event: &Event, now: u64, weigher: &W) -> Result<Planned, Refusal>
+        ensures { Plans W.weight_of (station_of self.now) event.now now result }
+    {
+        self.state.plan(event, now, weigher)
+    }
+
+    /// Carries out what was made ready of an event, with the node as it was then.
+    ///
+    /// # Errors
+    ///
+    /// Refused only for memory, and that for an acknowledgement alone. The node is unchanged then.
+    pub fn carry_out(&mut self, planned: Planned) -> Result<Done, AllocError>
+        requires { Fits (station_of self.old) planned.change }
+        ensures done { IfOk result (λ done. done ≡ planned.done) }
+        ensures becomes { OnOk result (station_of self.new ≡ station_after (station_of self.old) planned.change) }
+        ensures refused { OnErr result (station_of self.new ≡ station_of self.old) }
+        ensures saved { IsErr result → saves planned.change ≡ false }
+    {
+        let Planned { done, change } = planned;
+        self.state.carry_out(change)?;
+        Ok(done)
+    }
+
+    /// One event at the moment `now`. It saves nothing.
+    ///
+    /// # Errors
+    ///
+    /// As [`Node::plan`] tells; and `OutOfMemory` for an acknowledgement. The node is unchanged then.
+    pub fn step(&mut self, event: Event, now: u64, weigher: &W) -> Result<Done, Refusal>
+        ensures { Goes W.weight_of (station_of self.old) event now result (station_of self.new) }
+    {
+        self.happens(&event, now, weigher)
+    }
+
+    // The event is made ready and carried out.
+    fn happens(&mut self, event: &Event, now: u64, weigher: &W) -> Result<Done, Refusal>
+        ensures { Goes W.weight_of (station_of self.old) event.now now result (station_of self.new) }
+    {
+        match self.plan(event, now, weigher) {
+            Err(refusal) => Err(refusal),
+            Ok(planned) => match self.carry_out(planned) {
+                Ok(done) => Ok(done),
+                Err(_) => Err(Refusal::OutOfMemory),
+            },
+        }
+    }
+}

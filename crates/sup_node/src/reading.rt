@@ -1,0 +1,109 @@
+//! What is read of a node.
+ghost use Rattle.std.specs.Prelude.{◌≡◌, length, IfOk};
+ghost use Rattle.sup_node.specs.Changes.{image_of};
+ghost use Rattle.sup_node.specs.Contents.{station_of, where_told};
+ghost use Rattle.sup_node.specs.Whereabouts.{where_is};
+
+use crate::node::Node;
+use crate::placing::eligible;
+use crate::whereis::Whereis;
+use indexmap::IndexMap;
+use std::alloc::AllocError;
+use sup_local_sup::Entry;
+use sup_placement::{Weigh, place};
+use sup_specs::{ChildId, Name, NodeName};
+use sup_tables::Tables;
+use sup_wire::Image;
+
+impl<W: Weigh> Node<W> {
+    /// Its name.
+    pub fn name(&self) -> &NodeName
+        ensures { result.now ≡ (station_of self.now).node.name }
+    {
+        self.state.replica.name()
+    }
+
+    /// What it knows.
+    pub fn tables(&self) -> &Tables
+        ensures { result.now ≡ (station_of self.now).node.known }
+    {
+        self.state.replica.tables()
+    }
+
+    /// The children that it keeps running, each found by its id, in the order in which they were started.
+    pub fn kept(&self) -> &IndexMap<ChildId, Entry>
+        ensures { result.now.entries ≡ (station_of self.now).node.supervisor.kept }
+    {
+        self.state.replica.kept()
+    }
+
+    /// Which boot it is in, from 1.
+    pub fn boot(&self) -> u64
+        ensures { result ≡ (station_of self.now).node.supervisor.boot }
+    {
+        self.state.replica.boot()
+    }
+
+    /// How often its tables changed.
+    pub fn count(&self) -> u64
+        ensures { result ≡ (station_of self.now).node.count }
+    {
+        self.state.replica.count()
+    }
+
+    /// How many of the newest deltas it holds for its peers.
+    pub fn held(&self) -> usize
+        ensures { result ≡ length (station_of self.now).held }
+    {
+        self.state.buffer.held()
+    }
+
+    /// The count up to which a peer has acknowledged its changes, 0 where it acknowledged none.
+    pub fn acknowledged(&self, peer: &NodeName) -> u64
+        ensures { result ≡ (station_of self.now).acked peer.now }
+    {
+        self.state.buffer.acknowledged(peer)
+    }
+
+    /// What a restart goes on from.
+    ///
+    /// # Errors
+    ///
+    /// Refused only for memory.
+    pub fn image(&self) -> Result<Image, AllocError>
+        ensures { IfOk result (λ i. i ≡ image_of (station_of self.now).node) }
+    {
+        let replica = &self.state.replica;
+        Ok(Image {
+            node: *replica.name(),
+            boot: replica.boot(),
+            count: replica.count(),
+            state: replica.tables().try_clone(replica.alloc())?,
+        })
+    }
+
+    /// Where a name leads: to its child, and to the member that the child is placed on. Of several entries of a name the
+    /// winner counts.
+    ///
+    /// # Errors
+    ///
+    /// Refused only for memory.
+    pub fn whereis(&self, name: &Name, weigher: &W) -> Result<Whereis<'_>, AllocError>
+        ensures { IfOk result (λ w. where_told w ≡ where_is W.weight_of (station_of self.now).node.known.rows name.now) }
+    {
+        let tables = self.state.replica.tables();
+        match tables.name(name) {
+            None => Ok(Whereis::Unknown),
+            Some((_, id)) => {
+                if tables.child(id).is_none() {
+                    return Ok(Whereis::Gone(id));
+                }
+                let hosts = eligible(self.state.replica.alloc(), tables)?;
+                match place(weigher, &hosts, id) {
+                    None => Ok(Whereis::Unplaced(id)),
+                    Some(member) => Ok(Whereis::On(id, member)),
+                }
+            }
+        }
+    }
+}

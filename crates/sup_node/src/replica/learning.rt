@@ -1,0 +1,107 @@
+//! What comes of a delta: an own operation, or one that was received.
+ghost use Rattle.std.specs.Prelude.{◌≡◌, true, Ok, Some, None, IfOk};
+ghost use Rattle.sup_tables.specs.Joined.{join_states, covers_state};
+ghost use Rattle.sup_replica.specs.ByTables.{by_tables};
+ghost use Rattle.sup_replica.specs.Steps.{issues};
+ghost use Rattle.sup_replica.specs.Acts.{absorbs};
+ghost use Rattle.sup_node.specs.Changes.{Readies, IsOwn, IsOf, learns};
+
+use crate::change::{Change, Learned, Ready};
+use crate::placing::wanted_at;
+use crate::replica::Replica;
+use std::alloc::{AllocError, Global};
+use sup_causal::Lattice;
+use sup_local_sup::{Effects, Leaving, SupFault};
+use sup_placement::Weigh;
+use sup_replica::{Refusal, Reply};
+use sup_specs::MAX;
+use sup_tables::Tables;
+use sup_wire::Image;
+
+impl Replica {
+    // Makes an own operation ready, without those that leave.
+    pub(super) fn issue<W: Weigh>(
+        &self,
+        reply: Reply,
+        leaving: &Leaving,
+        delta: Tables,
+        weigher: &W,
+    ) -> Result<Ready, Refusal>
+        ensures ready { Readies (Ok (issues by_tables W.weight_of self.now reply leaving.now delta)) self.now result }
+        ensures own { IfOk result (λ p. IsOwn self.now p.change) }
+    {
+        let own = delta.try_clone(self.alloc)?;
+        self.learn(Some(own), reply, leaving, delta, weigher)
+    }
+
+    // Makes ready what comes of received tables.
+    pub(crate) fn absorb<W: Weigh>(&self, delta: Tables, weigher: &W) -> Result<Ready, Refusal>
+        ensures ready { Readies (Ok (absorbs by_tables W.weight_of self.now delta None (covers_state self.now.known delta))) self.now result }
+        ensures of { IfOk result (λ p. IsOf delta self.now p.change) }
+    {
+        // For its clause: no number is past the greatest.
+        self.is_counted();
+        if self.covers(&delta) {
+            return Ok(Ready {
+                reply: Reply::Known,
+                effects: Effects::new(Vec::new(self.alloc)),
+                change: Change::Nothing,
+            });
+        }
+        self.learn(None, Reply::Absorbed, &Leaving::Nobody, delta, weigher)
+    }
+
+    // Makes a delta ready to be known, and what is wanted with it to be kept, without those that leave.
+    fn learn<W: Weigh>(
+        &self,
+        own: Option<Tables>,
+        reply: Reply,
+        leaving: &Leaving,
+        delta: Tables,
+        weigher: &W,
+    ) -> Result<Ready, Refusal>
+        ensures ready { Readies (Ok (learns W.weight_of self.now own reply leaving.now delta)) self.now result }
+        ensures own { own ≡ Some delta → IfOk result (λ p. IsOwn self.now p.change) }
+        ensures of { own ≡ None → IfOk result (λ p. IsOf delta self.now p.change) }
+    {
+        if self.count >= MAX {
+            return Err(Refusal::CountSpent);
+        }
+        let tables = self.tables.joined(self.alloc, &delta)?;
+        let wanted = wanted_at(self.alloc, weigher, &self.name, &tables)?;
+        match self.supervisor.plan(leaving, &wanted) {
+            Ok(plan) => {
+                let (plan, effects) = plan.parted();
+                let image = Image {
+                    node: self.name,
+                    boot: self.supervisor.boot(),
+                    count: self.count + 1,
+                    state: tables,
+                };
+                let learned = Learned {
+                    image,
+                    delta,
+                    own,
+                    plan,
+                };
+                Ok(Ready {
+                    reply,
+                    effects,
+                    change: Change::Learns(learned),
+                })
+            }
+            Err(SupFault::CountSpent) => Err(Refusal::CountSpent),
+            Err(SupFault::OutOfMemory) => Err(Refusal::OutOfMemory),
+        }
+    }
+
+    // Whether the tables have nothing new.
+    fn covers(&self, delta: &Tables) -> bool
+        ensures value { result ≡ covers_state self.now.known delta.now }
+        ensures same { result ≡ true → join_states self.now.known delta.now ≡ self.now.known }
+    {
+        // For its clause: tables are in their one form.
+        self.tables.context();
+        delta.leq(&self.tables)
+    }
+}

@@ -1,0 +1,53 @@
+//! What a node sends when it is told to.
+ghost use Rattle.std.specs.Prelude.{◌≡◌, ℕ};
+ghost use Rattle.sup_placement.specs.Place.{Weigher};
+ghost use Rattle.sup_replica.specs.declared.event.Event.TheVariants.{Ship, Push};
+ghost use Rattle.sup_node.specs.Contents.{station_in};
+ghost use Rattle.sup_node.specs.NodeSteps.{Plans};
+
+use crate::letters::{delta_letter, push_letter};
+use crate::planned::Planned;
+use crate::state::NodeState;
+use sup_replica::Refusal;
+use sup_specs::NodeName;
+
+impl NodeState {
+    // A peer is sent what it hasn't acknowledged.
+    pub(crate) fn ship(&self, to: &NodeName) -> Result<Planned, Refusal>
+        ensures { (g : Weigher) (now : ℕ) → Plans g (station_in self.now) (Ship to.now) now result }
+    {
+        let replica = &self.replica;
+        if replica.is_named(to) {
+            return Err(Refusal::UnknownNode);
+        }
+        if self.buffer.acknowledged(to) == self.buffer.count() {
+            return Err(Refusal::UpToDate);
+        }
+        match self.buffer.ship(replica.tables(), to)? {
+            None => Err(Refusal::UpToDate),
+            Some(shipment) => {
+                let letter = delta_letter(replica.alloc(), *replica.name(), *to, shipment)?;
+                Ok(Planned::sent(replica.alloc(), letter))
+            }
+        }
+    }
+
+    // A peer is sent the newest own operation.
+    pub(crate) fn push(&self, to: &NodeName) -> Result<Planned, Refusal>
+        ensures { (g : Weigher) (now : ℕ) → Plans g (station_in self.now) (Push to.now) now result }
+    {
+        let replica = &self.replica;
+        replica.is_counted();
+        if replica.is_named(to) {
+            return Err(Refusal::UnknownNode);
+        }
+        match replica.newest() {
+            None => Err(Refusal::NothingToPush),
+            Some(own) => {
+                let delta = own.try_clone(replica.alloc())?;
+                let letter = push_letter(replica.alloc(), *replica.name(), *to, delta)?;
+                Ok(Planned::sent(replica.alloc(), letter))
+            }
+        }
+    }
+}

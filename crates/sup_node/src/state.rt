@@ -1,0 +1,100 @@
+//! What a node is, whatever its children are weighed by.
+ghost use Rattle.std.specs.Prelude.{◌≡◌, true, false, IfOk, IsErr, OnOk, OnErr, MatchResult};
+ghost use Rattle.sup_anti_entropy.specs.Contents.{buffer_of};
+
+use crate::change::{Change, Learned};
+use crate::replica::Replica;
+use std::alloc::{AllocError, Global};
+use sup_anti_entropy::Buffer;
+use sup_local_sup::Effects;
+use sup_placement::Weigh;
+use sup_replica::{Config, Refusal};
+use sup_specs::NodeName;
+use sup_wire::Image;
+
+/// What a node is: its tables, what it keeps running, and the deltas that it holds for its peers. It names no weigher.
+#[derive(Drop)]
+pub struct NodeState {
+    pub(crate) replica: Replica,
+    pub(crate) buffer: Buffer,
+    pub ghost same_count: { replica.count ≡ (buffer_of buffer).count },
+    pub ghost runs: { replica.up ≡ true },
+}
+
+impl NodeState {
+    ghost use Rattle.sup_node.specs.declared.change.Change.TheVariants.{Learns};
+    ghost use Rattle.sup_node.specs.Changes.{saves, station_after};
+    ghost use Rattle.sup_node.specs.Contents.{station_in};
+    ghost use Rattle.sup_node.specs.NodeSteps.{Fits, IsRestart, IsRestartRefused, fresh_station};
+
+    /// A node that was just made: in its first boot, with empty tables.
+    ///
+    /// # Errors
+    ///
+    /// Refused only for memory.
+    pub fn fresh(alloc: Global, name: NodeName, config: Config) -> Result<NodeState, AllocError>
+        ensures { IfOk result (λ n. station_in n ≡ fresh_station name config) }
+    {
+        let intensity = config.intensity() as usize;
+        let replica = Replica::fresh(alloc, name, intensity, config.period() as u64)?;
+        let buffer = Buffer::new(alloc, config.buffer() as usize)?;
+        Ok(NodeState { replica, buffer })
+    }
+
+    /// The node that goes on from an image, in the next boot, and what it starts.
+    ///
+    /// # Errors
+    ///
+    /// `CountSpent` where the boot would pass `MAX`; `OutOfMemory`.
+    pub fn from_image<W: Weigh>(
+        alloc: Global,
+        image: Image,
+        config: Config,
+        weigher: &W,
+    ) -> Result<(NodeState, Effects), Refusal>
+        ensures { MatchResult result (λ r. IsRestart W.weight_of config image r.1 (station_in r.0)) (λ r. IsRestartRefused W.weight_of config image r) }
+    {
+        let intensity = config.intensity() as usize;
+        let period = config.period() as u64;
+        let (replica, effects) = Replica::restarted(alloc, image, intensity, period, weigher)?;
+        let mut buffer = Buffer::new(alloc, config.buffer() as usize)?;
+        buffer.restart(replica.count());
+        Ok((NodeState { replica, buffer }, effects))
+    }
+
+    // What is ready is carried out. It can only be refused where a peer's number has to be noted.
+    pub(crate) fn carry_out(&mut self, change: Change) -> Result<(), AllocError>
+        requires { Fits (station_in self.old) change }
+        ensures ok { OnOk result (station_in self.new ≡ station_after (station_in self.old) change) }
+        ensures err { OnErr result (station_in self.new ≡ station_in self.old) }
+        ensures saved { IsErr result → saves change ≡ false }
+    {
+        match change {
+            Change::Acknowledges(from, n) => self.buffer.acked(from, n),
+            Change::Learns(learned) => {
+                self.learn(learned);
+                Ok(())
+            }
+            Change::Begins(id, now) => {
+                self.replica.begin(&id, now);
+                Ok(())
+            }
+            Change::Nothing => Ok(()),
+        }
+    }
+
+    // The tables have more, what is kept follows them, and the delta stands behind the held ones.
+    fn learn(&mut self, learned: Learned)
+        requires { Fits (station_in self.old) (Learns learned) }
+        ensures { station_in self.new ≡ station_after (station_in self.old) (Learns learned) }
+    {
+        let Learned {
+            image,
+            delta,
+            own,
+            plan,
+        } = learned;
+        self.replica.take_in(image, own, plan);
+        let _noted = self.buffer.note(delta);
+    }
+}
