@@ -1,4 +1,5 @@
 pub mod Changes
+pub mod Carrying
 pub mod Texts
 pub mod Contents
 pub mod NodeSteps

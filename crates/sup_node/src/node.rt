@@ -1,5 +1,5 @@
 //! A node.
-ghost use Rattle.std.specs.Prelude.{◌≡◌, false, IfOk, IsErr, OnOk, OnErr, MatchResult};
+ghost use Rattle.std.specs.Prelude.{◌≡◌, true, false, IfOk, IsErr, OnOk, OnErr, MatchResult};
 
 use crate::planned::Planned;
 use crate::state::NodeState;
@@ -19,6 +19,7 @@ pub struct Node<W: Weigh> {
 }
 
 impl<W: Weigh> Node<W> {
+    ghost use Rattle.sup_node.specs.Carrying.{takes_memory};
     ghost use Rattle.sup_node.specs.Changes.{saves, station_after};
     ghost use Rattle.sup_node.specs.Contents.{station_in, station_of};
     ghost use Rattle.sup_node.specs.NodeSteps.{Plans, Goes, Fits, IsRestart, IsRestartRefused, fresh_station};
@@ -85,6 +86,7 @@ impl<W: Weigh> Node<W> {
         ensures becomes { OnOk result (station_of self.new ≡ station_after (station_of self.old) planned.change) }
         ensures refused { OnErr result (station_of self.new ≡ station_of self.old) }
         ensures saved { IsErr result → saves planned.change ≡ false }
+        ensures only { IsErr result → takes_memory planned.change ≡ true }
     {
         let Planned { done, change } = planned;
         self.state.carry_out(change)?;

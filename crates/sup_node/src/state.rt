@@ -23,6 +23,7 @@ pub struct NodeState {
 
 impl NodeState {
     ghost use Rattle.sup_node.specs.declared.change.Change.TheVariants.{Learns};
+    ghost use Rattle.sup_node.specs.Carrying.{takes_memory};
     ghost use Rattle.sup_node.specs.Changes.{saves, station_after};
     ghost use Rattle.sup_node.specs.Contents.{station_in};
     ghost use Rattle.sup_node.specs.NodeSteps.{Fits, IsRestart, IsRestartRefused, fresh_station};
@@ -68,6 +69,7 @@ impl NodeState {
         ensures ok { OnOk result (station_in self.new ≡ station_after (station_in self.old) change) }
         ensures err { OnErr result (station_in self.new ≡ station_in self.old) }
         ensures saved { IsErr result → saves change ≡ false }
+        ensures only { IsErr result → takes_memory change ≡ true }
     {
         match change {
             Change::Acknowledges(from, n) => self.buffer.acked(from, n),
