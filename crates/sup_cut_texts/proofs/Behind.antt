@@ -1,5 +1,5 @@
--- The same over bytes, where a front and the whole text agree as far as the front goes.
-use Rattle.std.proofs.Common.{◌≡◌, ℕ, zero, suc, ◌==◌, Bool, true, false, cond, List, [], ◌∷◌, ◌++◌, take, length, Option, Some, None, refl, sym, ap, ◌∙◌}
+-- What follows a closing bracket, over bytes. There a front and the whole text agree, and tokens agree with both.
+use Rattle.std.proofs.Common.{◌≡◌, ℕ, zero, suc, ◌==◌, Bool, true, false, cond, List, [], ◌∷◌, ◌++◌, Option, Some, None, refl, sym, ap}
 use Rattle.std.specs.Prelude.{⊤}
 use Rattle.std.proofs.lemmas.Option.{none-some, same_Some}
 use Rattle.json.specs.Token.{Token, bad}

@@ -1,13 +1,13 @@
 -- An object's text that is cut short is read as nothing.
-use Rattle.std.proofs.Common.{◌≡◌, ℕ, zero, suc, ◌<◌, ◌≤◌, ◌+◌, Bool, true, false, List, [], ◌∷◌, ◌++◌, take, drop, length, Option, Some, None, option_and_then, refl, sym, ap, ◌∙◌, subst, arith, append_assoc, length-append}
+use Rattle.std.proofs.Common.{◌≡◌, ℕ, zero, suc, ◌<◌, ◌≤◌, Bool, true, false, List, [], ◌∷◌, ◌++◌, take, drop, length, Option, Some, None, option_and_then, refl, sym, ap, ◌∙◌, subst, arith, append_assoc, length-append}
 use Rattle.std.proofs.lemmas.Option.{none-some, same_Some}
 use Rattle.std.proofs.lemmas.List.{take-append-le, take-append-drop}
 use Rattle.json.specs.Token.{Token}
-use Rattle.json.specs.Lex.{Lexeme, token, comma, colon, Class, quote, backslash, operator, space, other, class, between, Mode, lex_byte, lex, Place, fresh, after_value, after_comma, place_token, begins_colon, punctuate, tokens}
+use Rattle.json.specs.Lex.{Lexeme, token, comma, colon, Class, quote, backslash, operator, space, other, class, between, Mode, lex_byte, lex, Place, fresh, after_value, after_comma, after_key, may_begin, may_close, if_allowed, place_token, begins_colon, punctuate, tokens}
 use Rattle.json.specs.Json as json
 use Rattle.json.specs.Json.{Json, if_last, value, members}
 use Rattle.json.specs.Print.{quoted}
-use Rattle.json.proofs.Grammar.{left, left-parse_map, value_is, value-begin_object}
+use Rattle.json.proofs.Grammar.{left, value_is}
 use Rattle.serde_json.specs.Data.{Data, object, Members, no_members, member}
 use Rattle.serde_json.specs.Read.{read, of_json, max_depth}
 use Rattle.serde_json.specs.Written.{comma_if, compact_text, members_text}
@@ -20,43 +20,34 @@ abbrev HasSome : {A : Type 0} → List A → Type 0
 HasSome [] = ⊥
 HasSome (x ∷ xs) = Unit {0}
 
-after_a_value : (t : Token) (b : Bool) (k : Place → List Token) → HasSome (place_token after_value t b k)
-after_a_value Token.begin_object b k = tt
-after_a_value Token.end_object b k = tt
-after_a_value Token.begin_array b k = tt
-after_a_value Token.end_array b k = tt
-after_a_value (Token.key s) b k = tt
-after_a_value (Token.string s) true k = tt
-after_a_value (Token.string s) false k = tt
-after_a_value (Token.number s) b k = tt
-after_a_value (Token.boolean v) b k = tt
-after_a_value Token.null b k = tt
-after_a_value Token.bad b k = tt
+allowed : (b : Bool) (t : Token) (k : Place → List Token) (q : Place) → HasSome (if_allowed b t k q)
+allowed true t k q = tt
+allowed false t k q = tt
 
-after_a_comma : (t : Token) (b : Bool) (k : Place → List Token) → HasSome (place_token after_comma t b k)
-after_a_comma Token.begin_object b k = tt
-after_a_comma Token.end_object b k = tt
-after_a_comma Token.begin_array b k = tt
-after_a_comma Token.end_array b k = tt
-after_a_comma (Token.key s) b k = tt
-after_a_comma (Token.string s) true k = tt
-after_a_comma (Token.string s) false k = tt
-after_a_comma (Token.number s) b k = tt
-after_a_comma (Token.boolean v) b k = tt
-after_a_comma Token.null b k = tt
-after_a_comma Token.bad b k = tt
+placed : (p : Place) (t : Token) (b : Bool) (k : Place → List Token) → HasSome (place_token p t b k)
+placed p Token.begin_object b k = allowed (may_begin p) Token.begin_object k fresh
+placed p Token.end_object b k = allowed (may_close p) Token.end_object k after_value
+placed p Token.begin_array b k = allowed (may_begin p) Token.begin_array k fresh
+placed p Token.end_array b k = allowed (may_close p) Token.end_array k after_value
+placed p (Token.key s) b k = tt
+placed p (Token.string s) true k = allowed (may_begin p) (Token.key s) k after_key
+placed p (Token.string s) false k = allowed (may_begin p) (Token.string s) k after_value
+placed p (Token.number s) b k = allowed (may_begin p) (Token.number s) k after_value
+placed p (Token.boolean v) b k = allowed (may_begin p) (Token.boolean v) k after_value
+placed p Token.null b k = allowed (may_begin p) Token.null k after_value
+placed p Token.bad b k = tt
 
 comma_more : (ls : List Lexeme) → HasSome (punctuate after_comma ls)
 unfolding punctuate
 comma_more [] = tt
-comma_more (token t ∷ ls) = after_a_comma t (begins_colon ls) (λ q. punctuate q ls)
+comma_more (token t ∷ ls) = placed after_comma t (begins_colon ls) (λ q. punctuate q ls)
 comma_more (comma ∷ ls) = tt
 comma_more (colon ∷ ls) = tt
 
 some_more : (ls : List Lexeme) → HasSome ls → HasSome (punctuate after_value ls)
 unfolding punctuate
 some_more [] h = absurd h
-some_more (token t ∷ ls) h = after_a_value t (begins_colon ls) (λ q. punctuate q ls)
+some_more (token t ∷ ls) h = placed after_value t (begins_colon ls) (λ q. punctuate q ls)
 some_more (comma ∷ ls) h = comma_more ls
 some_more (colon ∷ ls) h = tt
 
@@ -90,9 +81,8 @@ passed : (xs : List ℕ) (d : Data) → read (123 ∷ xs) ≡ Some d → past 1 
 unfolding past
 passed xs d e =
     let ts = punctuate fresh (lex between xs) in
-    let parts = value-begin_object max_depth ts (omega arith) in
     let rest : left (value max_depth (Token.begin_object ∷ ts)) ≡ Some [] = whole _ d (ap (λ us. read_tokens (value max_depth us)) (sym (tokens_of_object xs)) ∙ e) in
-    Closes-object 126 ts [] (sym (left-parse_map json.object _) ∙ ap left (sym parts) ∙ rest) 0
+    Closes-object max_depth ts [] (omega arith) rest 0
 
 abbrev Closed : List ℕ → Type 0
 Closed xs = (ys : List ℕ) × (behind 1 between xs ≡ Some ys) × ([] ≡ punctuate after_value (lex between ys))

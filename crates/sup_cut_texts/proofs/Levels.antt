@@ -1,9 +1,9 @@
 -- What follows the bracket that closes the level one stands in. A value leaves the level as it was.
-use Rattle.std.proofs.Common.{◌≡◌, ℕ, zero, suc, List, [], ◌∷◌, length, Option, Some, None, option_and_then, refl, sym, ap, ◌∙◌}
+use Rattle.std.proofs.Common.{◌≡◌, ℕ, zero, suc, ◌-◌, ◌<◌, List, [], ◌∷◌, length, Option, Some, None, option_and_then, refl, sym, ap, ◌∙◌}
 use Rattle.std.proofs.lemmas.Option.{none-some, same_Some}
 use Rattle.json.specs.Token.{Token}
 use Rattle.json.specs.Json.{Json, array, object, Items, item, Members, member, Parse, parse_map, after_end_array, read_key, items_step, members_step, items, members, value_with, value}
-use Rattle.json.proofs.Grammar.{left, left-parse_map, closed_array, read_key_is}
+use Rattle.json.proofs.Grammar.{left, left-parse_map, value-begin_object, closed_array, read_key_is}
 
 -- what a token does to the level
 pub data Turn : Type 0 where
@@ -94,6 +94,7 @@ Passes-value zero = Passes-value_with (λ ts. None) (λ ts. None) (λ ts r e. ab
 Passes-value (suc d) =
     Passes-value_with (λ ts. items (value d) (length ts) ts) (λ ts. members (value d) (length ts) ts) (λ ts. Closes-items (value d) (Passes-value d) (length ts) ts) (λ ts. Closes-members (value d) (Passes-value d) (length ts) ts)
 
--- the members that a value's brace opens close that level
-pub Closes-object : (depth : ℕ) (ts r : List Token) → left (members (value depth) (length ts) ts) ≡ Some r → Closes ts r
-Closes-object depth ts r = Closes-members (value depth) (Passes-value depth) (length ts) ts r
+-- what follows an object's opening brace closes that level
+pub Closes-object : (depth : ℕ) (ts r : List Token) → 0 < depth → left (value depth (Token.begin_object ∷ ts)) ≡ Some r → Closes ts r
+Closes-object depth ts r some e =
+    Closes-members (value (depth - 1)) (Passes-value (depth - 1)) (length ts) ts r (sym (left-parse_map object _) ∙ ap left (sym (value-begin_object depth ts some)) ∙ e)

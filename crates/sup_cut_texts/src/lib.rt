@@ -27,7 +27,12 @@ pub fn a_text_cut_short_says_nothing()
 {}
 
 /// The first bytes of a message's text are refused as no JSON, unless memory runs out.
-pub fn a_message_cut_short_is_refused(alloc: Global, message: &Message, text: &[u8], kept: usize) -> Result<Message, WireFault>
+pub fn a_message_cut_short_is_refused(
+    alloc: Global,
+    message: &Message,
+    text: &[u8],
+    kept: usize,
+) -> Result<Message, WireFault>
     requires text { IsTextOf IsDraftOf IsInRange text.now message.now }
     requires short { kept < length text.now }
     ensures { (result ≡ Err NotJson) ⊎ (result ≡ Err OutOfMemory) }
@@ -36,7 +41,12 @@ pub fn a_message_cut_short_is_refused(alloc: Global, message: &Message, text: &[
 }
 
 /// The first bytes of an image's text are refused as no JSON, unless memory runs out.
-pub fn an_image_cut_short_is_refused(alloc: Global, image: &Image, text: &[u8], kept: usize) -> Result<Image, WireFault>
+pub fn an_image_cut_short_is_refused(
+    alloc: Global,
+    image: &Image,
+    text: &[u8],
+    kept: usize,
+) -> Result<Image, WireFault>
     requires text { IsTextOf IsDraftOfImage IsImageInRange text.now image.now }
     requires short { kept < length text.now }
     ensures { (result ≡ Err NotJson) ⊎ (result ≡ Err OutOfMemory) }
