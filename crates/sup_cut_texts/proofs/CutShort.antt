@@ -4,8 +4,7 @@ use Rattle.std.proofs.lemmas.Option.{none-some, same_Some}
 use Rattle.std.proofs.lemmas.List.{take-append-le, take-append-drop}
 use Rattle.json.specs.Token.{Token}
 use Rattle.json.specs.Lex.{Lexeme, token, comma, colon, Class, quote, backslash, operator, space, other, class, between, Mode, lex_byte, lex, Place, fresh, after_value, after_comma, after_key, may_begin, may_close, if_allowed, place_token, begins_colon, punctuate, tokens}
-use Rattle.json.specs.Json as json
-use Rattle.json.specs.Json.{Json, if_last, value, members}
+use Rattle.json.specs.Json.{Json, if_last, value}
 use Rattle.json.specs.Print.{quoted}
 use Rattle.json.proofs.Grammar.{left, value_is}
 use Rattle.serde_json.specs.Data.{Data, object, Members, no_members, member}
