@@ -1,0 +1,4 @@
+pub mod Levels
+pub mod Behind
+pub mod CutShort
+pub mod CutTexts
