@@ -1,0 +1,43 @@
+-- The commands of supctl and their options, as `clap` reads them (this project's command line).
+use Rattle.std.specs.Prelude.{[], ◌∷◌, true, Some, codes}
+use Rattle.clap.specs.Words.{App, Rule, Text, new_app, new_rule, with_rule, with_subcommand}
+use Rattle.clap.specs.declared.builder.action.ArgAction.TheVariants.{Set}
+
+-- --NAME VALUE, at most once, and the value where it isn't given
+abbrev pub option_rule : Text → Text → Rule
+option_rule name default = record (new_rule name) { long = Some name; action = Some Set; defaults = default ∷ []; value_names = 1 }
+
+abbrev pub weigh_rule : Rule
+weigh_rule = option_rule (codes "weigh") (codes "sha256")
+
+-- Erlang/OTP's supervisor has the same two defaults
+abbrev pub intensity_rule : Rule
+intensity_rule = option_rule (codes "intensity") (codes "1")
+
+abbrev pub period_rule : Rule
+period_rule = option_rule (codes "period") (codes "5")
+
+abbrev pub buffer_rule : Rule
+buffer_rule = option_rule (codes "buffer") (codes "64")
+
+-- a command of this name, with --weigh
+abbrev pub weighing_command : Text → App
+weighing_command name = with_rule (new_app name) weigh_rule
+
+-- what is set for a node
+abbrev pub with_settings : App → App
+with_settings a = with_rule (with_rule (with_rule a intensity_rule) period_rule) buffer_rule
+
+unfoldable pub simulate_command : App
+simulate_command = with_settings (weighing_command (codes "simulate"))
+
+unfoldable pub place_command : App
+place_command = weighing_command (codes "place")
+
+-- the first word is no program's name, and a command has to stand there
+abbrev pub with_commands : App → App
+with_commands a = record a { top = record a.top { subcommand_required = true; no_binary_name = true } }
+
+-- supctl simulate|place
+unfoldable pub supctl_app : App
+supctl_app = with_subcommand (with_subcommand (with_commands (new_app (codes "supctl"))) simulate_command.top) place_command.top

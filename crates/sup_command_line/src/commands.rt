@@ -1,0 +1,121 @@
+//! The commands and their options, as `clap` is told of them.
+
+ghost use Rattle.std.specs.Prelude.{◌≡◌, IfOk, codes, false};
+ghost use Rattle.clap.specs.Words.{app_of, new_app, rule_of, with_rule, with_subcommand};
+ghost use Rattle.clap.specs.declared.builder.command.Command.TheViews.{out-Command as fields_of};
+ghost use Rattle.sup_command_line.specs.Words.{buffer_rule, intensity_rule, option_rule, period_rule, place_command, simulate_command, supctl_app, weigh_rule, weighing_command, with_commands, with_settings};
+
+use clap::{Arg, ArgAction, Command};
+use std::alloc::{AllocError, Global};
+
+/// The program's commands.
+#[tactic(auto, unfolding(crate::specs::Words::supctl_app))]
+pub fn supctl<'a>(alloc: Global) -> Result<Command<'a>, AllocError>
+    ensures app { IfOk result (λ c. app_of c ≡ supctl_app) }
+    ensures local { IfOk result (λ c. (fields_of c).has_globals ≡ false) }
+{
+    let command = with_command(top_command(alloc), simulate_command(alloc)?)?;
+    with_command(command, place_command(alloc)?)
+}
+
+fn top_command<'a>(alloc: Global) -> Command<'a>
+    ensures app { app_of result ≡ with_commands (new_app (codes "supctl")) }
+    ensures local { (fields_of result).has_globals ≡ false }
+{
+    Command::new(alloc, "supctl")
+        .no_binary_name(true)
+        .subcommand_required(true)
+}
+
+#[tactic(auto, unfolding(crate::specs::Words::simulate_command))]
+fn simulate_command<'a>(alloc: Global) -> Result<Command<'a>, AllocError>
+    ensures app { IfOk result (λ c. app_of c ≡ simulate_command) }
+    ensures local { IfOk result (λ c. (fields_of c).has_globals ≡ false) }
+{
+    with_settings(alloc, weighing_command(alloc, "simulate")?)
+}
+
+#[tactic(auto, unfolding(crate::specs::Words::place_command))]
+fn place_command<'a>(alloc: Global) -> Result<Command<'a>, AllocError>
+    ensures app { IfOk result (λ c. app_of c ≡ place_command) }
+    ensures local { IfOk result (λ c. (fields_of c).has_globals ≡ false) }
+{
+    weighing_command(alloc, "place")
+}
+
+fn weighing_command<'a>(alloc: Global, name: &'a str) -> Result<Command<'a>, AllocError>
+    ensures app { IfOk result (λ c. app_of c ≡ weighing_command name.entry.now) }
+    ensures local { IfOk result (λ c. (fields_of c).has_globals ≡ false) }
+{
+    with_option(Command::new(alloc, name), weigh_option(alloc))
+}
+
+fn with_settings<'a>(alloc: Global, command: Command<'a>) -> Result<Command<'a>, AllocError>
+    requires { (fields_of command).has_globals ≡ false }
+    ensures app { IfOk result (λ c. app_of c ≡ with_settings (app_of command.entry)) }
+    ensures local { IfOk result (λ c. (fields_of c).has_globals ≡ false) }
+{
+    let command = with_option(command, intensity_option(alloc))?;
+    let command = with_option(command, period_option(alloc))?;
+    with_option(command, buffer_option(alloc))
+}
+
+fn weigh_option<'a>(alloc: Global) -> Arg<'a>
+    ensures rule { rule_of result ≡ weigh_rule }
+    ensures local { result.global ≡ false }
+{
+    option_of(alloc, "weigh", "sha256|flat", "sha256")
+}
+
+fn intensity_option<'a>(alloc: Global) -> Arg<'a>
+    ensures rule { rule_of result ≡ intensity_rule }
+    ensures local { result.global ≡ false }
+{
+    option_of(alloc, "intensity", "0 to 1000", "1")
+}
+
+fn period_option<'a>(alloc: Global) -> Arg<'a>
+    ensures rule { rule_of result ≡ period_rule }
+    ensures local { result.global ≡ false }
+{
+    option_of(alloc, "period", "1 to 1000000", "5")
+}
+
+fn buffer_option<'a>(alloc: Global) -> Arg<'a>
+    ensures rule { rule_of result ≡ buffer_rule }
+    ensures local { result.global ≡ false }
+{
+    option_of(alloc, "buffer", "1 to 1024", "64")
+}
+
+// The value's name is what values there are.
+fn option_of<'a>(alloc: Global, name: &'a str, values: &'a str, default: &'a str) -> Arg<'a>
+    ensures rule { rule_of result ≡ option_rule name.entry.now default.entry.now }
+    ensures local { result.global ≡ false }
+{
+    Arg::new(alloc, name)
+        .long(name)
+        .action(ArgAction::Set)
+        .value_name(values)
+        .default_value(default)
+}
+
+fn with_option<'a>(command: Command<'a>, option: Arg<'a>) -> Result<Command<'a>, AllocError>
+    requires plain { option.global ≡ false }
+    requires local { (fields_of command).has_globals ≡ false }
+    ensures app { IfOk result (λ c. app_of c
+        ≡ with_rule (app_of command.entry) (rule_of option.entry)) }
+    ensures local { IfOk result (λ c. (fields_of c).has_globals ≡ false) }
+{
+    command.arg(option)
+}
+
+fn with_command<'a>(command: Command<'a>, sub: Command<'a>) -> Result<Command<'a>, AllocError>
+    requires plain { (fields_of sub).has_globals ≡ false }
+    requires local { (fields_of command).has_globals ≡ false }
+    ensures app { IfOk result (λ c. app_of c
+        ≡ with_subcommand (app_of command.entry) (app_of sub.entry).top) }
+    ensures local { IfOk result (λ c. (fields_of c).has_globals ≡ false) }
+{
+    command.subcommand(sub)
+}

@@ -1,0 +1,94 @@
+//! From words to what they ask for.
+
+ghost use Rattle.std.specs.Prelude.{◌≡◌, ◌≢◌, ◌↔◌, [], IfOk, IfErr, IsTrue, OnOk, map, option_map, codes};
+ghost use Rattle.clap.specs.Words.{fault_of, found_of, kind_of, rows_of, subcommand_of, subcommand_rows_of};
+ghost use Rattle.sup_command_line.specs.Requests.{ReadsTo, placing_in, request_in, request_of, simulation_in};
+ghost use Rattle.sup_command_line.specs.Words.{supctl_app};
+
+use crate::commands::supctl;
+use crate::options::{config_in, weighing_in};
+use crate::request::Request;
+use clap::error::ErrorKind;
+use clap::{ArgMatches, Error};
+use std::alloc::{AllocError, Global};
+use std::convert::AsStr;
+
+/// What the words after the program's name ask for. An error, with `clap`'s text, is that they ask for nothing, or that
+/// memory was refused ([`is_want_of_memory`]): no command or an unknown one, an option that the command doesn't have or that
+/// is given twice, a word that is no value of its option, and the wish for help.
+#[tactic(auto, unfolding(crate::specs::Requests::request_of), using(crate::proofs::Requests::with_fault, crate::proofs::Requests::without_request))]
+pub fn read_words<S: AsStr>(alloc: Global, words: &[S]) -> Result<Request, Error>
+    ensures { ReadsTo (request_of (map S.text words.now)) result }
+{
+    let matches = matches_of(alloc, words)?;
+    match request_in(&matches) {
+        Some(request) => Ok(request),
+        None => Err(bad_value(alloc)?),
+    }
+}
+
+/// Whether memory was refused, and nothing said of the words.
+pub fn is_want_of_memory(error: &Error) -> bool
+    ensures { IsTrue result ↔ (kind_of error.now ≡ ErrorKind.OutOfMemory) }
+{
+    error.kind() == ErrorKind::OutOfMemory
+}
+
+#[tactic(auto, unfolding(crate::specs::Words::supctl_app, crate::specs::Words::simulate_command, crate::specs::Words::place_command))]
+fn matches_of<'a, S: AsStr>(alloc: Global, words: &'a [S]) -> Result<ArgMatches<'a>, Error>
+    ensures found { IfOk result (λ m. subcommand_rows_of m
+        ≡ subcommand_of supctl_app (map S.text words.entry.now)) }
+    ensures taken { OnOk result (fault_of supctl_app (map S.text words.entry.now) ≡ []) }
+    ensures refused { IfErr result (λ e. kind_of e ≢ ErrorKind.OutOfMemory
+        → fault_of supctl_app (map S.text words.entry.now) ≢ []) }
+{
+    supctl(alloc)?.try_get_matches_from(words)
+}
+
+// `clap` takes any text for a value, so that this is told apart.
+fn bad_value(alloc: Global) -> Result<Error, AllocError>
+    ensures { IfOk result (λ e. kind_of e ≡ ErrorKind.InvalidValue) }
+{
+    let mut command = supctl(alloc)?;
+    command.error(
+        ErrorKind::InvalidValue,
+        "invalid value for an option\n  [values: --weigh sha256|flat, --intensity 0 to 1000, --period 1 to 1000000, --buffer 1 to 1024]",
+    )
+}
+
+// None where an option has a value that it doesn't take.
+#[tactic(auto, unfolding(crate::specs::Requests::request_in))]
+fn request_in(matches: &ArgMatches<'_>) -> Option<Request>
+    ensures { result ≡ request_in (subcommand_rows_of matches.now) }
+{
+    let (name, options) = command_in(matches)?;
+    match name {
+        "simulate" => simulation_in(options),
+        "place" => placing_in(options),
+        _ => None,
+    }
+}
+
+fn command_in<'m, 'a>(matches: &'m ArgMatches<'a>) -> Option<(&'a str, &'m ArgMatches<'a>)>
+    ensures { option_map (λ p. (p.0.now, rows_of (found_of p.1.now))) result
+        ≡ subcommand_rows_of matches.entry.now }
+{
+    matches.subcommand()
+}
+
+#[tactic(auto, unfolding(crate::specs::Requests::simulation_in))]
+fn simulation_in(options: &ArgMatches<'_>) -> Option<Request>
+    ensures { result ≡ simulation_in (rows_of (found_of options.now)) }
+{
+    let weighing = weighing_in(options)?;
+    let config = config_in(options)?;
+    Some(Request::Simulate { weighing, config })
+}
+
+#[tactic(auto, unfolding(crate::specs::Requests::placing_in))]
+fn placing_in(options: &ArgMatches<'_>) -> Option<Request>
+    ensures { result ≡ placing_in (rows_of (found_of options.now)) }
+{
+    let weighing = weighing_in(options)?;
+    Some(Request::Place { weighing })
+}

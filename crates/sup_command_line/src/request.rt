@@ -1,0 +1,29 @@
+//! What can be asked for.
+
+use sup_replica::Config;
+
+/// How members are weighed for children.
+#[derive(Clone, Copy, Debug, PartialEq, Eq)]
+pub enum Weighing {
+    /// By SHA-256 of both names.
+    Sha256,
+    /// All alike.
+    Flat,
+}
+
+/// A command with its options.
+#[derive(Clone, Copy, Debug, PartialEq, Eq)]
+pub enum Request {
+    /// To run a script.
+    Simulate {
+        /// How its nodes weigh members.
+        weighing: Weighing,
+        /// What is set for each of its nodes.
+        config: Config,
+    },
+    /// To place children among members.
+    Place {
+        /// How the members are weighed.
+        weighing: Weighing,
+    },
+}
