@@ -2,10 +2,8 @@
 //! when it runs. They end it where there is no such value.
 use std::process::Abort;
 use sup_causal::Dot;
-use sup_local_sup::{Effects, Incarnation, SupFault, Supervisor, Verdict, Wanted};
-use sup_specs::{
-    ChildId, ChildSpec, ExitReason, Kind, NodeName, Restart, Shutdown, Text, TextFault,
-};
+use sup_local_sup::{Effects, Incarnation, SupFault, Supervisor, Wanted};
+use sup_specs::{ChildId, ChildSpec, Kind, NodeName, Restart, Shutdown, Text, TextFault};
 
 pub(crate) fn try_id(rt: &impl AllocGlobal, id: &str) -> Result<ChildId, TextFault> {
     ChildId::parse(rt.alloc(), id)
@@ -55,10 +53,6 @@ pub(crate) fn permanent(rt: &(impl Abort + AllocGlobal), name: &str, counter: u6
     child(rt, name, counter, Restart::Permanent)
 }
 
-pub(crate) fn keep_none(supervisor: &mut Supervisor) -> Result<Effects, SupFault> {
-    supervisor.wanted(&[])
-}
-
 pub(crate) fn keep_one(
     rt: &impl Abort,
     supervisor: &mut Supervisor,
@@ -90,17 +84,4 @@ pub(crate) fn keep_three(
     assert!(rt; first.id.cmp(&second.id).is_lt() && first.id.cmp(&third.id).is_lt());
     assert!(rt; second.id.cmp(&third.id).is_lt());
     supervisor.wanted(&[first, second, third])
-}
-
-// A crash of a child's k-th run of boot 1.
-pub(crate) fn crash(
-    rt: &(impl Abort + AllocGlobal),
-    supervisor: &mut Supervisor,
-    name: &str,
-    k: u64,
-    now: u64,
-) -> Verdict {
-    supervisor
-        .exited(&id(rt, name), inc(1, k), &ExitReason::Crash, now)
-        .expect(rt, "a verdict")
 }

@@ -13,4 +13,6 @@ mod restarts;
 #[cfg(test)]
 mod seen;
 #[cfg(test)]
+mod stage;
+#[cfg(test)]
 mod wanting;

@@ -10,40 +10,50 @@ fn expect_text(rt: &(impl Abort + AllocGlobal), message: Option<Message>, wanted
     assert!(rt; text.as_slice() == wanted.as_bytes(), "{wanted}");
 }
 
+fn expect_ack(rt: &(impl Abort + AllocGlobal), ends: (&str, u64, &str), wanted: &str) {
+    expect_text(rt, Some(ack(rt, ends.0, ends.1, ends.2)), wanted)
+}
+
 // A node removes a child while another one replaces it.
 #[test]
 fn the_messages_of_an_add_beside_a_removal_have_one_text(rt: HostRuntime) {
     expect_text(&rt, joined_sent(&rt), JOINED);
-    expect_text(&rt, Some(ack(&rt, "b", 2, "a")), ACK_OF_JOINED);
+    expect_ack(&rt, ("b", 2, "a"), ACK_OF_JOINED);
     expect_text(&rt, removed_sent(&rt), REMOVED);
-    expect_text(&rt, Some(ack(&rt, "a", 2, "b")), ACK_OF_REMOVED);
+    expect_ack(&rt, ("a", 2, "b"), ACK_OF_REMOVED);
     expect_text(&rt, replaced_sent(&rt), REPLACED);
 }
 
 #[test]
 fn the_messages_of_two_deltas_in_turn_have_one_text(rt: HostRuntime) {
     expect_text(&rt, first_sent(&rt), STARTED);
-    expect_text(&rt, Some(ack(&rt, "b", 1, "a")), ACK);
+    expect_ack(&rt, ("b", 1, "a"), ACK);
     expect_text(&rt, second_sent(&rt), DELTA);
+}
+
+const TEXTS: [&str; 11] = [
+    ACK,
+    DELTA,
+    STARTED,
+    JOINED,
+    REMOVED,
+    REPLACED,
+    ACK_OF_JOINED,
+    ACK_OF_REMOVED,
+    "{\"ctx\":{\"cloud\":[[\"b\",2],[\"a\",4]],\"vector\":{\"a\":2,\"c\":1}},\"from\":\"a\",\"kind\":\"push\",\"rows\":[],\"to\":\"b\",\"v\":1}",
+    "{\"ctx\":{\"cloud\":[],\"vector\":{\"a\":1}},\"from\":\"a\",\"kind\":\"push\",\"rows\":[[\"member\",\"a\",[\"a\",1],{\"label\":\"\\\"q\\\\\"}]],\"to\":\"b\",\"v\":1}",
+    "{\"ctx\":{\"cloud\":[],\"vector\":{\"a\":2}},\"from\":\"a\",\"kind\":\"delta\",\"n\":9007199254740991,\"rows\":[[\"child\",\"x\",[\"a\",2],{\"arg\":\"z\",\"kind\":\"k\",\"restart\":\"temporary\",\"shutdown\":\"brutal_kill\"}],[\"name\",\"n\",[\"a\",1],\"x\"]],\"to\":\"b\",\"v\":1}",
+];
+
+fn expect_same(rt: &(impl Abort + AllocGlobal), text: &str) {
+    let message = decode(rt.alloc(), text.as_bytes()).expect(rt, text);
+    let written = encode(rt.alloc(), &message).expect(rt, "room");
+    assert!(rt; written.as_slice() == text.as_bytes(), "{text}");
 }
 
 #[test]
 fn each_text_is_written_as_it_was_read(rt: HostRuntime) {
-    for text in [
-        ACK,
-        DELTA,
-        STARTED,
-        JOINED,
-        REMOVED,
-        REPLACED,
-        ACK_OF_JOINED,
-        ACK_OF_REMOVED,
-        "{\"ctx\":{\"cloud\":[[\"b\",2],[\"a\",4]],\"vector\":{\"a\":2,\"c\":1}},\"from\":\"a\",\"kind\":\"push\",\"rows\":[],\"to\":\"b\",\"v\":1}",
-        "{\"ctx\":{\"cloud\":[],\"vector\":{\"a\":1}},\"from\":\"a\",\"kind\":\"push\",\"rows\":[[\"member\",\"a\",[\"a\",1],{\"label\":\"\\\"q\\\\\"}]],\"to\":\"b\",\"v\":1}",
-        "{\"ctx\":{\"cloud\":[],\"vector\":{\"a\":2}},\"from\":\"a\",\"kind\":\"delta\",\"n\":9007199254740991,\"rows\":[[\"child\",\"x\",[\"a\",2],{\"arg\":\"z\",\"kind\":\"k\",\"restart\":\"temporary\",\"shutdown\":\"brutal_kill\"}],[\"name\",\"n\",[\"a\",1],\"x\"]],\"to\":\"b\",\"v\":1}",
-    ] {
-        let message = decode(rt.alloc(), text.as_bytes()).expect(&rt, text);
-        let written = encode(rt.alloc(), &message).expect(&rt, "room");
-        assert!(rt; written.as_slice() == text.as_bytes(), "{text}");
+    for text in &TEXTS {
+        expect_same(&rt, text);
     }
 }
