@@ -1,13 +1,11 @@
 -- A script: its lines, and the number of the first bad one (this project's script format).
 use Rattle.std.specs.Prelude.{◌≡◌, ℕ, Bool, true, not, ◌&&◌, ◌||◌, ◌==◌, nat_le, List, [], ◌∷◌, length, slice_index, filter, Option, Some, None, Result, Ok, Err, if◌then◌else◌}
 use Rattle.std.specs.List.{slice_split, enumerate_from, list_all}
-use Rattle.sup_lines.specs.Words.{Word, Name}
+use Rattle.sup_lines.specs.Words.{Word, Name, ReadsWhere}
 use Rattle.sup_lines.specs.Opening.{nodes_of}
 use Rattle.sup_lines.specs.Lines.{form_of}
 use Rattle.sup_lines.specs.declared.line.Line.{Line}
 use Rattle.sup_lines.specs.declared.fault.LineFault.{LineFault}
-use Rattle.sup_lines.specs.declared.fault.LineFault.TheVariants.{Bad}
-use Rattle.sup_lines.specs.declared.fault.LineFault.TheVariants as line_fault
 use Rattle.sup_lines.specs.declared.fault.ScriptFault.{ScriptFault}
 use Rattle.sup_lines.specs.declared.fault.ScriptFault.TheVariants.{BadLine, OutOfMemory}
 
@@ -68,11 +66,9 @@ ScriptText = List Name × List Line
 abbrev pub script_of : List ℕ → Result ScriptText ℕ
 script_of bytes = opened opening_of line_of (numbered_lines bytes)
 
--- What was answered is what reading the line gives, unless memory was refused, to list its words or to what has a form. A line that isn't plain is always bad.
+-- What was answered is what reading the line gives, unless memory was refused, to list its words or to what they say. A line that isn't plain is always bad.
 abbrev pub ReadsLine : {X Y : Type 0} → (X → Y) → List ℕ → Result X LineFault → Option Y → Type 0
-ReadsLine view line (Ok x) read = read ≡ Some (view x)
-ReadsLine view line (Err Bad) read = read ≡ None
-ReadsLine view line (Err line_fault.OutOfMemory) read = is_plain line ≡ true
+ReadsLine view line result read = ReadsWhere view (is_plain line ≡ true) result read
 
 -- What was answered is what reading gives, unless memory was refused.
 abbrev pub ReadsAll : {X Y : Type 0} → (X → Y) → Result X ScriptFault → Result Y ℕ → Type 0

@@ -1,9 +1,9 @@
 //! The lines after `nodes`: each is a step, or asks for something else.
 
 ghost use Rattle.std.specs.Prelude.{◌≡◌, ◌≢◌, IfErr, None};
-ghost use Rattle.sup_lines.specs.Words.{Reads, ReadsOnly, texts};
+ghost use Rattle.sup_lines.specs.Words.{Reads, ReadsWhere, texts};
 ghost use Rattle.sup_lines.specs.Forms.{deed_of};
-ghost use Rattle.sup_lines.specs.Lines.{form_of, raw_of, settle_of, show_of, step_of, where_of};
+ghost use Rattle.sup_lines.specs.Lines.{IsBegun, form_of, raw_of, settle_of, show_of, step_of, where_of};
 ghost use Rattle.sup_lines.specs.Script.{ReadsLine, line_of};
 
 use crate::endings::read_ended;
@@ -23,17 +23,22 @@ pub enum Line {
     Step(Step),
     /// The nodes exchange all that they know.
     Settle,
-    /// What this node holds is printed.
+    /// What this node holds is printed, and no step is made.
     Show(NodeName),
-    /// Where the child runs that a name stands for at this node is printed.
+    /// The place of the child that a name stands for at this node is printed, and no step is made.
     Where {
         node: NodeName,
         name: Name,
     },
 }
 
-/// What a line asks for. A line that isn't plain, or whose words have no form, is bad; but its
-/// words are listed first, so that want of memory may be told of any plain line.
+/// What a line asks for.
+///
+/// # Errors
+///
+/// - `LineFault::Bad` where it has no form: always where it isn't plain.
+/// - `LineFault::OutOfMemory` where memory was refused. The words are listed first, so that it may
+///   stand in place of any answer to a plain line.
 #[tactic(auto, unfolding(crate::specs::Script::line_of))]
 pub fn read_line(alloc: Global, line: &[u8]) -> Result<Line, LineFault>
     ensures { ReadsLine (λ line. line) line.now result (line_of line.now) }
@@ -49,7 +54,8 @@ pub fn read_line(alloc: Global, line: &[u8]) -> Result<Line, LineFault>
 
 #[tactic(auto, unfolding(crate::specs::Lines::form_of))]
 fn read_form(alloc: Global, words: &[&str]) -> Result<Line, LineFault>
-    ensures { ReadsOnly (λ line. line) (Unit {0}) result (form_of (texts words.now)) }
+    ensures { ReadsWhere (λ line. line) (IsBegun (texts words.now)) result
+        (form_of (texts words.now)) }
 {
     let Some((verb, others)) = words.split_first() else {
         return Err(LineFault::Bad);
@@ -63,10 +69,10 @@ fn read_form(alloc: Global, words: &[&str]) -> Result<Line, LineFault>
     }
 }
 
-// What memory was refused to has a form, but its endings were not judged then.
+// Where memory was refused, the endings were not judged.
 #[tactic(auto, unfolding(crate::specs::Lines::step_of))]
 fn read_step(alloc: Global, words: &[&str]) -> Result<Line, LineFault>
-    ensures { ReadsOnly (λ line. line) (deed_of (texts words.now) ≢ None) result
+    ensures { ReadsWhere (λ line. line) (deed_of (texts words.now) ≢ None) result
         (step_of (texts words.now)) }
 {
     let (deed, endings) = read_deed(alloc, words)?;

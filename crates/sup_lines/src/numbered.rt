@@ -9,11 +9,17 @@ use std::alloc::{AllocError, Global};
 /// A line that isn't skipped, and its number from 1.
 #[derive(Clone, Copy)]
 pub struct NumberedLine<'a> {
+    /// Skipped lines are counted too.
     pub number: u64,
+    /// Without its line feed.
     pub bytes: &'a [u8],
 }
 
-/// The lines that are neither empty nor a comment. These are counted too.
+/// The lines that are neither empty nor a comment, each behind its number.
+///
+/// # Errors
+///
+/// `AllocError` where memory was refused.
 pub fn number_lines<'a>(alloc: Global, bytes: &'a [u8]) -> Result<Vec<NumberedLine<'a>>, AllocError>
     ensures { IfOk result (λ v. map (λ l. (l.number, l.bytes.now)) v.items
         ≡ numbered_lines bytes.entry.now) }

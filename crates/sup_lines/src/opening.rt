@@ -41,7 +41,12 @@ fn read_nodes(alloc: Global, words: &[&str]) -> Result<Vec<NodeName>, LineFault>
     read_distinct(alloc, words)
 }
 
-/// The names that the words are, no two of them equal. All words are judged before memory is taken.
+/// The names that the words are, no two of them equal.
+///
+/// # Errors
+///
+/// - `LineFault::Bad` exactly where a word is no name of a node, or two are equal.
+/// - `LineFault::OutOfMemory` where they are distinct names, and memory for them was refused.
 pub fn read_distinct(alloc: Global, words: &[&str]) -> Result<Vec<NodeName>, LineFault>
     ensures { Reads (λ v. v.items) result (distinct_names_of (texts words.now)) }
 {

@@ -13,7 +13,9 @@ use sup_specs::NodeName;
 /// The nodes, and what the lines after them ask for.
 #[derive(Drop)]
 pub struct Script {
+    /// Distinct names, 1 to 16.
     pub nodes: Vec<NodeName>,
+    /// One for each line after that of the nodes, but for skipped ones.
     pub lines: Vec<Line>,
 }
 
@@ -21,8 +23,9 @@ pub struct Script {
 ///
 /// # Errors
 ///
-/// - `ScriptFault::BadLine` where a line is bad, with the number of the first one from 1, or 0 where all lines are skipped.
-/// - `ScriptFault::OutOfMemory` where memory was refused; it may stand in place of any answer.
+/// - `ScriptFault::BadLine` where a line is bad, with the number of the first such line from 1, or 0
+///   where all lines are skipped.
+/// - `ScriptFault::OutOfMemory` where memory was refused. It may stand in place of any answer.
 pub fn read_script(alloc: Global, bytes: &[u8]) -> Result<Script, ScriptFault>
     ensures { ReadsAll (λ s. (s.nodes.items, s.lines.items)) result (script_of bytes.now) }
 {

@@ -29,6 +29,11 @@ pub fn read_node_name(word: &str) -> Result<NodeName, LineFault>
 }
 
 /// The id of a child that a word is.
+///
+/// # Errors
+///
+/// - `LineFault::Bad` exactly where it is none.
+/// - `LineFault::OutOfMemory` where it is one, and memory for it was refused.
 #[tactic(auto, unfolding(crate::specs::Values::child_id_of))]
 pub fn read_child_id(alloc: Global, word: &str) -> Result<ChildId, LineFault>
     ensures { Reads (λ id. id) result (child_id_of word.now) }

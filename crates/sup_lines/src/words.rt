@@ -8,6 +8,10 @@ use std::alloc::{AllocError, Global};
 use std::str;
 
 /// The words between single spaces. Two spaces have an empty word between them.
+///
+/// # Errors
+///
+/// `AllocError` where memory was refused.
 pub fn words_of<'a>(alloc: Global, line: &'a str) -> Result<Vec<&'a str>, AllocError>
     ensures { IfOk result (λ v. texts v.items ≡ words_of line.entry.now) }
 {
