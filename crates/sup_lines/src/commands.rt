@@ -17,7 +17,10 @@ use sup_replica::{Act, Event};
 
 /// A node becomes a member.
 #[tactic(auto, unfolding(crate::specs::Forms::join_of))]
-pub fn read_join<'a>(alloc: Global, words: &'a [&'a str]) -> Result<(Deed, &'a [&'a str]), LineFault>
+pub fn read_join<'a>(
+    alloc: Global,
+    words: &'a [&'a str],
+) -> Result<(Deed, &'a [&'a str]), LineFault>
     ensures { Reads and_rest result (join_of (texts words.entry.now)) }
 {
     match words {

@@ -19,7 +19,10 @@ use sup_specs::{MAX, NodeName};
 
 /// A run of a child has ended. All of the form is judged before memory is taken.
 #[tactic(auto, unfolding(crate::specs::Forms::exit_of))]
-pub fn read_exit<'a>(alloc: Global, words: &'a [&'a str]) -> Result<(Deed, &'a [&'a str]), LineFault>
+pub fn read_exit<'a>(
+    alloc: Global,
+    words: &'a [&'a str],
+) -> Result<(Deed, &'a [&'a str]), LineFault>
     ensures { Reads and_rest result (exit_of (texts words.entry.now)) }
 {
     match words {
@@ -119,7 +122,8 @@ pub fn read_stop<'a>(words: &'a [&'a str]) -> Result<(Deed, &'a [&'a str]), Line
     match words {
         [node, rest @ ..] => {
             let node = read_node_name(node)?;
-            Ok((Deed::At { node, act: Act::Stop }, rest))
+            let act = Act::Stop;
+            Ok((Deed::At { node, act }, rest))
         }
         _ => Err(LineFault::Bad),
     }

@@ -13,7 +13,10 @@ use std::alloc::Global;
 
 /// What a line does before its endings, and the words that it leaves.
 #[tactic(auto, unfolding(crate::specs::Forms::deed_of))]
-pub fn read_deed<'a>(alloc: Global, words: &'a [&'a str]) -> Result<(Deed, &'a [&'a str]), LineFault>
+pub fn read_deed<'a>(
+    alloc: Global,
+    words: &'a [&'a str],
+) -> Result<(Deed, &'a [&'a str]), LineFault>
     ensures { Reads and_rest result (deed_of (texts words.entry.now)) }
 {
     let Some((verb, words)) = words.split_first() else {

@@ -26,10 +26,7 @@ pub enum Line {
     /// What this node holds is printed, and no step is made.
     Show(NodeName),
     /// The place of the child that a name stands for at this node is printed, and no step is made.
-    Where {
-        node: NodeName,
-        name: Name,
-    },
+    Where { node: NodeName, name: Name },
 }
 
 /// What a line asks for.

@@ -45,7 +45,10 @@ pub fn word_behind<'a>(words: &'a [&'a str], key: &str) -> (Option<&'a str>, &'a
 
 /// The label of a member, empty where there is none; and the words after it.
 #[tactic(auto, unfolding(crate::specs::Options::label_of))]
-pub fn read_label<'a>(alloc: Global, words: &'a [&'a str]) -> Result<(Text, &'a [&'a str]), LineFault>
+pub fn read_label<'a>(
+    alloc: Global,
+    words: &'a [&'a str],
+) -> Result<(Text, &'a [&'a str]), LineFault>
     ensures { Reads and_rest result (label_of (texts words.entry.now)) }
 {
     let (label, words) = option_at(words, "label=", "");

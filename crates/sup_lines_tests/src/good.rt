@@ -33,7 +33,10 @@ const COMMANDS: &[(&str, &str)] = &[
         "start a kind=k kind=z",
         "a: start kind=k z [] always 5000, at 0, saves",
     ),
-    ("start a @5", "a: start @5 worker [] always 5000, at 0, saves"),
+    (
+        "start a @5",
+        "a: start @5 worker [] always 5000, at 0, saves",
+    ),
     (
         "start a !fail",
         "a: start !fail worker [] always 5000, at 0, saves",
@@ -56,7 +59,10 @@ const COMMANDS: &[(&str, &str)] = &[
 
 const EVENTS: &[(&str, &str)] = &[
     ("exit a x 1.2 normal", "a: exit x 1 2 done, at 0, saves"),
-    ("exit a x 1.2 shutdown @5", "a: exit x 1 2 told to, at 5, saves"),
+    (
+        "exit a x 1.2 shutdown @5",
+        "a: exit x 1 2 told to, at 5, saves",
+    ),
     (
         "exit a x 1.2 shutdown:later !fail",
         "a: exit x 1 2 told to [later], at 0, fails",
@@ -65,7 +71,10 @@ const EVENTS: &[(&str, &str)] = &[
         "exit a x 1.2 shutdown:@5",
         "a: exit x 1 2 told to [@5], at 0, saves",
     ),
-    ("exit a x 10.20 failed", "a: exit x 10 20 gave up, at 0, saves"),
+    (
+        "exit a x 10.20 failed",
+        "a: exit x 10 20 gave up, at 0, saves",
+    ),
     (
         "exit a x 0.0 crash @4 !fail",
         "a: exit x 0 0 broke, at 4, fails",
@@ -78,7 +87,10 @@ const EVENTS: &[(&str, &str)] = &[
     ("ship a a", "a: ship to a, at 0, saves"),
     ("push a b !fail", "a: push to b, at 0, fails"),
     ("deliver a 1", "a 1 to its receiver less 0, at 0, saves"),
-    ("deliver a 0 drop 0", "a 0 to its receiver less 0, at 0, saves"),
+    (
+        "deliver a 0 drop 0",
+        "a 0 to its receiver less 0, at 0, saves",
+    ),
     (
         "deliver a 1 at c drop 2 @5 !fail",
         "a 1 to c less 2, at 5, fails",
