@@ -1,0 +1,33 @@
+-- The first line of a script, which names the nodes (this project's script format).
+use Rattle.std.specs.Prelude.{Bool, true, not, ◌&&◌, nat_le, nat_lt, List, [], ◌∷◌, length, Option, Some, None, if◌then◌else◌, codes}
+use Rattle.std.specs.Str.{bytes_eq}
+use Rattle.std.specs.List.{list_any}
+use Rattle.sup_lines.specs.Words.{Word, Name, ◌>>=◌}
+use Rattle.sup_lines.specs.Values.{node_name_of}
+
+-- each word, read as a name
+abbrev pub names_of : List Word → Option (List Name)
+names_of [] = Some []
+names_of (word ∷ words) = do
+  name ← node_name_of word
+  names ← names_of words
+  Some (name ∷ names)
+
+-- no name stands twice
+abbrev pub are_distinct : List Name → Bool
+are_distinct [] = true
+are_distinct (name ∷ names) = not (list_any (λ other. bytes_eq other name) names) && are_distinct names
+
+abbrev pub if_distinct : List Name → Option (List Name)
+if_distinct names = if are_distinct names then Some names else None
+
+-- each word, read as a name, where no name stands twice
+abbrev pub distinct_names_of : List Word → Option (List Name)
+distinct_names_of words = names_of words >>= if_distinct
+
+-- nodes NAME.., 1 to 16 distinct names
+unfoldable pub nodes_of : List Word → Option (List Name)
+nodes_of [] = None
+nodes_of (verb ∷ words) =
+    if bytes_eq verb (codes "nodes") && nat_lt 0 (length words) && nat_le (length words) 16
+    then distinct_names_of words else None

@@ -1,0 +1,146 @@
+//! The lines of runs that end, of messages, and of nodes that stop and begin anew, each by its
+//! form, and the words that it leaves.
+
+ghost use Rattle.std.specs.Prelude.{◌≡◌, IfErr, option_map};
+ghost use Rattle.sup_lines.specs.Words.{Reads, and_rest, texts};
+ghost use Rattle.sup_lines.specs.Values.{node_name_of, number_of};
+ghost use Rattle.sup_lines.specs.Options.{if_there};
+ghost use Rattle.sup_lines.specs.Forms.{deliver_of, exit_of, push_of, reboot_of, ship_of, stop_of};
+
+use crate::deed::Deed;
+use crate::fault::LineFault;
+use crate::options::word_behind;
+use crate::values::{
+    check_child_id, read_child_id, read_incarnation, read_node_name, read_number, read_reason,
+};
+use std::alloc::Global;
+use sup_replica::{Act, Event};
+use sup_specs::{MAX, NodeName};
+
+/// A run of a child has ended. All of the form is judged before memory is taken.
+#[tactic(auto, unfolding(crate::specs::Forms::exit_of))]
+pub fn read_exit<'a>(
+    alloc: Global,
+    words: &'a [&'a str],
+) -> Result<(Deed, &'a [&'a str]), LineFault>
+    ensures { Reads and_rest result (exit_of (texts words.entry.now)) }
+{
+    match words {
+        [node, id, run, reason, rest @ ..] => {
+            let node = read_node_name(node)?;
+            check_child_id(id)?;
+            let inc = read_incarnation(run)?;
+            let reason = read_reason(alloc, reason)?;
+            let id = read_child_id(alloc, id)?;
+            let act = Act::Event(Event::Exit { id, inc, reason });
+            Ok((Deed::At { node, act }, rest))
+        }
+        _ => Err(LineFault::Bad),
+    }
+}
+
+/// Another node is sent what it lacks.
+#[tactic(auto, unfolding(crate::specs::Forms::ship_of))]
+pub fn read_ship<'a>(words: &'a [&'a str]) -> Result<(Deed, &'a [&'a str]), LineFault>
+    ensures deed { Reads and_rest result (ship_of (texts words.entry.now)) }
+    ensures bad { IfErr result (λ e. e ≡ LineFault.Bad) }
+{
+    match words {
+        [node, to, rest @ ..] => {
+            let node = read_node_name(node)?;
+            let to = read_node_name(to)?;
+            let act = Act::Event(Event::Ship(to));
+            Ok((Deed::At { node, act }, rest))
+        }
+        _ => Err(LineFault::Bad),
+    }
+}
+
+/// Another node is sent the newest own operation.
+#[tactic(auto, unfolding(crate::specs::Forms::push_of))]
+pub fn read_push<'a>(words: &'a [&'a str]) -> Result<(Deed, &'a [&'a str]), LineFault>
+    ensures deed { Reads and_rest result (push_of (texts words.entry.now)) }
+    ensures bad { IfErr result (λ e. e ≡ LineFault.Bad) }
+{
+    match words {
+        [node, to, rest @ ..] => {
+            let node = read_node_name(node)?;
+            let to = read_node_name(to)?;
+            let act = Act::Event(Event::Push(to));
+            Ok((Deed::At { node, act }, rest))
+        }
+        _ => Err(LineFault::Bad),
+    }
+}
+
+/// A message comes.
+#[tactic(auto, unfolding(crate::specs::Forms::deliver_of))]
+pub fn read_deliver<'a>(words: &'a [&'a str]) -> Result<(Deed, &'a [&'a str]), LineFault>
+    ensures deed { Reads and_rest result (deliver_of (texts words.entry.now)) }
+    ensures bad { IfErr result (λ e. e ≡ LineFault.Bad) }
+{
+    match words {
+        [from, number, options @ ..] => {
+            let (receiver, options) = word_behind(options, "at");
+            let (cut, rest) = word_behind(options, "drop");
+            let from = read_node_name(from)?;
+            let k = read_number(number, MAX)?;
+            let at = read_receiver(receiver)?;
+            let drop = read_cut(cut)?.unwrap_or(0);
+            Ok((Deed::Delivery { from, k, at, drop }, rest))
+        }
+        _ => Err(LineFault::Bad),
+    }
+}
+
+fn read_receiver(word: Option<&str>) -> Result<Option<NodeName>, LineFault>
+    ensures name { Reads (λ at. at) result (if_there node_name_of (option_map (λ w. w.now) word.entry)) }
+    ensures bad { IfErr result (λ e. e ≡ LineFault.Bad) }
+{
+    match word {
+        Some(word) => Ok(Some(read_node_name(word)?)),
+        None => Ok(None),
+    }
+}
+
+fn read_cut(word: Option<&str>) -> Result<Option<u64>, LineFault>
+    ensures number { Reads (λ cut. cut) result (if_there (number_of MAX) (option_map (λ w. w.now) word.entry)) }
+    ensures bad { IfErr result (λ e. e ≡ LineFault.Bad) }
+{
+    match word {
+        Some(word) => Ok(Some(read_number(word, MAX)?)),
+        None => Ok(None),
+    }
+}
+
+/// A node ends.
+#[tactic(auto, unfolding(crate::specs::Forms::stop_of))]
+pub fn read_stop<'a>(words: &'a [&'a str]) -> Result<(Deed, &'a [&'a str]), LineFault>
+    ensures deed { Reads and_rest result (stop_of (texts words.entry.now)) }
+    ensures bad { IfErr result (λ e. e ≡ LineFault.Bad) }
+{
+    match words {
+        [node, rest @ ..] => {
+            let node = read_node_name(node)?;
+            let act = Act::Stop;
+            Ok((Deed::At { node, act }, rest))
+        }
+        _ => Err(LineFault::Bad),
+    }
+}
+
+/// A node begins a new boot.
+#[tactic(auto, unfolding(crate::specs::Forms::reboot_of))]
+pub fn read_reboot<'a>(words: &'a [&'a str]) -> Result<(Deed, &'a [&'a str]), LineFault>
+    ensures deed { Reads and_rest result (reboot_of (texts words.entry.now)) }
+    ensures bad { IfErr result (λ e. e ≡ LineFault.Bad) }
+{
+    match words {
+        [node, rest @ ..] => {
+            let node = read_node_name(node)?;
+            let act = Act::Restart;
+            Ok((Deed::At { node, act }, rest))
+        }
+        _ => Err(LineFault::Bad),
+    }
+}

@@ -1,0 +1,132 @@
+//! The lines after `nodes`: each is a step, or asks for something else.
+
+ghost use Rattle.std.specs.Prelude.{◌≡◌, ◌≢◌, IfErr, None};
+ghost use Rattle.sup_lines.specs.Words.{Reads, ReadsWhere, texts};
+ghost use Rattle.sup_lines.specs.Forms.{deed_of};
+ghost use Rattle.sup_lines.specs.Lines.{IsBegun, form_of, raw_of, settle_of, show_of, step_of, where_of};
+ghost use Rattle.sup_lines.specs.Script.{ReadsLine, line_of};
+
+use crate::endings::read_ended;
+use crate::fault::LineFault;
+use crate::forms::read_deed;
+use crate::values::{read_node_name, read_registered_name};
+use crate::words::{plain_text, words_of};
+use std::alloc::Global;
+use sup_model::Step;
+use sup_replica::MessageText;
+use sup_specs::{Name, NodeName};
+
+/// A line after `nodes`.
+#[derive(Drop)]
+pub enum Line {
+    /// Something happens in the world.
+    Step(Step),
+    /// The nodes exchange all that they know.
+    Settle,
+    /// What this node holds is printed, and no step is made.
+    Show(NodeName),
+    /// The place of the child that a name stands for at this node is printed, and no step is made.
+    Where { node: NodeName, name: Name },
+}
+
+/// What a line asks for.
+///
+/// # Errors
+///
+/// - `LineFault::Bad` where it has no form: always where it isn't plain.
+/// - `LineFault::OutOfMemory` where memory was refused. The words are listed first, so that it may
+///   stand in place of any answer to a plain line.
+#[tactic(auto, unfolding(crate::specs::Script::line_of))]
+pub fn read_line(alloc: Global, line: &[u8]) -> Result<Line, LineFault>
+    ensures { ReadsLine (λ line. line) line.now result (line_of line.now) }
+{
+    match plain_text(line) {
+        Some(text) => {
+            let words = words_of(alloc, text)?;
+            read_form(alloc, words.as_slice())
+        }
+        None => Err(LineFault::Bad),
+    }
+}
+
+#[tactic(auto, unfolding(crate::specs::Lines::form_of))]
+fn read_form(alloc: Global, words: &[&str]) -> Result<Line, LineFault>
+    ensures { ReadsWhere (λ line. line) (IsBegun (texts words.now)) result
+        (form_of (texts words.now)) }
+{
+    let Some((verb, others)) = words.split_first() else {
+        return Err(LineFault::Bad);
+    };
+    match *verb {
+        "raw" => read_raw(alloc, others),
+        "settle" => read_settle(others),
+        "show" => read_show(others),
+        "where" => read_where(alloc, others),
+        _ => read_step(alloc, words),
+    }
+}
+
+// Where memory was refused, the endings were not judged.
+#[tactic(auto, unfolding(crate::specs::Lines::step_of))]
+fn read_step(alloc: Global, words: &[&str]) -> Result<Line, LineFault>
+    ensures { ReadsWhere (λ line. line) (deed_of (texts words.now) ≢ None) result
+        (step_of (texts words.now)) }
+{
+    let (deed, endings) = read_deed(alloc, words)?;
+    let step = read_ended(deed, endings)?;
+    Ok(Line::Step(step))
+}
+
+#[tactic(auto, unfolding(crate::specs::Lines::raw_of))]
+fn read_raw(alloc: Global, words: &[&str]) -> Result<Line, LineFault>
+    ensures { Reads (λ line. line) result (raw_of (texts words.now)) }
+{
+    match words {
+        [node, word] if !word.is_empty() => {
+            let at = read_node_name(node)?;
+            let bytes = word.as_bytes().to_vec(alloc)?;
+            let bytes = MessageText::new(bytes);
+            Ok(Line::Step(Step::Raw { at, bytes }))
+        }
+        _ => Err(LineFault::Bad),
+    }
+}
+
+#[tactic(auto, unfolding(crate::specs::Lines::settle_of))]
+fn read_settle(words: &[&str]) -> Result<Line, LineFault>
+    ensures line { Reads (λ line. line) result (settle_of (texts words.now)) }
+    ensures bad { IfErr result (λ e. e ≡ LineFault.Bad) }
+{
+    match words {
+        [] => Ok(Line::Settle),
+        _ => Err(LineFault::Bad),
+    }
+}
+
+#[tactic(auto, unfolding(crate::specs::Lines::show_of))]
+fn read_show(words: &[&str]) -> Result<Line, LineFault>
+    ensures line { Reads (λ line. line) result (show_of (texts words.now)) }
+    ensures bad { IfErr result (λ e. e ≡ LineFault.Bad) }
+{
+    match words {
+        [node] => {
+            let node = read_node_name(node)?;
+            Ok(Line::Show(node))
+        }
+        _ => Err(LineFault::Bad),
+    }
+}
+
+#[tactic(auto, unfolding(crate::specs::Lines::where_of))]
+fn read_where(alloc: Global, words: &[&str]) -> Result<Line, LineFault>
+    ensures { Reads (λ line. line) result (where_of (texts words.now)) }
+{
+    match words {
+        [node, name] => {
+            let node = read_node_name(node)?;
+            let name = read_registered_name(alloc, name)?;
+            Ok(Line::Where { node, name })
+        }
+        _ => Err(LineFault::Bad),
+    }
+}

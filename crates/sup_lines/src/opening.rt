@@ -1,0 +1,93 @@
+//! The first line of a script: its nodes.
+
+ghost use Rattle.std.specs.Prelude.{◌≡◌, ◌≢◌, IfErr, None};
+ghost use Rattle.sup_lines.specs.Words.{Reads, texts};
+ghost use Rattle.sup_lines.specs.Opening.{are_distinct, distinct_names_of, names_of, nodes_of};
+ghost use Rattle.sup_lines.specs.Script.{ReadsLine, opening_of};
+
+use crate::fault::LineFault;
+use crate::values::read_node_name;
+use crate::words::{plain_text, words_of};
+use std::alloc::Global;
+use sup_specs::NodeName;
+
+/// A world has at most this many nodes.
+pub const MOST_NODES: usize = 16;
+
+/// The nodes of a script, 1 to 16 distinct ones.
+#[tactic(auto, unfolding(crate::specs::Script::opening_of))]
+pub fn read_opening(alloc: Global, line: &[u8]) -> Result<Vec<NodeName>, LineFault>
+    ensures { ReadsLine (λ v. v.items) line.now result (opening_of line.now) }
+{
+    match plain_text(line) {
+        Some(text) => {
+            let words = words_of(alloc, text)?;
+            read_nodes(alloc, words.as_slice())
+        }
+        None => Err(LineFault::Bad),
+    }
+}
+
+#[tactic(auto, unfolding(crate::specs::Opening::nodes_of))]
+fn read_nodes(alloc: Global, words: &[&str]) -> Result<Vec<NodeName>, LineFault>
+    ensures { Reads (λ v. v.items) result (nodes_of (texts words.now)) }
+{
+    let Some((verb, words)) = words.split_first() else {
+        return Err(LineFault::Bad);
+    };
+    if *verb != "nodes" || words.is_empty() || words.len() > MOST_NODES {
+        return Err(LineFault::Bad);
+    }
+    read_distinct(alloc, words)
+}
+
+/// The names that the words are, no two of them equal.
+///
+/// # Errors
+///
+/// - `LineFault::Bad` exactly where a word is no name of a node, or two are equal.
+/// - `LineFault::OutOfMemory` where they are distinct names, and memory for them was refused.
+pub fn read_distinct(alloc: Global, words: &[&str]) -> Result<Vec<NodeName>, LineFault>
+    ensures { Reads (λ v. v.items) result (distinct_names_of (texts words.now)) }
+{
+    check_names(words)?;
+    if !are_distinct(words) {
+        return Err(LineFault::Bad);
+    }
+    read_names(alloc, words)
+}
+
+// Sixteen words at most, as below.
+#[tactic(auto, using(crate::proofs::WordValues::named))]
+fn check_names(words: &[&str]) -> Result<(), LineFault>
+    ensures names { Reads (λ _. texts words.now) result (names_of (texts words.now)) }
+    ensures bad { IfErr result (λ e. e ≡ LineFault.Bad) }
+{
+    let Some((word, others)) = words.split_first() else {
+        return Ok(());
+    };
+    read_node_name(word)?;
+    check_names(others)?;
+    Ok(())
+}
+
+fn read_names(alloc: Global, words: &[&str]) -> Result<Vec<NodeName>, LineFault>
+    requires { names_of (texts words.now) ≢ None }
+    ensures { Reads (λ v. v.items) result (names_of (texts words.now)) }
+{
+    let mut names = Vec::new(alloc);
+    for word in words {
+        names.push(read_node_name(word)?)?;
+    }
+    Ok(names)
+}
+
+// Sixteen words at most: each is looked for among the later ones.
+fn are_distinct(words: &[&str]) -> bool
+    ensures { result ≡ are_distinct (texts words.now) }
+{
+    let Some((word, others)) = words.split_first() else {
+        return true;
+    };
+    !others.contains(word) && are_distinct(others)
+}
