@@ -26,7 +26,12 @@ impl fmt::Display for LetterKindText {
 }
 
 // The line of a letter, the sender's k-th.
-fn letter_text(alloc: Global, from: &NodeName, k: u64, letter: &Letter) -> Result<String, AllocError>
+fn letter_text(
+    alloc: Global,
+    from: &NodeName,
+    k: u64,
+    letter: &Letter,
+) -> Result<String, AllocError>
     ensures { IfOk result (λ s. string_bytes s ≡ letter_text from.now k letter.now) }
 {
     let from = from.as_str();
