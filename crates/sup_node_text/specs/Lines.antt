@@ -1,9 +1,10 @@
 -- The lines that are printed of entries and of kept children (this project's output format).
 use Rattle.std.specs.Prelude.{ℕ, List, [], ◌∷◌, codes, Option, Some, None}
 use Rattle.sup_specs.specs.Values.{Bytes}
+use Rattle.sup_specs.specs.declared.child.ChildSpec.{ChildSpec}
+use Rattle.sup_specs.specs.declared.child.MemberInfo.{MemberInfo}
 use Rattle.sup_causal.specs.declared.dot.Dot.{Dot}
-use Rattle.sup_tables.specs.declared.row.Row.{Row}
-use Rattle.sup_tables.specs.Rows.{Table, members, children, names, key_of, info_of, spec_of}
+use Rattle.sup_tables.specs.Rows.{Table, members, children, names}
 use Rattle.sup_local_sup.specs.Keeping.{Kept}
 use Rattle.sup_node.specs.Whereabouts.{Where, unknown, gone, unplaced, on}
 use Rattle.sup_text.specs.Words.{text, dot_text, spec_text, incarnation_text}
@@ -27,16 +28,16 @@ lead_text (unplaced id) = text (id ∷ codes " " ∷ place_text None ∷ [])
 lead_text (on id member) = text (id ∷ codes " " ∷ place_text (Some member) ∷ [])
 
 -- member M DOT label=TEXT
-abbrev pub member_line : Row → List ℕ
-member_line r = text (codes "member " ∷ key_of r.entry ∷ codes " " ∷ dot_text r.dot ∷ codes " label=" ∷ (info_of r.entry).label ∷ codes "\n" ∷ [])
+abbrev pub member_line : Bytes → Dot → MemberInfo → List ℕ
+member_line member dot info = text (codes "member " ∷ member ∷ codes " " ∷ dot_text dot ∷ codes " label=" ∷ info.label ∷ codes "\n" ∷ [])
 
 -- child ID DOT KIND RESTART SHUTDOWN arg=TEXT, and where it is
-abbrev pub child_line : Option Bytes → Row → List ℕ
-child_line place r = text (codes "child " ∷ key_of r.entry ∷ codes " " ∷ dot_text r.dot ∷ codes " " ∷ spec_text (spec_of r.entry) ∷ codes " " ∷ place_text place ∷ codes "\n" ∷ [])
+abbrev pub child_line : Bytes → Dot → ChildSpec → Option Bytes → List ℕ
+child_line id dot spec place = text (codes "child " ∷ id ∷ codes " " ∷ dot_text dot ∷ codes " " ∷ spec_text spec ∷ codes " " ∷ place_text place ∷ codes "\n" ∷ [])
 
 -- name NAME DOT, and where it leads
-abbrev pub name_line : Where → Row → List ℕ
-name_line lead r = text (codes "name " ∷ key_of r.entry ∷ codes " " ∷ dot_text r.dot ∷ codes " " ∷ lead_text lead ∷ codes "\n" ∷ [])
+abbrev pub name_line : Bytes → Dot → Where → List ℕ
+name_line name dot lead = text (codes "name " ∷ name ∷ codes " " ∷ dot_text dot ∷ codes " " ∷ lead_text lead ∷ codes "\n" ∷ [])
 
 -- loser member|child|name KEY DOT
 abbrev pub loser_line : List ℕ → Bytes → Dot → List ℕ

@@ -4,7 +4,7 @@ use Rattle.std.specs.Prelude.{ℕ, List, [], ◌∷◌, codes, decimal, Option, 
 use Rattle.std.specs.List.{flat_map}
 use Rattle.sup_specs.specs.Values.{Bytes}
 use Rattle.sup_tables.specs.declared.row.Row.{Row}
-use Rattle.sup_tables.specs.Rows.{Table, members, children, names, key_of, target_of}
+use Rattle.sup_tables.specs.Rows.{Table, members, children, names, key_of, info_of, spec_of, target_of}
 use Rattle.sup_tables.specs.Readers.{winners, losers}
 use Rattle.sup_tables.specs.States.{State}
 use Rattle.sup_placement.specs.Place.{Weigher, place}
@@ -23,15 +23,15 @@ abbrev pub with_losers : List Row → Table → (Row → List ℕ) → Row → L
 with_losers rows table line r = text (line r ∷ loser_lines rows table (key_of r.entry) ∷ [])
 
 abbrev pub member_lines : List Row → Row → List ℕ
-member_lines rows = with_losers rows members member_line
+member_lines rows = with_losers rows members (λ r. member_line (key_of r.entry) r.dot (info_of r.entry))
 
 -- each child on the member that placement gives it
 abbrev pub child_lines : Weigher → List Row → Row → List ℕ
-child_lines weigher rows = with_losers rows children (λ r. child_line (place weigher (eligible rows) (key_of r.entry)) r)
+child_lines weigher rows = with_losers rows children (λ r. child_line (key_of r.entry) r.dot (spec_of r.entry) (place weigher (eligible rows) (key_of r.entry)))
 
 -- each name where its child is
 abbrev pub name_lines : Weigher → List Row → Row → List ℕ
-name_lines weigher rows = with_losers rows names (λ r. name_line (where_child weigher rows (target_of r.entry)) r)
+name_lines weigher rows = with_losers rows names (λ r. name_line (key_of r.entry) r.dot (where_child weigher rows (target_of r.entry)))
 
 -- the lines of live rows
 abbrev pub tables_text : Weigher → List Row → List ℕ

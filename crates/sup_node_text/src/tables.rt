@@ -74,7 +74,11 @@ fn member_text(
     let losers = tables.member_losers(winner.key)?;
     let losers = losers_text(alloc, "member", winner.key.as_str(), &losers)?;
     let losers = losers.as_str();
-    let line = MemberLine(*winner);
+    let line = MemberLine {
+        member: winner.key,
+        dot: *winner.dot,
+        info: winner.value,
+    };
     format!(in alloc; "{line}{losers}")
 }
 
@@ -111,7 +115,9 @@ fn child_text<W: Weigh>(
     let losers = losers.as_str();
     let place = place(weigher, hosts, winner.key);
     let line = ChildLine {
-        winner: *winner,
+        id: winner.key,
+        dot: *winner.dot,
+        spec: winner.value,
         place,
     };
     format!(in alloc; "{line}{losers}")
@@ -150,7 +156,8 @@ fn name_text<W: Weigh>(
     let losers = losers.as_str();
     let lead = lead_to(weigher, hosts, tables, winner.value);
     let line = NameLine {
-        winner: *winner,
+        name: winner.key,
+        dot: *winner.dot,
         lead,
     };
     format!(in alloc; "{line}{losers}")
