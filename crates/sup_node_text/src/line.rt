@@ -1,14 +1,12 @@
 //! The lines of winners.
 
 ghost use Rattle.std.specs.Prelude.{Some};
-ghost use Rattle.sup_node.specs.Contents.{where_told};
-ghost use Rattle.sup_node_text.specs.Lines.{child_line, member_line, name_line};
+ghost use Rattle.sup_node_text.specs.Lines.{child_line, member_line};
 
-use crate::place::{LeadText, PlaceText};
+use crate::place::PlaceText;
 use std::fmt;
 use sup_causal::Dot;
-use sup_node::Whereis;
-use sup_specs::{ChildId, ChildSpec, MemberInfo, Name, NodeName};
+use sup_specs::{ChildId, ChildSpec, MemberInfo, NodeName};
 use sup_text::{DotText, SpecText};
 
 // The line of a member.
@@ -48,24 +46,5 @@ impl fmt::Display for ChildLine<'_> {
         let spec = SpecText(self.spec);
         let place = PlaceText(self.place);
         write!(f, "child {id} {dot} {spec} {place}\n")
-    }
-}
-
-// The line of a name, and where it leads.
-#[derive(Clone, Copy)]
-pub(crate) struct NameLine<'a> {
-    pub(crate) name: &'a Name,
-    pub(crate) dot: Dot,
-    pub(crate) lead: Whereis<'a>,
-}
-
-impl fmt::Display for NameLine<'_> {
-    ghost output = { λ l. Some (name_line l.name.now l.dot (where_told l.lead)) };
-
-    fn fmt<W: fmt::Write>(&self, f: &mut fmt::Formatter<W>) -> fmt::Result {
-        let name = self.name.as_str();
-        let dot = DotText(self.dot);
-        let lead = LeadText(self.lead);
-        write!(f, "name {name} {dot} {lead}\n")
     }
 }

@@ -1,11 +1,9 @@
 //! Places of children as texts.
 
 ghost use Rattle.std.specs.Prelude.{Some};
-ghost use Rattle.sup_node.specs.Contents.{where_told};
-ghost use Rattle.sup_node_text.specs.Lines.{lead_text, place_text};
+ghost use Rattle.sup_node_text.specs.Lines.{place_text};
 
 use std::fmt;
-use sup_node::Whereis;
 use sup_specs::NodeName;
 
 // Where a child is.
@@ -21,34 +19,6 @@ impl fmt::Display for PlaceText {
             Some(member) => {
                 let member = member.as_str();
                 write!(f, "on {member}")
-            }
-        }
-    }
-}
-
-// Where a name leads.
-#[derive(Clone, Copy)]
-pub(crate) struct LeadText<'a>(pub(crate) Whereis<'a>);
-
-impl fmt::Display for LeadText<'_> {
-    ghost output = { λ l. Some (lead_text (where_told l.0)) };
-
-    fn fmt<W: fmt::Write>(&self, f: &mut fmt::Formatter<W>) -> fmt::Result {
-        match self.0 {
-            Whereis::Unknown => write!(f, "unknown"),
-            Whereis::Gone(id) => {
-                let id = id.as_str();
-                write!(f, "{id} gone")
-            }
-            Whereis::Unplaced(id) => {
-                let id = id.as_str();
-                let place = PlaceText(None);
-                write!(f, "{id} {place}")
-            }
-            Whereis::On(id, member) => {
-                let id = id.as_str();
-                let place = PlaceText(Some(member));
-                write!(f, "{id} {place}")
             }
         }
     }

@@ -6,17 +6,17 @@ ghost use Rattle.sup_tables.specs.Rows.{children, members, names};
 ghost use Rattle.sup_tables.specs.Readers.{winners};
 ghost use Rattle.sup_tables.specs.Stored.{child_row, member_row, name_row};
 ghost use Rattle.sup_replica.specs.Nodes.{eligible};
-ghost use Rattle.sup_node.specs.Contents.{where_told};
 ghost use Rattle.sup_node.specs.Whereabouts.{where_child};
+ghost use Rattle.sup_node_text.specs.Lines.{lead_text};
 ghost use Rattle.sup_node_text.specs.Shown.{child_lines, member_lines, name_lines, tables_text};
 
-use crate::line::{ChildLine, MemberLine, NameLine};
+use crate::line::{ChildLine, MemberLine};
 use crate::losers::losers_text;
 use std::alloc::{AllocError, Global};
-use sup_node::Whereis;
 use sup_placement::{Weigh, place};
 use sup_specs::{ChildId, ChildSpec, MemberInfo, Name, NodeName};
 use sup_tables::{Tables, Winner};
+use sup_text::DotText;
 
 /// The lines of what tables show: of each table each key's winner, by key, and behind it the key's losers.
 ///
@@ -154,30 +154,33 @@ fn name_text<W: Weigh>(
     let losers = tables.name_losers(winner.key)?;
     let losers = losers_text(alloc, "name", winner.key.as_str(), &losers)?;
     let losers = losers.as_str();
-    let lead = lead_to(weigher, hosts, tables, winner.value);
-    let line = NameLine {
-        name: winner.key,
-        dot: *winner.dot,
-        lead,
-    };
-    format!(in alloc; "{line}{losers}")
+    let lead = lead_text(alloc, weigher, hosts, tables, winner.value)?;
+    let lead = lead.as_str();
+    let name = winner.key.as_str();
+    let dot = DotText(*winner.dot);
+    format!(in alloc; "name {name} {dot} {lead}\n{losers}")
 }
 
 // Where a name leads that stands for this child.
-fn lead_to<'a, W: Weigh>(
+fn lead_text<W: Weigh>(
+    alloc: Global,
     weigher: &W,
     hosts: &[NodeName],
     tables: &Tables,
-    id: &'a ChildId,
-) -> Whereis<'a>
+    id: &ChildId,
+) -> Result<String, AllocError>
     requires { hosts.now ≡ eligible tables.now.rows }
-    ensures { where_told result ≡ where_child W.weight_of tables.now.rows id.entry.now }
+    ensures { IfOk result (λ s. string_bytes s ≡ lead_text (where_child W.weight_of tables.now.rows id.now)) }
 {
+    let text = id.as_str();
     if tables.child(id).is_none() {
-        return Whereis::Gone(id);
+        return format!(in alloc; "{text} gone");
     }
     match place(weigher, hosts, id) {
-        None => Whereis::Unplaced(id),
-        Some(member) => Whereis::On(id, member),
+        None => format!(in alloc; "{text} unplaced"),
+        Some(member) => {
+            let member = member.as_str();
+            format!(in alloc; "{text} on {member}")
+        }
     }
 }

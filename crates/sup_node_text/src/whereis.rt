@@ -3,12 +3,13 @@
 ghost use Rattle.std.specs.Prelude.{◌≡◌, IfOk, string_bytes};
 ghost use Rattle.std.specs.Option.{option_map};
 ghost use Rattle.sup_node.specs.Contents.{station_of};
+ghost use Rattle.sup_node.specs.Whereabouts.{where_is};
+ghost use Rattle.sup_node_text.specs.Lines.{lead_text};
 ghost use Rattle.sup_node_text.specs.Shown.{where_text};
 
-use crate::place::LeadText;
 use crate::show::down_text;
 use std::alloc::{AllocError, Global};
-use sup_node::Node;
+use sup_node::{Node, Whereis};
 use sup_placement::Weigh;
 use sup_specs::{Name, NodeName};
 
@@ -30,7 +31,36 @@ pub fn where_text<W: Weigh>(
     let Some(node) = node else {
         return down_text(alloc, at);
     };
-    let lead = LeadText(node.whereis(name, weigher)?);
+    let lead = lead_text(alloc, node, name, weigher)?;
+    let lead = lead.as_str();
     let name = name.as_str();
     format!(in alloc; "{name} {lead}\n")
+}
+
+// Where a name leads.
+fn lead_text<W: Weigh>(
+    alloc: Global,
+    node: &Node<W>,
+    name: &Name,
+    weigher: &W,
+) -> Result<String, AllocError>
+    ensures { IfOk result (λ s. string_bytes s ≡ lead_text (where_is W.weight_of (station_of node.now).node.known.rows name.now)) }
+{
+    match node.whereis(name, weigher) {
+        Err(refused) => Err(refused),
+        Ok(Whereis::Unknown) => format!(in alloc; "unknown"),
+        Ok(Whereis::Gone(id)) => {
+            let id = id.as_str();
+            format!(in alloc; "{id} gone")
+        }
+        Ok(Whereis::Unplaced(id)) => {
+            let id = id.as_str();
+            format!(in alloc; "{id} unplaced")
+        }
+        Ok(Whereis::On(id, member)) => {
+            let id = id.as_str();
+            let member = member.as_str();
+            format!(in alloc; "{id} on {member}")
+        }
+    }
 }
