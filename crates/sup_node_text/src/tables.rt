@@ -64,6 +64,7 @@ fn members_text(alloc: Global, tables: &Tables) -> Result<String, AllocError>
     Ok(text)
 }
 
+#[tactic(auto, using(crate::proofs::LoserLaws::lines_of_rows))]
 fn member_text(
     alloc: Global,
     tables: &Tables,
@@ -100,6 +101,7 @@ fn children_text<W: Weigh>(
     Ok(text)
 }
 
+#[tactic(auto, using(crate::proofs::LoserLaws::lines_of_rows))]
 fn child_text<W: Weigh>(
     alloc: Global,
     tables: &Tables,
@@ -141,6 +143,7 @@ fn names_text<W: Weigh>(
     Ok(text)
 }
 
+#[tactic(auto, using(crate::proofs::LoserLaws::lines_of_rows))]
 fn name_text<W: Weigh>(
     alloc: Global,
     tables: &Tables,

@@ -48,19 +48,21 @@ fn lead_text<W: Weigh>(
 {
     match node.whereis(name, weigher) {
         Err(refused) => Err(refused),
-        Ok(Whereis::Unknown) => format!(in alloc; "unknown"),
-        Ok(Whereis::Gone(id)) => {
-            let id = id.as_str();
-            format!(in alloc; "{id} gone")
-        }
-        Ok(Whereis::Unplaced(id)) => {
-            let id = id.as_str();
-            format!(in alloc; "{id} unplaced")
-        }
-        Ok(Whereis::On(id, member)) => {
-            let id = id.as_str();
-            let member = member.as_str();
-            format!(in alloc; "{id} on {member}")
-        }
+        Ok(found) => match found {
+            Whereis::Unknown => format!(in alloc; "unknown"),
+            Whereis::Gone(id) => {
+                let id = id.as_str();
+                format!(in alloc; "{id} gone")
+            }
+            Whereis::Unplaced(id) => {
+                let id = id.as_str();
+                format!(in alloc; "{id} unplaced")
+            }
+            Whereis::On(id, member) => {
+                let id = id.as_str();
+                let member = member.as_str();
+                format!(in alloc; "{id} on {member}")
+            }
+        },
     }
 }
