@@ -1,6 +1,7 @@
 -- What is shown of a node (this project): of each table each key's winner, by key, and behind it the key's losers, in dot order; then what it
 -- keeps running, in the order of its starts. Of a stopped node no more than that it is down.
 use Rattle.std.specs.Prelude.{ℕ, List, [], ◌∷◌, codes, decimal, Option, Some, None}
+use Rattle.std.specs.Borrow.{Bor}
 use Rattle.std.specs.List.{flat_map}
 use Rattle.sup_specs.specs.Values.{Bytes}
 use Rattle.sup_tables.specs.declared.row.Row.{Row}
@@ -10,6 +11,8 @@ use Rattle.sup_tables.specs.States.{State}
 use Rattle.sup_placement.specs.Place.{Weigher, place}
 use Rattle.sup_replica.specs.Nodes.{eligible}
 use Rattle.sup_replica.specs.Stations.{Station}
+use Rattle.sup_node.specs.declared.node.Node.{Node}
+use Rattle.sup_node.specs.Contents.{station_of}
 use Rattle.sup_node.specs.Whereabouts.{where_child, where_is}
 use Rattle.sup_text.specs.Words.{text}
 use Rattle.sup_node_text.specs.Lines.{table_word, lead_text, member_line, child_line, name_line, loser_line, kept_line}
@@ -39,6 +42,11 @@ tables_text weigher rows = text (
     flat_map (member_lines rows) (winners rows members)
     ∷ flat_map (child_lines weigher rows) (winners rows children)
     ∷ flat_map (name_lines weigher rows) (winners rows names) ∷ [])
+
+-- the station of a node that is lent, and none of a stopped one
+abbrev pub station_at : {W : Type 0} → Option (Bor (Node W)) → Option (Station State)
+station_at None = None
+station_at (Some n) = Some (station_of n.now)
 
 -- node N down
 abbrev pub down_text : Bytes → List ℕ

@@ -1,9 +1,7 @@
 //! What is shown of a node.
 
 ghost use Rattle.std.specs.Prelude.{◌≡◌, IfOk, string_bytes};
-ghost use Rattle.std.specs.Option.{option_map};
-ghost use Rattle.sup_node.specs.Contents.{station_of};
-ghost use Rattle.sup_node_text.specs.Shown.{down_text, show_text};
+ghost use Rattle.sup_node_text.specs.Shown.{down_text, show_text, station_at};
 
 use crate::kept::kept_text;
 use crate::tables::tables_text;
@@ -24,7 +22,7 @@ pub fn show_text<W: Weigh>(
     node: Option<&Node<W>>,
     weigher: &W,
 ) -> Result<String, AllocError>
-    ensures { IfOk result (λ s. string_bytes s ≡ show_text W.weight_of at.now (option_map (λ n. station_of n.now) node)) }
+    ensures { IfOk result (λ s. string_bytes s ≡ show_text W.weight_of at.now (station_at node)) }
 {
     let Some(node) = node else {
         return down_text(alloc, at);

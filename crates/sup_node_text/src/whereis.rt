@@ -1,11 +1,10 @@
 //! What is printed of where a name leads.
 
 ghost use Rattle.std.specs.Prelude.{◌≡◌, IfOk, string_bytes};
-ghost use Rattle.std.specs.Option.{option_map};
 ghost use Rattle.sup_node.specs.Contents.{station_of};
 ghost use Rattle.sup_node.specs.Whereabouts.{where_is};
 ghost use Rattle.sup_node_text.specs.Lines.{lead_text};
-ghost use Rattle.sup_node_text.specs.Shown.{where_text};
+ghost use Rattle.sup_node_text.specs.Shown.{station_at, where_text};
 
 use crate::show::down_text;
 use std::alloc::{AllocError, Global};
@@ -26,7 +25,7 @@ pub fn where_text<W: Weigh>(
     name: &Name,
     weigher: &W,
 ) -> Result<String, AllocError>
-    ensures { IfOk result (λ s. string_bytes s ≡ where_text W.weight_of at.now (option_map (λ n. station_of n.now) node) name.now) }
+    ensures { IfOk result (λ s. string_bytes s ≡ where_text W.weight_of at.now (station_at node) name.now) }
 {
     let Some(node) = node else {
         return down_text(alloc, at);
