@@ -41,7 +41,7 @@ pub fn tables_text<W: Weigh>(
 }
 
 // The members that children are placed on.
-fn eligible(alloc: Global, tables: &Tables) -> Result<Vec<NodeName>, AllocError>
+pub(crate) fn eligible(alloc: Global, tables: &Tables) -> Result<Vec<NodeName>, AllocError>
     ensures { IfOk result (λ found. found.items ≡ eligible tables.now.rows) }
 {
     let winners = tables.members()?;
@@ -165,7 +165,7 @@ fn name_text<W: Weigh>(
 }
 
 // Where a name leads that stands for this child.
-fn lead_text<W: Weigh>(
+pub(crate) fn lead_text<W: Weigh>(
     alloc: Global,
     weigher: &W,
     hosts: &[NodeName],

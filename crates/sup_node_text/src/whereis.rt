@@ -7,8 +7,9 @@ ghost use Rattle.sup_node_text.specs.Lines.{lead_text};
 ghost use Rattle.sup_node_text.specs.Shown.{station_at, where_text};
 
 use crate::show::down_text;
+use crate::tables::{eligible, lead_text as child_text};
 use std::alloc::{AllocError, Global};
-use sup_node::{Node, Whereis};
+use sup_node::Node;
 use sup_placement::Weigh;
 use sup_specs::{Name, NodeName};
 
@@ -45,23 +46,12 @@ fn lead_text<W: Weigh>(
 ) -> Result<String, AllocError>
     ensures { IfOk result (λ s. string_bytes s ≡ lead_text (where_is W.weight_of (station_of node.now).node.known.rows name.now)) }
 {
-    match node.whereis(name, weigher) {
-        Err(refused) => Err(refused),
-        Ok(found) => match found {
-            Whereis::Unknown => format!(in alloc; "unknown"),
-            Whereis::Gone(id) => {
-                let id = id.as_str();
-                format!(in alloc; "{id} gone")
-            }
-            Whereis::Unplaced(id) => {
-                let id = id.as_str();
-                format!(in alloc; "{id} unplaced")
-            }
-            Whereis::On(id, member) => {
-                let id = id.as_str();
-                let member = member.as_str();
-                format!(in alloc; "{id} on {member}")
-            }
-        },
+    let tables = node.tables();
+    match tables.name(name) {
+        None => format!(in alloc; "unknown"),
+        Some((_, id)) => {
+            let hosts = eligible(alloc, tables)?;
+            child_text(alloc, weigher, &hosts, tables, id)
+        }
     }
 }
