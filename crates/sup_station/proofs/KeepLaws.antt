@@ -12,12 +12,13 @@ use Rattle.sup_local_sup.specs.Planning.{ruling}
 use Rattle.sup_replica.specs.declared.event.Event.{Event}
 use Rattle.sup_replica.specs.declared.event.Event.TheVariants.{Join, Leave, Start, Replace, Delete, Register, Unregister, Exit, Ship, Push, Deliver}
 use Rattle.sup_replica.specs.declared.done.Reply.{Reply}
+use Rattle.sup_replica.specs.declared.done.Reply.TheVariants.{Added, Replaced, Removed}
 use Rattle.sup_replica.specs.declared.refusal.Refusal.{Refusal}
 use Rattle.sup_replica.specs.declared.refusal.Refusal.TheVariants.{Down, UnknownNode, AlreadyPresent, NotFound, AlreadyMember, NotMember, NameTaken, NoSuchChild, NameUnknown, DotsSpent, TableFull, KeepFailed, BadMessage, WrongReceiver, CountSpent}
 use Rattle.sup_replica.specs.Checks.{refused_if, then_do}
-use Rattle.sup_replica.specs.Commands.{Reading, join, leave, start, replace, delete, register, unregister}
+use Rattle.sup_replica.specs.Commands.{Reading, next, join, leave, start, replace, delete, register, unregister}
 use Rattle.sup_replica.specs.Nodes.{Node, Message, Outcome}
-use Rattle.sup_replica.specs.Steps.{command, exit_step, push_step, up_step, event_step, passes_greatest}
+use Rattle.sup_replica.specs.Steps.{reading, command, exit_step, push_step, up_step, event_step, passes_greatest}
 use Rattle.sup_replica.specs.Acts.{kept_by, deliver}
 use Rattle.sup_replica.specs.ByTables.{by_tables}
 use Rattle.sup_replica.specs.Stations.{Station, Mail, a_delta, a_push, an_ack, Move, ship_step, shipped, taken_with, mail_step, read_step, own_step}
@@ -84,19 +85,19 @@ module _ (g : Weigher) where
   push_kept n to (Some own) = done_kept _
 
   up_kept : (n : Node State) (event : Event) (now : ℕ) → up_step by_tables g n event now ≢ Err KeepFailed
-  up_kept n (Join label) now = command_kept n _ _ (join_kept _ label)
-  up_kept n (Leave m) now = command_kept n _ _ (leave_kept _ m)
-  up_kept n (Start id spec) now = command_kept n _ _ (start_kept _ id spec)
-  up_kept n (Replace id spec) now = command_kept n _ _ (replace_kept _ id spec)
-  up_kept n (Delete id) now = command_kept n _ _ (delete_kept _ id)
-  up_kept n (Register name id) now = command_kept n _ _ (register_kept _ name id)
-  up_kept n (Unregister name) now = command_kept n _ _ (unregister_kept _ name)
+  up_kept n (Join label) now = command_kept n (join (reading by_tables n) label) (λ op. Added (next (reading by_tables n))) (join_kept (reading by_tables n) label)
+  up_kept n (Leave m) now = command_kept n (leave (reading by_tables n) m) (λ op. Removed op.removes) (leave_kept (reading by_tables n) m)
+  up_kept n (Start id spec) now = command_kept n (start (reading by_tables n) id spec) (λ op. Added (next (reading by_tables n))) (start_kept (reading by_tables n) id spec)
+  up_kept n (Replace id spec) now = command_kept n (replace (reading by_tables n) id spec) (λ op. Replaced (next (reading by_tables n)) op.removes) (replace_kept (reading by_tables n) id spec)
+  up_kept n (Delete id) now = command_kept n (delete (reading by_tables n) id) (λ op. Removed op.removes) (delete_kept (reading by_tables n) id)
+  up_kept n (Register name id) now = command_kept n (register (reading by_tables n) name id) (λ op. Added (next (reading by_tables n))) (register_kept (reading by_tables n) name id)
+  up_kept n (Unregister name) now = command_kept n (unregister (reading by_tables n) name) (λ op. Removed op.removes) (unregister_kept (reading by_tables n) name)
   up_kept n (Exit id inc reason) now = exit_kept n id now (ruling n.supervisor id inc reason now)
   up_kept n (Ship to) now = refused_kept _ UnknownNode _ (λ e. cc) (done_kept _)
   up_kept n (Push to) now = refused_kept _ UnknownNode _ (λ e. cc) (push_kept n to n.newest)
   up_kept n (Deliver bytes) now = λ e. cc
 
-  event_kept : (n : Node State) (event : Event) (now : ℕ) → event_step by_tables g n event now ≢ Err KeepFailed
+  pub event_kept : (n : Node State) (event : Event) (now : ℕ) → event_step by_tables g n event now ≢ Err KeepFailed
   event_kept n event now = refused_kept (not n.up) Down (up_step by_tables g n event now) (λ e. cc) (up_kept n event now)
 
   own_kept : (s : Station State) (event : Event) (now : ℕ) (next : Outcome State → Move State) → then_do (kept_by true (event_step by_tables g s.node event now)) (λ o. Ok (next o)) ≢ Err KeepFailed
@@ -106,13 +107,13 @@ module _ (g : Weigher) where
   ship_kept s None = λ e. cc
   ship_kept s (Some mail) = done_kept _
 
-  deliver_kept : (n : Node State) (from : Bytes) (m : Message State) → deliver by_tables g n from m true ≢ Err KeepFailed
+  pub deliver_kept : (n : Node State) (from : Bytes) (m : Message State) → deliver by_tables g n from m true ≢ Err KeepFailed
   deliver_kept n from m = refused_kept _ Down _ (λ e. cc) (refused_kept _ BadMessage _ (λ e. cc) (refused_kept _ WrongReceiver _ (λ e. cc) (done_kept _)))
 
   taken_kept : (s : Station State) (from : Bytes) (m : Message State) (letter : Option (Mail State)) → taken_with by_tables g s from m true letter ≢ Err KeepFailed
   taken_kept s from m letter = then_kept (kept_by true (deliver by_tables g s.node from m true)) _ (kept_kept _ (deliver_kept s.node from m)) (λ o. done_kept _)
 
-  mail_kept : (s : Station State) (mail : Mail State) → mail_step by_tables g s mail true ≢ Err KeepFailed
+  pub mail_kept : (s : Station State) (mail : Mail State) → mail_step by_tables g s mail true ≢ Err KeepFailed
   mail_kept s (a_delta from to n whole content) = taken_kept s from _ _
   mail_kept s (a_push from to content) = taken_kept s from _ _
   mail_kept s (an_ack from to n) = refused_kept _ Down _ (λ e. cc) (refused_kept _ WrongReceiver _ (λ e. cc) (refused_kept _ BadMessage _ (λ e. cc) (done_kept _)))

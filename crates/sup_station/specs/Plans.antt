@@ -82,7 +82,7 @@ pub record IsReadyFor (s : Still) (p : Prepared) : Type 0 where
 pub record IsPreparedFor (g : Weigher) (s : Still) (act : Act) (now : ℕ) (p : Prepared) : Type 0 where
   pub goes : Goes g s act now (Ok (done_of p)) (after s p)
   pub ready : IsReadyFor s p
-  pub saves : ComesToSave g s.node act now → is_saved p ≡ true
+  pub saves : ComesToSave g s s.node act now → is_saved p ≡ true
   pub unsaved : is_saved p ≡ true → Refuses g s s.node act now KeepFailed
   pub lacks : takes_memory p ≡ true → Refuses g s s.node act now OutOfMemory
 

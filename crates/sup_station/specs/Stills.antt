@@ -119,11 +119,17 @@ abbrev pub Goes : Weigher → Still → Act → ℕ → Result Done Refusal → 
 Goes g s act now (Ok done) t = (t.name ≡ s.name) × (t.config ≡ s.config) × Does g s s.node act now done t.node t.kept
 Goes g s act now (Err r) t = (t ≡ s) × Refuses g s s.node act now r
 
--- the act comes to its save, if it isn't refused before
-abbrev pub ComesToSave : Weigher → Option (Station State) → Act → ℕ → Type 0
-ComesToSave g None (Of event) now = ⊥
-ComesToSave g (Some n) (Of event) now = (mail : Option (Mail State)) → Reads event mail → stepped g n event now mail false ≡ Err KeepFailed
-ComesToSave g None Stop now = ⊥
-ComesToSave g (Some n) Stop now = ⊥
-ComesToSave g None Restart now = Unit {0}
-ComesToSave g (Some n) Restart now = ⊥
+-- the act comes to its save: it isn't refused before, whatever its bytes or the kept ones say, and is refused where that save fails
+abbrev pub ComesToSave : Weigher → Still → Option (Station State) → Act → ℕ → Type 0
+ComesToSave g s None (Of event) now = ⊥
+ComesToSave g s (Some n) (Of event) now = (mail : Option (Mail State)) → Reads event mail → stepped g n event now mail false ≡ Err KeepFailed
+ComesToSave g s None Stop now = ⊥
+ComesToSave g s (Some n) Stop now = ⊥
+ComesToSave g s None Restart now =
+    ((image : Image) → IsOwnImage s.name s.kept image → restart_of g s.config image false ≡ Err KeepFailed) × ¬ IsForeign s.name s.kept
+ComesToSave g s (Some n) Restart now = ⊥
+
+-- refused for a save, or for memory
+abbrev pub IsUnsaved : Result Done Refusal → Type 0
+IsUnsaved (Ok done) = ⊥
+IsUnsaved (Err r) = (r ≡ KeepFailed) ⊎ (r ≡ OutOfMemory)

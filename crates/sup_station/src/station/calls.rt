@@ -2,12 +2,12 @@
 ghost use Rattle.std.specs.Prelude.{◌≡◌, ◌≢◌, ◌<◌, ◌≤◌, true, Some, None, IsErr, IfErr, IfOk, OnOk, OnErr, MatchResult};
 ghost use Rattle.std.specs.Option.{option_map, option_copied};
 ghost use Rattle.sup_node.specs.Contents.{station_of};
+ghost use Rattle.sup_replica.specs.declared.event.Act.TheVariants.{Restart};
 ghost use Rattle.sup_replica.specs.declared.refusal.Refusal.TheVariants.{KeepFailed};
 ghost use Rattle.sup_keeper.specs.Keeping.{failing_next};
-ghost use Rattle.sup_station.specs.Opening.{kept_by};
-ghost use Rattle.sup_station.specs.Opening.{Opens, IsKeepRefusal};
+ghost use Rattle.sup_station.specs.Opening.{Opens, IsKeepRefusal, kept_by};
 ghost use Rattle.sup_station.specs.Plans.{IsPreparedFor, IsReadyFor, Commits, is_saved};
-ghost use Rattle.sup_station.specs.Stills.{still_of, keeper_of, Goes, Refuses, ComesToSave};
+ghost use Rattle.sup_station.specs.Stills.{still_of, keeper_of, Goes, Refuses, ComesToSave, IsUnsaved};
 
 use sup_keeper::Keeper;
 use sup_keeper::MemKeeper;
@@ -38,6 +38,7 @@ impl<K: Keeper, W: Weigh> Station<K, W> {
         ensures refused { IfErr result (λ r. K.kept r.keeper ≡ K.kept keeper) }
         ensures reason { IfErr result (λ r. IsKeepRefusal r.reason) }
         ensures rose { IfErr result (λ r. r.reason ≡ KeepFailed → K.failures keeper < K.failures r.keeper) }
+        ensures never_falls { IfErr result (λ r. K.failures keeper ≤ K.failures r.keeper) }
         ensures uncounted { IfOk result (λ s. K.failures (keeper_of s) ≡ K.failures keeper) }
         ensures failing { K.failing keeper ≡ true → IsErr result }
         ensures sound { IfErr result (λ r. K.sound keeper ≡ true → r.reason ≢ KeepFailed) }
@@ -95,6 +96,7 @@ impl<K: Keeper, W: Weigh> Station<K, W> {
     pub fn prepare(&mut self, act: &Act, now: u64, weigher: &W) -> Result<Prepared, Refusal>
         ensures same { still_of K.kept self.new ≡ still_of K.kept self.old }
         ensures answer { MatchResult result (IsPreparedFor W.weight_of (still_of K.kept self.old) act.now now) (Refuses W.weight_of (still_of K.kept self.old) (still_of K.kept self.old).node act.now now) }
+        ensures loads { act.now ≢ Restart → (keeper_of self.new ≡ keeper_of self.old) × (result ≢ Err KeepFailed) }
         ensures rose { result ≡ Err KeepFailed → K.failures (keeper_of self.old) < K.failures (keeper_of self.new) }
         ensures never_falls { K.failures (keeper_of self.old) ≤ K.failures (keeper_of self.new) }
         ensures uncounted { OnOk result (K.failures (keeper_of self.new) ≡ K.failures (keeper_of self.old)) }
@@ -139,7 +141,7 @@ impl<K: Keeper, W: Weigh> Station<K, W> {
         ensures failed { result ≡ Err KeepFailed → K.failures (keeper_of self.old) < K.failures (keeper_of self.new) }
         ensures never_falls { K.failures (keeper_of self.old) ≤ K.failures (keeper_of self.new) }
         ensures uncounted { OnOk result (K.failures (keeper_of self.new) ≡ K.failures (keeper_of self.old)) }
-        ensures failing { K.failing (keeper_of self.old) ≡ true → ComesToSave W.weight_of (still_of K.kept self.old).node act now → IsErr result }
+        ensures failing { K.failing (keeper_of self.old) ≡ true → ComesToSave W.weight_of (still_of K.kept self.old) (still_of K.kept self.old).node act now → IsUnsaved result }
         ensures sound { K.sound (keeper_of self.old) ≡ true → result ≢ Err KeepFailed }
     {
         let prepared = self.prepare(&act, now, weigher)?;
