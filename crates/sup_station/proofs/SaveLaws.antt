@@ -1,7 +1,7 @@
 -- An act that comes to its save is refused for nothing else, want of memory aside.
-use Rattle.std.specs.Prelude.{◌≡◌, ◌≢◌, ℕ, ◌+◌, Bool, true, false, not, ◌&&◌, Option, Some, None, Result, Ok, Err, IsErr}
+use Rattle.std.specs.Prelude.{◌≡◌, ◌≢◌, ℕ, ◌+◌, Bool, true, false, not, ◌&&◌, Option, Some, None, Result, Ok, Err}
 use Rattle.std.proofs.Common.{absurd}
-use mathlib.Core.Logic.{◌⊎◌, inl, inr}
+use mathlib.Core.Logic.{inl, inr}
 use Rattle.sup_specs.specs.Values.{Bytes}
 use Rattle.sup_tables.specs.States.{State}
 use Rattle.sup_placement.specs.Place.{Weigher}
@@ -11,20 +11,17 @@ use Rattle.sup_replica.specs.declared.event.Event.{Event}
 use Rattle.sup_replica.specs.declared.event.Event.TheVariants.{Join, Leave, Start, Replace, Delete, Register, Unregister, Exit, Ship, Push, Deliver}
 use Rattle.sup_replica.specs.declared.event.Act.{Act}
 use Rattle.sup_replica.specs.declared.event.Act.TheVariants.{Event as Of, Stop, Restart}
-use Rattle.sup_replica.specs.declared.done.Done.{Done}
 use Rattle.sup_replica.specs.declared.done.Reply.TheVariants.{Boot}
 use Rattle.sup_replica.specs.declared.refusal.Refusal.{Refusal}
-use Rattle.sup_replica.specs.declared.refusal.Refusal.TheVariants.{Down, UnknownNode, KeepFailed, BadMessage, WrongReceiver, CountSpent, OutOfMemory}
+use Rattle.sup_replica.specs.declared.refusal.Refusal.TheVariants.{Down, KeepFailed, CountSpent}
 use Rattle.sup_replica.specs.Checks.{refused_if, then_do}
-use Rattle.sup_replica.specs.Nodes.{Node, Message, Outcome}
+use Rattle.sup_replica.specs.Nodes.{Message, Outcome}
 use Rattle.sup_replica.specs.Steps.{event_step, passes_greatest}
 use Rattle.sup_replica.specs.Acts.{booted, kept_by, deliver, keeps}
 use Rattle.sup_replica.specs.ByTables.{by_tables}
-use Rattle.sup_replica.specs.Stations.{Station, Mail, a_delta, a_push, an_ack, Move, shipped, taken_with, mail_step, read_step}
+use Rattle.sup_replica.specs.Stations.{Station, Mail, a_delta, a_push, an_ack, Move, taken_with, mail_step, read_step}
 use Rattle.sup_node.specs.NodeSteps.{stepped, restart_of, stopped_by}
-use Rattle.sup_station.specs.Stills.{Still, ComesToSave, IsUnsaved, Refuses, RefusesRestart}
-use Rattle.sup_station.specs.Plans.{Commits, Uncommitted}
-use Rattle.sup_station.specs.declared.prepared.Prepared.{Prepared}
+use Rattle.sup_station.specs.Stills.{Still, ComesToSave, IsUnsaved, Refuses}
 use Rattle.sup_station.proofs.KeepLaws.{event_kept, deliver_kept, mail_kept, stepped_kept}
 
 -- of two steps, where one is refused for its save the other isn't refused
@@ -97,12 +94,3 @@ module _ (g : Weigher) where
   refused_unsaved s None Restart now r h (inr (inr (inl x))) = absurd (h.1 x.1)
   refused_unsaved s None Restart now r h (inr (inr (inr x))) = absurd (restart_goes s.config x.0 (h.0 x.0 x.1) r x.2)
   refused_unsaved s (Some n) Restart now r h x = absurd h
-
-uncommitted_unsaved : (p : Prepared) (r : Refusal) → Uncommitted p r → IsUnsaved (Err r)
-uncommitted_unsaved p r (inl x) = inl x.0
-uncommitted_unsaved p r (inr x) = inr x.0
-
--- a commit that is refused, is for its save or for memory
-pub committed_unsaved : (s : Still) (p : Prepared) (result : Result Done Refusal) (t : Still) → Commits s p result t → IsErr result → IsUnsaved result
-committed_unsaved s p (Ok done) t h e = absurd e
-committed_unsaved s p (Err r) t h e = uncommitted_unsaved p r h.1

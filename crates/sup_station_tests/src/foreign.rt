@@ -31,8 +31,12 @@ fn restarts_as(
 ) -> (Option<Refusal>, Option<u64>) {
     let mut keeper = MemKeeper::new(rt.alloc());
     assert!(rt; keeper.save(bytes).is_ok());
-    let mut station: Station<MemKeeper, FlatWeigh> =
-        Station::stopped(rt.alloc(), name(rt, of), Config::default(), keeper);
+    let mut station: Station<MemKeeper, FlatWeigh> = Station::stopped(
+        rt.alloc(),
+        name(rt, of),
+        Config::default(),
+        keeper,
+    );
     let refused = station.step(Act::Restart, 0, &FlatWeigh).err();
     (refused, station.node().map(|node| node.boot()))
 }
@@ -48,8 +52,12 @@ fn a_restart_takes_an_image_of_its_own_node_alone(rt: HostRuntime) {
 #[test]
 fn a_node_whose_image_cant_be_loaded_stays_stopped(rt: HostRuntime) {
     let keeper = Unreadable::new();
-    let mut station: Station<Unreadable, FlatWeigh> =
-        Station::stopped(rt.alloc(), name(&rt, "a"), Config::default(), keeper);
+    let mut station: Station<Unreadable, FlatWeigh> = Station::stopped(
+        rt.alloc(),
+        name(&rt, "a"),
+        Config::default(),
+        keeper,
+    );
     let refused = station.step(Act::Restart, 0, &FlatWeigh).err();
     assert!(rt; refused == Some(Refusal::KeepFailed));
     assert!(rt; station.node().is_none());
@@ -62,8 +70,12 @@ fn a_station_whose_first_save_fails_hands_its_keeper_back(rt: HostRuntime) {
     assert!(rt; keeper.save(b"old").is_ok());
     keeper.fail_next(true);
     let of = name(&rt, "a");
-    let made: Result<Station<MemKeeper, FlatWeigh>, _> =
-        Station::new(rt.alloc(), of, Config::default(), keeper);
+    let made: Result<Station<MemKeeper, FlatWeigh>, _> = Station::new(
+        rt.alloc(),
+        of,
+        Config::default(),
+        keeper,
+    );
     let Err(refused) = made else {
         panic!(rt; "it was saved")
     };

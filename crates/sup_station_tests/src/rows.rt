@@ -5,11 +5,13 @@ use sup_replica::Config;
 
 pub(crate) const INTERVAL: &str =
     "start a x\nship a b\ndeliver a 1\nstop a\nrestart a\ndeliver b 1\nship a b\nstart a y\nship a b\nmessage a 2\n";
+
 pub(crate) const INTERVAL_TOLD: &str =
     "ok (a,1)\nok sent\n  sent a 1 to b delta 1 part\nok absorbed\n  sent b 1 to a ack 1\nok stopped\nok boot 2\nok acked\nrefused 12 UpToDate\nok (a,2)\nok sent\n  sent a 2 to b delta 2 part\n{\"ctx\":{\"cloud\":[[\"a\",2]],\"vector\":{}},\"from\":\"a\",\"kind\":\"delta\",\"n\":2,\"rows\":[[\"child\",\"y\",[\"a\",2],{\"arg\":\"\",\"kind\":\"worker\",\"restart\":\"permanent\",\"shutdown\":5000}]],\"to\":\"b\",\"v\":1}\n";
 
 pub(crate) const REMOVAL: &str =
     "join a\nstart a web\nship a b\ndeliver a 1\ndelete b web\nreplace a web arg=x\nship b a\ndeliver b 2\npush a b\ndeliver a 3\nshow a\nshow b\n";
+
 pub(crate) const REMOVAL_TOLD: &str =
     "ok (a,1)\nok (a,2)\n  a start web 1.1\nok sent\n  sent a 1 to b delta 2 part\nok absorbed\n  sent b 1 to a ack 2\nok removed (a,2)\nok (a,3) removed (a,2)\n  a stop web 1.1\n  a start web 1.2\nok sent\n  sent b 2 to a delta 2 part\nok known\n  sent a 2 to b ack 2\nok sent\n  sent a 3 to b push\nok absorbed\nnode a boot 1\nmember a (a,1) label=\nchild web (a,3) worker permanent 5000 arg=x on a\nkept web 1.2\nnode b boot 1\nmember a (a,1) label=\nchild web (a,3) worker permanent 5000 arg=x on a\n";
 

@@ -8,18 +8,18 @@ use sup_specs::{ChildId, ChildSpec, NodeName, Restart, Shutdown};
 use sup_tables::{Entry, Row, Tables};
 
 /// The node's boot, its members and children, and what it keeps. No id has losers here, and there are no names.
-pub(crate) fn put_node(
-    rt: &(impl Abort + AllocGlobal),
-    told: &mut String,
-    node: &Node<FlatWeigh>,
-) {
+pub(crate) fn put_node(rt: &(impl Abort + AllocGlobal), told: &mut String, node: &Node<FlatWeigh>) {
     put(rt, told, " boot ");
     put_number(rt, told, node.boot());
     put(rt, told, "\n");
     let hosts = hosts_of(rt.alloc(), node.tables())
         .or_else(|_| hosts_of(rt.alloc(), node.tables()))
         .expect(rt, "room");
-    let rows = node.tables().rows().or_else(|_| node.tables().rows()).expect(rt, "room");
+    let rows = node
+        .tables()
+        .rows()
+        .or_else(|_| node.tables().rows())
+        .expect(rt, "room");
     for row in rows.as_slice() {
         put_row(rt, told, row, hosts.as_slice());
     }
@@ -40,12 +40,7 @@ fn hosts_of(alloc: Global, tables: &Tables) -> Result<Vec<NodeName>, AllocError>
     Ok(hosts)
 }
 
-fn put_row(
-    rt: &(impl Abort + AllocGlobal),
-    told: &mut String,
-    row: &Row,
-    hosts: &[NodeName],
-) {
+fn put_row(rt: &(impl Abort + AllocGlobal), told: &mut String, row: &Row, hosts: &[NodeName]) {
     match &row.entry {
         Entry::Member(member, info) => {
             put(rt, told, "member ");

@@ -94,7 +94,8 @@ fn full(rt: &(impl Abort + AllocGlobal)) -> String {
         let id = 9999 + counter;
         let front = if counter == 1 { "" } else { "," };
         write!(image, "{front}[\"child\",\"c{id}\",[\"a\",{counter}],").expect(rt, "room");
-        let spec = "{\"arg\":\"\",\"kind\":\"worker\",\"restart\":\"permanent\",\"shutdown\":5000}]";
+        let spec =
+            "{\"arg\":\"\",\"kind\":\"worker\",\"restart\":\"permanent\",\"shutdown\":5000}]";
         image.push_str(spec).expect(rt, "room");
     }
     image.push_str("],\"v\":1}").expect(rt, "room");

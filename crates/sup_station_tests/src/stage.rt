@@ -25,12 +25,7 @@ pub(crate) struct Stage {
 }
 
 /// The stations of the row play its lines, and tell what is wanted.
-pub(crate) fn plays(
-    rt: &(impl Abort + AllocGlobal),
-    config: Config,
-    lines: &str,
-    wanted: &str,
-) {
+pub(crate) fn plays(rt: &(impl Abort + AllocGlobal), config: Config, lines: &str, wanted: &str) {
     plays_over_failure(rt, config, lines, wanted, 0);
 }
 
@@ -121,7 +116,10 @@ impl Stage {
         line: &Line<'_>,
         at: &str,
     ) -> Result<Done, Refusal> {
-        let act = self.act(rt, line).or_else(|| self.act(rt, line)).expect(rt, "room");
+        let act = self
+            .act(rt, line)
+            .or_else(|| self.act(rt, line))
+            .expect(rt, "room");
         self.step(at, act)
     }
 
@@ -163,12 +161,7 @@ impl Stage {
         }
     }
 
-    fn tells(
-        &mut self,
-        rt: &(impl Abort + AllocGlobal),
-        at: &str,
-        answer: Result<Done, Refusal>,
-    ) {
+    fn tells(&mut self, rt: &(impl Abort + AllocGlobal), at: &str, answer: Result<Done, Refusal>) {
         match answer {
             Err(refusal) => put_refusal(rt, &mut self.told, refusal),
             Ok(done) => {
