@@ -36,6 +36,7 @@ use Rattle.sup_station.specs.Boots.{is_booted}
 use Rattle.sup_station.specs.Opening.{IsWritten, IsWrittenOf}
 use Rattle.sup_station.specs.Stills.{Still, IsKept, IsOwnImage, IsNoOwnImage, Refuses, RefusesRestart, ComesToSave, stop_done, restarted}
 use Rattle.sup_station.specs.Plans.{IsPreparedFor, IsPlanFor, Prepares, has_text, kept_after, node_after}
+use Rattle.sup_station.specs.declared.prepared.Prepared.{Prepared}
 use Rattle.sup_station.specs.declared.prepared.Next.{Next}
 use Rattle.sup_station.specs.declared.prepared.Next.TheVariants.{Changes, Stops, Runs}
 use Rattle.sup_station.proofs.KeepLaws.{ok_err, may_lack, stepped_kept}
@@ -213,3 +214,19 @@ restart_refused g name config kept now image r own (inr h) = ((λ (e : r ≡ Kee
 pub image_refused : (g : Weigher) (name : Bytes) (config : Config) (kept : Bytes) (now : ℕ) (r : Refusal) → IsNoOwnImage name kept r → Prepares g (down g name config kept) Restart now (Err r)
 image_refused g name config kept now r (inl h) = ((λ (e : r ≡ KeepFailed). cc), inr (inr (inl h)))
 image_refused g name config kept now r (inr h) = ((λ (e : r ≡ KeepFailed). cc), inr (inl h))
+
+-- the same of a station whose node is known to be stopped, or to run
+pub at_stopped : (g : Weigher) (s : Still) (now : ℕ) (result : Result Prepared Refusal) → s.node ≡ None → Prepares g (down g s.name s.config s.kept) Restart now result → Prepares g s Restart now result
+at_stopped g s now result e h = subst (λ (n : Option (Station State)). Prepares g (record s { node = n }) Restart now result) (sym e) h
+
+pub at_running : (g : Weigher) (s : Still) (n : Station State) (event : Event) (now : ℕ) (result : Result Prepared Refusal) → s.node ≡ Some n
+    → Prepares g (running g s.name s.config s.kept n) (Of event) now result → Prepares g s (Of event) now result
+at_running g s n event now result e h = subst (λ (m : Option (Station State)). Prepares g (record s { node = m }) (Of event) now result) (sym e) h
+
+-- memory for an image's text is wanted
+pub event_unwritten : (g : Weigher) (name : Bytes) (config : Config) (kept : Bytes) (n : Station State) (event : Event) (now : ℕ) (planned : Planned) (r : Refusal) → IsPlanOf g n event now planned → r ≡ OutOfMemory
+    → Prepares g (running g name config kept n) (Of event) now (Err r)
+event_unwritten g name config kept n event now planned r h e = ((λ (f : r ≡ KeepFailed). cc), inl (inr (e, may_lack g n event now h.mail h.ready.move h.ready.moves)))
+
+pub booted_here : (node : Option (Station State)) (n : Station State) → is_booted node ≡ true → node ≡ Some n → 1 ≤ n.node.supervisor.boot
+booted_here node n b e = boot_of n.node.supervisor.boot (ap is_booted (sym e) ∙ b)
