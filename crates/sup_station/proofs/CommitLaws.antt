@@ -1,9 +1,11 @@
 -- What a refused commit was refused for.
-use Rattle.std.specs.Prelude.{◌≡◌, true, Result, Ok, Err, IsErr}
-use Rattle.std.proofs.Common.{refl, ◌∙◌, absurd}
+use Rattle.std.specs.Prelude.{◌≡◌, true, Result, Ok, Err, IsErr, IfErr}
+use Rattle.std.specs.Result.{IsErrAnd}
+use Rattle.std.proofs.Common.{refl, ◌∙◌, sym, subst}
 use mathlib.Core.Logic.{inl, inr}
 use Rattle.sup_replica.specs.declared.done.Done.{Done}
 use Rattle.sup_replica.specs.declared.refusal.Refusal.{Refusal}
+use Rattle.sup_replica.specs.declared.refusal.Refusal.TheVariants.{OutOfMemory as NoRoom}
 use Rattle.sup_keeper.specs.declared.keeper.KeepFault.{KeepFault}
 use Rattle.sup_keeper.specs.declared.keeper.KeepFault.TheVariants.{Failed, OutOfMemory as NoMemory}
 use Rattle.sup_station.specs.Opening.{IsKeepRefusal, refusal_of}
@@ -34,3 +36,16 @@ uncommitted_unsaved p r (inr x) = inr x.0
 pub committed_unsaved : (s : Still) (p : Prepared) (result : Result Done Refusal) (t : Still) → Commits s p result t → IsErr result → IsUnsaved result
 committed_unsaved s p (Ok done) t h e = absurd e
 committed_unsaved s p (Err r) t h e = uncommitted_unsaved p r h.1
+
+-- a refusal that is told on
+pub committed_as : (s : Still) (p : Prepared) (result : Result Done Refusal) (r : Refusal) (t : Still) → IsErrAnd result (λ x. x ≡ r) → t ≡ s → Uncommitted p r → Commits s p result t
+committed_as s p (Ok done) r t h e u = absurd h
+committed_as s p (Err x) r t h e u = (e, subst (λ (y : Refusal). Uncommitted p y) (sym h) u)
+
+pub unsaved_as : (result : Result Done Refusal) (r : Refusal) → IsErrAnd result (λ x. x ≡ r) → IsUnsaved (Err r) → IsUnsaved result
+unsaved_as (Ok done) r h u = absurd h
+unsaved_as (Err x) r h u = subst (λ (y : Refusal). IsUnsaved (Err y)) (sym h) u
+
+pub keeper_told : {A : Type 0} (result : Result A Refusal) → IsErrAnd result (λ x. x ≡ NoRoom) → IfErr result IsKeepRefusal
+keeper_told (Ok a) h = tt
+keeper_told (Err x) h = (NoMemory, h)

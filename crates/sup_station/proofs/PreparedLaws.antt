@@ -1,7 +1,8 @@
 -- What is made ready of an act, from what its node has made ready.
 use Rattle.std.specs.Prelude.{◌≡◌, ◌≢◌, ℕ, ◌+◌, ◌≤◌, Bool, true, false, ◌||◌, nat_lt, nat_le, List, Option, Some, None, Result, Ok, Err, if◌then◌else◌}
 use Rattle.std.specs.Global.{Vec}
-use Rattle.std.proofs.Common.{refl, sym, ap, ◌∙◌, subst, absurd, arith}
+use Rattle.std.specs.Result.{IsErrAnd}
+use Rattle.std.proofs.Common.{refl, sym, ap, ◌∙◌, subst, arith}
 use mathlib.Core.Logic.{◌⊎◌, inl, inr}
 use Rattle.sup_specs.specs.Values.{Bytes}
 use Rattle.sup_specs.specs.declared.limits.TheConstants.{MAX}
@@ -12,6 +13,7 @@ use Rattle.sup_wire.specs.declared.image.Image.{Image}
 use Rattle.sup_wire.specs.Faults.{IsImageInRange}
 use Rattle.sup_replica.specs.Configs.{Config}
 use Rattle.sup_replica.specs.declared.event.Event.{Event}
+use Rattle.sup_replica.specs.declared.event.Act.{Act}
 use Rattle.sup_replica.specs.declared.event.Act.TheVariants.{Event as Of, Stop, Restart}
 use Rattle.sup_replica.specs.declared.done.Done.{Done}
 use Rattle.sup_replica.specs.declared.done.Reply.TheVariants.{Boot}
@@ -216,17 +218,29 @@ image_refused g name config kept now r (inl h) = ((λ (e : r ≡ KeepFailed). cc
 image_refused g name config kept now r (inr h) = ((λ (e : r ≡ KeepFailed). cc), inr (inl h))
 
 -- the same of a station whose node is known to be stopped, or to run
-pub at_stopped : (g : Weigher) (s : Still) (now : ℕ) (result : Result Prepared Refusal) → s.node ≡ None → Prepares g (down g s.name s.config s.kept) Restart now result → Prepares g s Restart now result
-at_stopped g s now result e h = subst (λ (n : Option (Station State)). Prepares g (record s { node = n }) Restart now result) (sym e) h
+pub at_stopped : (g : Weigher) (s : Still) (now : ℕ) (p : Prepared) → s.node ≡ None → IsPreparedFor g (down g s.name s.config s.kept) Restart now p → IsPreparedFor g s Restart now p
+at_stopped g s now p e h = subst (λ (n : Option (Station State)). IsPreparedFor g (record s { node = n }) Restart now p) (sym e) h
 
-pub at_running : (g : Weigher) (s : Still) (n : Station State) (event : Event) (now : ℕ) (result : Result Prepared Refusal) → s.node ≡ Some n
-    → Prepares g (running g s.name s.config s.kept n) (Of event) now result → Prepares g s (Of event) now result
-at_running g s n event now result e h = subst (λ (m : Option (Station State)). Prepares g (record s { node = m }) (Of event) now result) (sym e) h
+pub stopped_refused : (g : Weigher) (s : Still) (now : ℕ) (r : Refusal) → s.node ≡ None → Prepares g (down g s.name s.config s.kept) Restart now (Err r) → Prepares g s Restart now (Err r)
+stopped_refused g s now r e h = subst (λ (n : Option (Station State)). Prepares g (record s { node = n }) Restart now (Err r)) (sym e) h
+
+pub at_running : (g : Weigher) (s : Still) (n : Station State) (event : Event) (now : ℕ) (p : Prepared) → s.node ≡ Some n
+    → IsPreparedFor g (running g s.name s.config s.kept n) (Of event) now p → IsPreparedFor g s (Of event) now p
+at_running g s n event now p e h = subst (λ (m : Option (Station State)). IsPreparedFor g (record s { node = m }) (Of event) now p) (sym e) h
+
+pub running_refused : (g : Weigher) (s : Still) (n : Station State) (event : Event) (now : ℕ) (r : Refusal) → s.node ≡ Some n
+    → Prepares g (running g s.name s.config s.kept n) (Of event) now (Err r) → Prepares g s (Of event) now (Err r)
+running_refused g s n event now r e h = subst (λ (m : Option (Station State)). Prepares g (record s { node = m }) (Of event) now (Err r)) (sym e) h
 
 -- memory for an image's text is wanted
-pub event_unwritten : (g : Weigher) (name : Bytes) (config : Config) (kept : Bytes) (n : Station State) (event : Event) (now : ℕ) (planned : Planned) (r : Refusal) → IsPlanOf g n event now planned → r ≡ OutOfMemory
-    → Prepares g (running g name config kept n) (Of event) now (Err r)
-event_unwritten g name config kept n event now planned r h e = ((λ (f : r ≡ KeepFailed). cc), inl (inr (e, may_lack g n event now h.mail h.ready.move h.ready.moves)))
+pub event_unwritten : (g : Weigher) (name : Bytes) (config : Config) (kept : Bytes) (n : Station State) (event : Event) (now : ℕ) (planned : Planned) → IsPlanOf g n event now planned
+    → Prepares g (running g name config kept n) (Of event) now (Err OutOfMemory)
+event_unwritten g name config kept n event now planned h = ((λ (f : OutOfMemory ≡ KeepFailed). cc), inl (inr (refl, may_lack g n event now h.mail h.ready.move h.ready.moves)))
 
 pub booted_here : (node : Option (Station State)) (n : Station State) → is_booted node ≡ true → node ≡ Some n → 1 ≤ n.node.supervisor.boot
 booted_here node n b e = boot_of n.node.supervisor.boot (ap is_booted (sym e) ∙ b)
+
+-- a refusal that is told on
+pub told_on : (g : Weigher) (s : Still) (act : Act) (now : ℕ) (result : Result Prepared Refusal) (r : Refusal) → IsErrAnd result (λ x. x ≡ r) → Prepares g s act now (Err r) → Prepares g s act now result
+told_on g s act now (Ok p) r h f = absurd h
+told_on g s act now (Err x) r h f = subst (λ (y : Refusal). Prepares g s act now (Err y)) (sym h) f
