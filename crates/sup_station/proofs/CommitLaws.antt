@@ -34,7 +34,7 @@ uncommitted_unsaved p r (inr x) = inr x.0
 
 -- a commit that is refused, is for its save or for memory
 pub committed_unsaved : (s : Still) (p : Prepared) (result : Result Done Refusal) (t : Still) → Commits s p result t → IsErr result → IsUnsaved result
-committed_unsaved s p (Ok done) t h e = absurd e
+committed_unsaved s p (Ok done) t h e = absurd (cc)
 committed_unsaved s p (Err r) t h e = uncommitted_unsaved p r h.1
 
 -- a refusal that is told on

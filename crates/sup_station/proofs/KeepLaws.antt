@@ -17,9 +17,9 @@ use Rattle.sup_replica.specs.declared.refusal.Refusal.{Refusal}
 use Rattle.sup_replica.specs.declared.refusal.Refusal.TheVariants.{Down, UnknownNode, AlreadyPresent, NotFound, AlreadyMember, NotMember, NameTaken, NoSuchChild, NameUnknown, DotsSpent, TableFull, KeepFailed, BadMessage, WrongReceiver, CountSpent}
 use Rattle.sup_replica.specs.Checks.{refused_if, then_do}
 use Rattle.sup_replica.specs.Commands.{Reading, next, join, leave, start, replace, delete, register, unregister}
-use Rattle.sup_replica.specs.Nodes.{Node, Message, Outcome}
+use Rattle.sup_replica.specs.Nodes.{Node, Message, Outcome, is_named}
 use Rattle.sup_replica.specs.Steps.{reading, command, exit_step, push_step, up_step, event_step, passes_greatest}
-use Rattle.sup_replica.specs.Acts.{kept_by, deliver}
+use Rattle.sup_replica.specs.Acts.{kept_by, takes, deliver}
 use Rattle.sup_replica.specs.ByTables.{by_tables}
 use Rattle.sup_replica.specs.Stations.{Station, Mail, a_delta, a_push, an_ack, Move, ship_step, shipped, taken_with, mail_step, read_step, own_step}
 use Rattle.sup_node.specs.NodeSteps.{stepped, MayLack}
@@ -108,7 +108,10 @@ module _ (g : Weigher) where
   ship_kept s (Some mail) = done_kept _
 
   pub deliver_kept : (n : Node State) (from : Bytes) (m : Message State) → deliver by_tables g n from m true ≢ Err KeepFailed
-  deliver_kept n from m = refused_kept _ Down _ (λ e. cc) (refused_kept _ BadMessage _ (λ e. cc) (refused_kept _ WrongReceiver _ (λ e. cc) (done_kept _)))
+  deliver_kept n from m =
+      refused_kept (not n.up) Down _ (λ e. cc)
+      (refused_kept (not true) BadMessage _ (λ e. cc)
+      (refused_kept (not (is_named m.to n.name)) WrongReceiver _ (λ e. cc) (done_kept (takes by_tables g n from m.kind m.content))))
 
   taken_kept : (s : Station State) (from : Bytes) (m : Message State) (letter : Option (Mail State)) → taken_with by_tables g s from m true letter ≢ Err KeepFailed
   taken_kept s from m letter = then_kept (kept_by true (deliver by_tables g s.node from m true)) _ (kept_kept _ (deliver_kept s.node from m)) (λ o. done_kept _)

@@ -237,8 +237,8 @@ pub event_unwritten : (g : Weigher) (name : Bytes) (config : Config) (kept : Byt
     → Prepares g (running g name config kept n) (Of event) now (Err OutOfMemory)
 event_unwritten g name config kept n event now planned h = ((λ (f : OutOfMemory ≡ KeepFailed). cc), inl (inr (refl, may_lack g n event now h.mail h.ready.move h.ready.moves)))
 
-pub booted_here : (node : Option (Station State)) (n : Station State) → is_booted node ≡ true → node ≡ Some n → 1 ≤ n.node.supervisor.boot
-booted_here node n b e = boot_of n.node.supervisor.boot (ap is_booted (sym e) ∙ b)
+pub booted_here : (here : Option (Station State)) (n : Station State) → is_booted here ≡ true → here ≡ Some n → 1 ≤ n.node.supervisor.boot
+booted_here here n b e = boot_of n.node.supervisor.boot (ap is_booted (sym e) ∙ b)
 
 -- a refusal that is told on
 pub told_on : (g : Weigher) (s : Still) (act : Act) (now : ℕ) (result : Result Prepared Refusal) (r : Refusal) → IsErrAnd result (λ x. x ≡ r) → Prepares g s act now (Err r) → Prepares g s act now result

@@ -43,7 +43,7 @@ counted false false o next = λ e r x. cc
 
 kept_goes : (step : Result (Outcome State) Refusal) → step ≢ Err KeepFailed → (next : Outcome State → Move State)
     → Goes_on (then_do (kept_by false step) (λ (x : Outcome State). Ok (next x))) (then_do (kept_by true step) (λ (x : Outcome State). Ok (next x)))
-kept_goes (Err why) h next = λ e r. absurd (h e)
+kept_goes (Err why) h next = λ e r. absurd (h (cc))
 kept_goes (Ok o) h next = counted (passes_greatest o.node) o.saves o next
 
 module _ (g : Weigher) where
