@@ -17,7 +17,7 @@ use Rattle.sup_replica.specs.declared.refusal.Refusal.{Refusal}
 use Rattle.sup_replica.specs.declared.refusal.Refusal.TheVariants.{Down, UnknownNode, AlreadyPresent, NotFound, AlreadyMember, NotMember, NameTaken, NoSuchChild, NameUnknown, DotsSpent, TableFull, KeepFailed, BadMessage, WrongReceiver, CountSpent}
 use Rattle.sup_replica.specs.Checks.{refused_if, then_do}
 use Rattle.sup_replica.specs.Commands.{Reading, next, join, leave, start, replace, delete, register, unregister}
-use Rattle.sup_replica.specs.Nodes.{Node, Message, Outcome, is_named}
+use Rattle.sup_replica.specs.Nodes.{Node, delta, push, Message, Outcome, is_named}
 use Rattle.sup_replica.specs.Steps.{reading, command, exit_step, push_step, up_step, event_step, passes_greatest}
 use Rattle.sup_replica.specs.Acts.{kept_by, takes, deliver}
 use Rattle.sup_replica.specs.ByTables.{by_tables}
@@ -117,8 +117,8 @@ module _ (g : Weigher) where
   taken_kept s from m letter = then_kept (kept_by true (deliver by_tables g s.node from m true)) _ (kept_kept _ (deliver_kept s.node from m)) (λ o. done_kept _)
 
   pub mail_kept : (s : Station State) (mail : Mail State) → mail_step by_tables g s mail true ≢ Err KeepFailed
-  mail_kept s (a_delta from to n whole content) = taken_kept s from _ _
-  mail_kept s (a_push from to content) = taken_kept s from _ _
+  mail_kept s (a_delta from to n whole content) = taken_kept s from (record { to = to; kind = delta; content = content }) (Some (an_ack s.node.name from n))
+  mail_kept s (a_push from to content) = taken_kept s from (record { to = to; kind = push; content = content }) None
   mail_kept s (an_ack from to n) = refused_kept _ Down _ (λ e. cc) (refused_kept _ WrongReceiver _ (λ e. cc) (refused_kept _ BadMessage _ (λ e. cc) (done_kept _)))
 
   read_kept : (s : Station State) (mail : Option (Mail State)) → read_step by_tables g s mail true ≢ Err KeepFailed
