@@ -11,7 +11,9 @@ trap 'rm -rf "$work"' EXIT
   sup_local_sup_tests refused::a_refused_growth_changes_nothing_and_the_call_can_be_made_again \
   sup_wire_tests refused::a_refused_text_of_a_message_is_written_or_read_when_asked_again \
   sup_wire_tests refused::a_refused_text_of_an_image_is_written_or_read_when_asked_again \
-  sup_wire_tests refused::a_fault_is_told_when_asked_again
+  sup_wire_tests refused::a_fault_is_told_when_asked_again \
+  sup_station_tests refused::an_interval_after_a_restart_is_sent_over_a_refused_growth \
+  sup_station_tests refused::an_add_goes_on_beside_a_removal_over_a_refused_growth
 "${CC:-cc}" -shared -fPIC -O1 -o "$work/refuse.so" "$top/bench/refuse_allocation.c" -ldl
 
 while [ $# -ge 2 ]; do

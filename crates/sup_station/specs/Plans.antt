@@ -1,0 +1,101 @@
+-- An act that a station has made ready, and what becomes of the station once that is committed (this project).
+use Rattle.std.specs.Prelude.{◌≡◌, ◌≢◌, ◌≤◌, ℕ, Bool, true, false, Option, Some, None, Result, Ok, Err}
+use Rattle.std.specs.Global.{Vec}
+use Rattle.std.specs.Option.{option_map}
+use mathlib.Core.Logic.{◌⊎◌}
+use Rattle.sup_specs.specs.Values.{Bytes}
+use Rattle.sup_tables.specs.States.{State}
+use Rattle.sup_placement.specs.Place.{Weigher}
+use Rattle.sup_replica.specs.declared.event.Act.{Act}
+use Rattle.sup_replica.specs.declared.done.Done.{Done}
+use Rattle.sup_replica.specs.declared.refusal.Refusal.{Refusal}
+use Rattle.sup_replica.specs.declared.refusal.Refusal.TheVariants.{KeepFailed, OutOfMemory}
+use Rattle.sup_replica.specs.Stations.{Station}
+use Rattle.sup_node.specs.declared.planned.Planned.{Planned}
+use Rattle.sup_node.specs.Changes.{saves, station_after}
+use Rattle.sup_node.specs.Contents.{station_in}
+use Rattle.sup_node.specs.NodeSteps.{Fits}
+use Rattle.sup_station.specs.Stills.{Still, Goes, Refuses, ComesToSave}
+use Rattle.sup_station.specs.declared.prepared.Prepared.{Prepared}
+use Rattle.sup_station.specs.declared.prepared.Next.{Next}
+use Rattle.sup_station.specs.declared.prepared.Next.TheVariants.{Changes, Stops, Runs}
+
+-- the answer, once it is committed
+abbrev pub done_in : Next → Done
+done_in (Changes p) = p.done
+done_in (Stops done) = done
+done_in (Runs state done) = done
+
+abbrev pub done_of : Prepared → Done
+done_of p = done_in p.next
+
+-- whether there is a text, and so a save
+abbrev pub has_text : {A : Type 0} → Option A → Bool
+has_text None = false
+has_text (Some text) = true
+
+abbrev pub is_saved : Prepared → Bool
+is_saved p = has_text p.text
+
+-- whether its commit may want memory: a stop's doesn't
+abbrev pub takes_memory_in : Next → Bool
+takes_memory_in (Changes p) = true
+takes_memory_in (Stops done) = false
+takes_memory_in (Runs state done) = true
+
+abbrev pub takes_memory : Prepared → Bool
+takes_memory p = takes_memory_in p.next
+
+-- whether the image changes, and so is saved first
+abbrev pub saves_in : Next → Bool
+saves_in (Changes p) = saves p.change
+saves_in (Stops done) = false
+saves_in (Runs state done) = true
+
+abbrev pub node_after : Option (Station State) → Next → Option (Station State)
+node_after None (Changes p) = None
+node_after (Some n) (Changes p) = Some (station_after n p.change)
+node_after n (Stops done) = None
+node_after n (Runs state done) = Some (station_in state)
+
+abbrev pub kept_after : Bytes → Option (Vec ℕ) → Bytes
+kept_after kept None = kept
+kept_after kept (Some text) = text.items
+
+-- the station once it is committed
+abbrev pub after : Still → Prepared → Still
+after s p = record s { node = node_after s.node p.next; kept = kept_after s.kept p.text }
+
+-- what a change asks of the node: that it is a plan of it
+abbrev pub IsPlanFor : Option (Station State) → Next → Type 0
+IsPlanFor None (Changes p) = ⊥
+IsPlanFor (Some n) (Changes p) = Fits n p.change
+IsPlanFor n (Stops done) = Unit {0}
+IsPlanFor n (Runs state done) = 1 ≤ (station_in state).node.supervisor.boot
+
+-- what a commit asks of the station
+pub record IsReadyFor (s : Still) (p : Prepared) : Type 0 where
+  pub plan : IsPlanFor s.node p.next
+  pub saved : saves_in p.next ≡ is_saved p
+
+-- what is made ready of an act: its answer, what the station becomes, and what it may be refused for yet
+pub record IsPreparedFor (g : Weigher) (s : Still) (act : Act) (now : ℕ) (p : Prepared) : Type 0 where
+  pub goes : Goes g s act now (Ok (done_of p)) (after s p)
+  pub ready : IsReadyFor s p
+  pub saves : ComesToSave g s s.node act now → is_saved p ≡ true
+  pub unsaved : is_saved p ≡ true → Refuses g s s.node act now KeepFailed
+  pub lacks : takes_memory p ≡ true → Refuses g s s.node act now OutOfMemory
+
+-- what is made ready, or a refusal that no failure of the keeper is the reason of
+abbrev pub Prepares : Weigher → Still → Act → ℕ → Result Prepared Refusal → Type 0
+Prepares g s act now (Ok p) = IsPreparedFor g s act now p
+Prepares g s act now (Err r) = (r ≢ KeepFailed) × Refuses g s s.node act now r
+
+-- why a commit is refused: its save fails, or for memory
+abbrev pub Uncommitted : Prepared → Refusal → Type 0
+Uncommitted p r = ((r ≡ KeepFailed) × (is_saved p ≡ true)) ⊎ ((r ≡ OutOfMemory) × (takes_memory p ≡ true))
+
+-- the answer of a commit, and what the station is after it
+abbrev pub Commits : Still → Prepared → Result Done Refusal → Still → Type 0
+Commits s p (Ok done) t = (done ≡ done_of p) × (t ≡ after s p)
+Commits s p (Err r) t = (t ≡ s) × Uncommitted p r

@@ -1,0 +1,160 @@
+//! What a station is asked.
+ghost use Rattle.std.specs.Prelude.{◌≡◌, ◌≢◌, ◌<◌, ◌≤◌, true, Some, None, IsErr, IfErr, IfOk, OnOk, OnErr, MatchResult};
+ghost use Rattle.std.specs.Option.{option_map, option_copied};
+ghost use Rattle.sup_node.specs.Contents.{station_of};
+ghost use Rattle.sup_replica.specs.declared.event.Act.TheVariants.{Restart};
+ghost use Rattle.sup_replica.specs.declared.refusal.Refusal.TheVariants.{KeepFailed};
+ghost use Rattle.sup_keeper.specs.Keeping.{failing_next};
+ghost use Rattle.sup_station.specs.Opening.{Opens, IsKeepRefusal, kept_by};
+ghost use Rattle.sup_station.specs.Plans.{IsPreparedFor, IsReadyFor, Commits, is_saved};
+ghost use Rattle.sup_station.specs.Stills.{still_of, keeper_of, Goes, Refuses, ComesToSave, IsUnsaved};
+
+use sup_keeper::Keeper;
+use sup_keeper::MemKeeper;
+use crate::prepared::Prepared;
+use crate::station::{Refused, Station};
+use crate::station::becoming::change_to;
+use crate::station::opening::open;
+use crate::station::saving::save_text;
+use std::alloc::Global;
+use sup_node::Node;
+use sup_placement::Weigh;
+use sup_replica::{Act, Config, Done, Refusal};
+use sup_specs::NodeName;
+
+impl<K: Keeper, W: Weigh> Station<K, W> {
+    /// A station of a node that was just made: it runs in its first boot, and its image is saved.
+    ///
+    /// # Errors
+    ///
+    /// `KeepFailed` where the save fails; `OutOfMemory`. The keeper comes back, with the bytes that it kept.
+    pub fn new(
+        alloc: Global,
+        name: NodeName,
+        config: Config,
+        keeper: K,
+    ) -> Result<Station<K, W>, Refused<K>>
+        ensures opens { IfOk result (λ s. Opens name config (still_of K.kept s)) }
+        ensures refused { IfErr result (λ r. K.kept r.keeper ≡ K.kept keeper) }
+        ensures reason { IfErr result (λ r. IsKeepRefusal r.reason) }
+        ensures rose { IfErr result (λ r. r.reason ≡ KeepFailed → K.failures keeper < K.failures r.keeper) }
+        ensures never_falls { IfErr result (λ r. K.failures keeper ≤ K.failures r.keeper) }
+        ensures uncounted { IfOk result (λ s. K.failures (keeper_of s) ≡ K.failures keeper) }
+        ensures failing { K.failing keeper ≡ true → IsErr result }
+        ensures sound { IfErr result (λ r. K.sound keeper ≡ true → r.reason ≢ KeepFailed) }
+    {
+        let mut keeper = keeper;
+        match open(alloc, name, config, &mut keeper) {
+            Ok(node) => Ok(Station {
+                name,
+                config,
+                node: Some(node),
+                keeper,
+                alloc,
+            }),
+            Err(reason) => Err(Refused { keeper, reason }),
+        }
+    }
+
+    /// A station whose node is stopped. A restart goes on from what the keeper keeps.
+    pub fn stopped(alloc: Global, name: NodeName, config: Config, keeper: K) -> Station<K, W>
+        ensures still { still_of K.kept result ≡ record { name = name; config = config; node = None; kept = K.kept keeper } }
+        ensures keeper { keeper_of result ≡ keeper }
+    {
+        let node = None;
+        Station {
+            name,
+            config,
+            node,
+            keeper,
+            alloc,
+        }
+    }
+
+    /// Its node, or none while it is stopped.
+    pub fn node(&self) -> Option<&Node<W>>
+        ensures { option_map station_of (option_copied result) ≡ (still_of K.kept self.now).node }
+    {
+        self.node.as_ref()
+    }
+
+    /// What keeps its image.
+    pub fn keeper(&self) -> &K
+        ensures { result.now ≡ keeper_of self.now }
+    {
+        &self.keeper
+    }
+
+    /// Makes an act at the moment `now` ready, in the order of checks. Nothing changes but the keeper's count of failures,
+    /// where a load fails.
+    ///
+    /// # Errors
+    ///
+    /// `Down` of an event or a stop while the node is stopped, and `AlreadyUp` of a restart while it runs. An event is
+    /// refused as its node's plan is. A restart is refused with `KeepFailed` where the load fails, `BadMessage` where the
+    /// bytes are no image of this node, `CountSpent` where the boot would pass `MAX`, and `OutOfMemory`.
+    pub fn prepare(&mut self, act: &Act, now: u64, weigher: &W) -> Result<Prepared, Refusal>
+        ensures same { still_of K.kept self.new ≡ still_of K.kept self.old }
+        ensures answer { MatchResult result (IsPreparedFor W.weight_of (still_of K.kept self.old) act.now now) (Refuses W.weight_of (still_of K.kept self.old) (still_of K.kept self.old).node act.now now) }
+        ensures loads { act.now ≢ Restart → (keeper_of self.new ≡ keeper_of self.old) × (result ≢ Err KeepFailed) }
+        ensures rose { result ≡ Err KeepFailed → K.failures (keeper_of self.old) < K.failures (keeper_of self.new) }
+        ensures never_falls { K.failures (keeper_of self.old) ≤ K.failures (keeper_of self.new) }
+        ensures uncounted { OnOk result (K.failures (keeper_of self.new) ≡ K.failures (keeper_of self.old)) }
+        ensures stays_failing { K.failing (keeper_of self.new) ≡ K.failing (keeper_of self.old) }
+        ensures stays_sound { K.sound (keeper_of self.new) ≡ K.sound (keeper_of self.old) }
+        ensures sound { K.sound (keeper_of self.old) ≡ true → result ≢ Err KeepFailed }
+    {
+        match act {
+            Act::Event(event) => self.prepare_event(event, now, weigher),
+            Act::Stop => self.prepare_stop(now),
+            Act::Restart => self.prepare_restart(now, weigher),
+        }
+    }
+
+    /// Saves the image that was made ready, if the act changes it, and then carries the act out.
+    ///
+    /// # Errors
+    ///
+    /// `KeepFailed` where the save fails; `OutOfMemory`. The station is unchanged then.
+    pub fn commit(&mut self, prepared: Prepared) -> Result<Done, Refusal>
+        requires { IsReadyFor (still_of K.kept self.old) prepared }
+        ensures answer { Commits (still_of K.kept self.old) prepared result (still_of K.kept self.new) }
+        ensures rose { result ≡ Err KeepFailed → K.failures (keeper_of self.old) < K.failures (keeper_of self.new) }
+        ensures never_falls { K.failures (keeper_of self.old) ≤ K.failures (keeper_of self.new) }
+        ensures uncounted { OnOk result (K.failures (keeper_of self.new) ≡ K.failures (keeper_of self.old)) }
+        ensures failing { K.failing (keeper_of self.old) ≡ true → is_saved prepared ≡ true → IsErr result }
+        ensures sound { K.sound (keeper_of self.old) ≡ true → result ≢ Err KeepFailed }
+    {
+        let Prepared { next, text } = prepared;
+        save_text(&mut self.keeper, text)?;
+        let done = change_to(&mut self.node, next)?;
+        Ok(done)
+    }
+
+    /// One act at the moment `now`: [`prepare`](Station::prepare) and [`commit`](Station::commit).
+    ///
+    /// # Errors
+    ///
+    /// As these two tell. The station is unchanged then, but for the keeper's count of failures.
+    pub fn step(&mut self, act: Act, now: u64, weigher: &W) -> Result<Done, Refusal>
+        ensures goes { Goes W.weight_of (still_of K.kept self.old) act now result (still_of K.kept self.new) }
+        ensures failed { result ≡ Err KeepFailed → K.failures (keeper_of self.old) < K.failures (keeper_of self.new) }
+        ensures never_falls { K.failures (keeper_of self.old) ≤ K.failures (keeper_of self.new) }
+        ensures uncounted { OnOk result (K.failures (keeper_of self.new) ≡ K.failures (keeper_of self.old)) }
+        ensures failing { K.failing (keeper_of self.old) ≡ true → ComesToSave W.weight_of (still_of K.kept self.old) (still_of K.kept self.old).node act now → IsUnsaved result }
+        ensures sound { K.sound (keeper_of self.old) ≡ true → result ≢ Err KeepFailed }
+    {
+        let prepared = self.prepare(&act, now, weigher)?;
+        self.commit(prepared)
+    }
+}
+
+impl<W: Weigh> Station<MemKeeper, W> {
+    /// Whether the next save of its keeper fails. None does once `u64::MAX` have.
+    pub fn fail_next(&mut self, fails: bool)
+        ensures keeper { keeper_of self.new ≡ failing_next (keeper_of self.old) fails }
+        ensures still { still_of kept_by self.new ≡ still_of kept_by self.old }
+    {
+        self.keeper.fail_next(fails);
+    }
+}

@@ -1,0 +1,153 @@
+//! What a station makes ready of an act.
+ghost use Rattle.std.specs.Prelude.{◌≡◌, ◌≢◌, ◌<◌, ◌≤◌, ◌+◌, true, None, IfOk, MatchResult, IfErr, OnOk};
+ghost use Rattle.sup_replica.specs.declared.event.Act.TheVariants.{Event as Of, Stop, Restart};
+ghost use Rattle.sup_replica.specs.declared.refusal.Refusal.TheVariants.{KeepFailed};
+ghost use Rattle.sup_specs.specs.declared.limits.TheConstants.{MAX as MOST};
+ghost use Rattle.sup_station.specs.Opening.{IsWritten};
+ghost use Rattle.sup_station.specs.Plans.{IsPreparedFor, Prepares};
+ghost use Rattle.sup_station.specs.Stills.{still_of, keeper_of, Refuses, IsOwnImage, IsNoOwnImage};
+
+use sup_keeper::Keeper;
+use crate::prepared::{Next, Prepared};
+use crate::station::Station;
+use crate::station::saving::{refusal, text_in, text_of};
+use std::alloc::{AllocError, Global};
+use sup_local_sup::Effects;
+use sup_node::NodeState;
+use sup_placement::Weigh;
+use sup_replica::{Done, Event, Refusal, Reply};
+use sup_wire::{Image, WireFault, decode_image};
+
+impl<K: Keeper, W: Weigh> Station<K, W> {
+    // Makes an event ready.
+    pub(super) fn prepare_event(
+        &self,
+        event: &Event,
+        now: u64,
+        weigher: &W,
+    ) -> Result<Prepared, Refusal>
+        ensures { Prepares W.weight_of (still_of K.kept self.now) (Of event.now) now result }
+    {
+        let Some(node) = &self.node else {
+            return Err(Refusal::Down);
+        };
+        let planned = node.plan(event, now, weigher)?;
+        let text = text_in(self.alloc, &planned)?;
+        Ok(Prepared {
+            next: Next::Changes(planned),
+            text,
+        })
+    }
+
+    // Makes a stop ready.
+    pub(super) fn prepare_stop(&self, now: u64) -> Result<Prepared, Refusal>
+        ensures { Prepares W.weight_of (still_of K.kept self.now) Stop now result }
+    {
+        if self.node.is_none() {
+            return Err(Refusal::Down);
+        }
+        let done = Done {
+            reply: Reply::Stopped,
+            effects: Effects::new(Vec::new(self.alloc)),
+            out: None,
+        };
+        Ok(Prepared {
+            next: Next::Stops(done),
+            text: None,
+        })
+    }
+
+    // Makes a restart ready.
+    pub(super) fn prepare_restart(&mut self, now: u64, weigher: &W) -> Result<Prepared, Refusal>
+        ensures same { still_of K.kept self.new ≡ still_of K.kept self.old }
+        ensures answer { MatchResult result (IsPreparedFor W.weight_of (still_of K.kept self.old) Restart now) (Refuses W.weight_of (still_of K.kept self.old) (still_of K.kept self.old).node Restart now) }
+        ensures rose { result ≡ Err KeepFailed → K.failures (keeper_of self.old) < K.failures (keeper_of self.new) }
+        ensures never_falls { K.failures (keeper_of self.old) ≤ K.failures (keeper_of self.new) }
+        ensures uncounted { OnOk result (K.failures (keeper_of self.new) ≡ K.failures (keeper_of self.old)) }
+        ensures stays_failing { K.failing (keeper_of self.new) ≡ K.failing (keeper_of self.old) }
+        ensures stays_sound { K.sound (keeper_of self.new) ≡ K.sound (keeper_of self.old) }
+        ensures sound { K.sound (keeper_of self.old) ≡ true → result ≢ Err KeepFailed }
+    {
+        if self.node.is_some() {
+            return Err(Refusal::AlreadyUp);
+        }
+        match self.keeper.load() {
+            Ok(bytes) => self.restart_from(&bytes, now, weigher),
+            Err(fault) => Err(refusal(fault)),
+        }
+    }
+
+    // Makes a restart from these bytes ready, which the keeper keeps.
+    fn restart_from(&self, bytes: &[u8], now: u64, weigher: &W) -> Result<Prepared, Refusal>
+        requires stopped { (still_of K.kept self.now).node ≡ None }
+        requires kept { bytes.now ≡ (still_of K.kept self.now).kept }
+        ensures { Prepares W.weight_of (still_of K.kept self.now) Restart now result }
+    {
+        let image = self.own_image(bytes)?;
+        self.restart_by(image, now, weigher)
+    }
+
+    // The image of this node that the bytes are read as.
+    fn own_image(&self, bytes: &[u8]) -> Result<Image, Refusal>
+        ensures { MatchResult result (IsOwnImage (still_of K.kept self.now).name bytes.now) (IsNoOwnImage (still_of K.kept self.now).name bytes.now) }
+    {
+        match decode_image(self.alloc, bytes) {
+            Ok(image) => {
+                if image.node != self.name {
+                    return Err(Refusal::BadMessage);
+                }
+                Ok(image)
+            }
+            Err(WireFault::OutOfMemory) => Err(Refusal::OutOfMemory),
+            Err(_) => Err(Refusal::BadMessage),
+        }
+    }
+
+    // Makes a restart from an image ready.
+    fn restart_by(&self, image: Image, now: u64, weigher: &W) -> Result<Prepared, Refusal>
+        requires stopped { (still_of K.kept self.now).node ≡ None }
+        requires own { IsOwnImage (still_of K.kept self.now).name (still_of K.kept self.now).kept image }
+        ensures { Prepares W.weight_of (still_of K.kept self.now) Restart now result }
+    {
+        let boot = image.boot + 1;
+        let (image, text) = with_next_boot(self.alloc, image)?;
+        let (state, effects) = NodeState::from_image(self.alloc, image, self.config, weigher)?;
+        let done = Done {
+            reply: Reply::Boot(boot),
+            effects,
+            out: None,
+        };
+        Ok(Prepared {
+            next: Next::Runs(state, done),
+            text: Some(text),
+        })
+    }
+}
+
+// The text of an image in its next boot, and the image as it was.
+fn with_next_boot(alloc: Global, image: Image) -> Result<(Image, Vec<u8>), AllocError>
+    requires { image.boot ≤ MOST }
+    ensures same { IfOk result (λ r. r.0 ≡ image) }
+    ensures text { IfOk result (λ r. IsWritten r.1.items (record image { boot = image.boot + 1 })) }
+{
+    let Image {
+        node,
+        boot,
+        count,
+        state,
+    } = image;
+    let next = Image {
+        node,
+        boot: boot + 1,
+        count,
+        state,
+    };
+    let text = text_of(alloc, &next)?;
+    let image = Image {
+        node,
+        boot,
+        count,
+        state: next.state,
+    };
+    Ok((image, text))
+}

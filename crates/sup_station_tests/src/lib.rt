@@ -1,0 +1,24 @@
+//! The tests of stations, through their public calls. A crate with tests is proved twice, once without and once with them:
+//! here there is nothing to prove without them.
+#![tactic(auto)]
+
+#[cfg(test)]
+mod foreign;
+#[cfg(test)]
+mod given;
+#[cfg(test)]
+mod line;
+#[cfg(test)]
+mod refused;
+#[cfg(test)]
+mod rows;
+#[cfg(test)]
+mod shown;
+#[cfg(test)]
+mod spent;
+#[cfg(test)]
+mod stage;
+#[cfg(test)]
+mod told;
+#[cfg(test)]
+mod unreadable;

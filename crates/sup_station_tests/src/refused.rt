@@ -1,0 +1,41 @@
+//! Stories that go on where a save or a growth is refused: the act answers so and changes nothing, and made once more it
+//! does what it should have done, so that the row ends as without.
+use crate::rows::{INTERVAL, INTERVAL_TOLD, REMOVAL, REMOVAL_TOLD};
+use crate::stage::{plays, plays_over_failure};
+use std::process::Abort;
+use sup_replica::Config;
+
+// Of the acts of the first row those save: two starts, an absorbed delivery, a restart.
+#[test]
+fn each_save_of_an_interval_after_a_restart_fails_in_turn(rt: HostRuntime) {
+    let mut failed = 0usize;
+    for act in 1..10usize {
+        let config = Config::default();
+        let failures = plays_over_failure(&rt, config, INTERVAL, INTERVAL_TOLD, act);
+        failed = failed.saturating_add(failures);
+    }
+    assert!(rt; failed == 4, "{failed}");
+}
+
+// Of the second row: a join, a start, two absorbed deliveries, a delete and a replace.
+#[test]
+fn each_save_of_an_add_beside_a_removal_fails_in_turn(rt: HostRuntime) {
+    let mut failed = 0usize;
+    for act in 1..11usize {
+        let config = Config::default();
+        let failures = plays_over_failure(&rt, config, REMOVAL, REMOVAL_TOLD, act);
+        failed = failed.saturating_add(failures);
+    }
+    assert!(rt; failed == 6, "{failed}");
+}
+
+// `bench/refused_stories.sh` runs these two with each growth refused in turn.
+#[test]
+fn an_interval_after_a_restart_is_sent_over_a_refused_growth(rt: HostRuntime) {
+    plays(&rt, Config::default(), INTERVAL, INTERVAL_TOLD);
+}
+
+#[test]
+fn an_add_goes_on_beside_a_removal_over_a_refused_growth(rt: HostRuntime) {
+    plays(&rt, Config::default(), REMOVAL, REMOVAL_TOLD);
+}

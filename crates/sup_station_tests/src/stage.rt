@@ -1,0 +1,222 @@
+//! Two stations, a and b, with what they sent: the lines of a row, played one after another. Where memory is refused a call
+//! is made once more. The calls promise nothing, and end the test where one of a station's fails.
+use crate::given::{message, name};
+use crate::line::Line;
+use crate::shown::put_node;
+use crate::told::{put, put_effects, put_kind, put_number, put_refusal, put_reply};
+use std::process::Abort;
+use sup_keeper::MemKeeper;
+use sup_placement::FlatWeigh;
+use sup_replica::{Act, Config, Done, Event, Letter, Refusal};
+use sup_station::Station;
+
+#[derive(Drop)]
+pub(crate) struct Stage {
+    a: Station<MemKeeper, FlatWeigh>,
+    b: Station<MemKeeper, FlatWeigh>,
+    sent_by_a: Vec<Letter>,
+    sent_by_b: Vec<Letter>,
+    told: String,
+    // The saves of which act are told to fail, from 1, and how many acts there were.
+    failing: usize,
+    acts: usize,
+    // How many acts were refused since their save failed, and made once more.
+    pub(crate) failed: usize,
+}
+
+/// The stations of the row play its lines, and tell what is wanted.
+pub(crate) fn plays(rt: &(impl Abort + AllocGlobal), config: Config, lines: &str, wanted: &str) {
+    plays_over_failure(rt, config, lines, wanted, 0);
+}
+
+/// The same where the save of one act fails, and the act is made once more. Answers how many failed, 0 or 1.
+pub(crate) fn plays_over_failure(
+    rt: &(impl Abort + AllocGlobal),
+    config: Config,
+    lines: &str,
+    wanted: &str,
+    failing: usize,
+) -> usize {
+    let mut stage = Stage {
+        a: station(rt, "a", config),
+        b: station(rt, "b", config),
+        sent_by_a: Vec::new(rt.alloc()),
+        sent_by_b: Vec::new(rt.alloc()),
+        told: String::new(rt.alloc()),
+        failing,
+        acts: 0,
+        failed: 0,
+    };
+    for line in lines.lines() {
+        stage.plays_line(rt, &Line::of(line));
+    }
+    assert!(rt; stage.told.as_str() == wanted, "{failing}");
+    stage.failed
+}
+
+fn station(
+    rt: &(impl Abort + AllocGlobal),
+    of: &str,
+    config: Config,
+) -> Station<MemKeeper, FlatWeigh> {
+    let of = name(rt, of);
+    match Station::new(rt.alloc(), of, config, MemKeeper::new(rt.alloc())) {
+        Ok(station) => station,
+        Err(refused) => match Station::new(rt.alloc(), of, config, refused.keeper) {
+            Ok(station) => station,
+            Err(_) => panic!(rt; "no room"),
+        },
+    }
+}
+
+impl Stage {
+    fn plays_line(&mut self, rt: &(impl Abort + AllocGlobal), line: &Line<'_>) {
+        match line.verb {
+            "show" => self.shows(rt, line.at),
+            "message" => self.tells_message(rt, line),
+            "deliver" => {
+                let at = if line.at == "a" { "b" } else { "a" };
+                self.plays_act(rt, line, at);
+            }
+            _ => self.plays_act(rt, line, line.at),
+        }
+    }
+
+    // The act is made, once more where memory is refused, and once more where its save is the one that fails.
+    fn plays_act(&mut self, rt: &(impl Abort + AllocGlobal), line: &Line<'_>, at: &str) {
+        self.acts = self.acts.saturating_add(1);
+        let due = self.acts == self.failing;
+        self.fails_next(at, due || line.fails);
+        let answer = self.tries_twice(rt, line, at);
+        self.fails_next(at, false);
+        if due && answer.as_ref().err() == Some(&Refusal::KeepFailed) {
+            self.failed = self.failed.saturating_add(1);
+            let again = self.tries(rt, line, at);
+            self.tells(rt, at, again);
+        } else {
+            self.tells(rt, at, answer);
+        }
+    }
+
+    fn tries_twice(
+        &mut self,
+        rt: &(impl Abort + AllocGlobal),
+        line: &Line<'_>,
+        at: &str,
+    ) -> Result<Done, Refusal> {
+        match self.tries(rt, line, at) {
+            Err(Refusal::OutOfMemory) => self.tries(rt, line, at),
+            answer => answer,
+        }
+    }
+
+    fn tries(
+        &mut self,
+        rt: &(impl Abort + AllocGlobal),
+        line: &Line<'_>,
+        at: &str,
+    ) -> Result<Done, Refusal> {
+        let act = self
+            .act(rt, line)
+            .or_else(|| self.act(rt, line))
+            .expect(rt, "room");
+        self.step(at, act)
+    }
+
+    fn act(&self, rt: &(impl Abort + AllocGlobal), line: &Line<'_>) -> Option<Act> {
+        if line.verb == "deliver" {
+            let bytes = self.message(rt, line);
+            return Some(Act::Event(Event::Deliver(message(rt.alloc(), bytes)?)));
+        }
+        line.act(rt)
+    }
+
+    // The bytes of the message that the line names, by its sender and its number among the sender's.
+    fn message(&self, rt: &impl Abort, line: &Line<'_>) -> &[u8] {
+        let sent = if line.at == "a" {
+            &self.sent_by_a
+        } else {
+            &self.sent_by_b
+        };
+        let number = line.word.parse::<usize>().unwrap_or(0);
+        match sent.as_slice().get(number.saturating_sub(1)) {
+            Some(letter) => letter.bytes.as_slice(),
+            None => panic!(rt; "no such message"),
+        }
+    }
+
+    fn step(&mut self, at: &str, act: Act) -> Result<Done, Refusal> {
+        if at == "a" {
+            self.a.step(act, 0, &FlatWeigh)
+        } else {
+            self.b.step(act, 0, &FlatWeigh)
+        }
+    }
+
+    fn fails_next(&mut self, at: &str, fails: bool) {
+        if at == "a" {
+            self.a.fail_next(fails);
+        } else {
+            self.b.fail_next(fails);
+        }
+    }
+
+    fn tells(&mut self, rt: &(impl Abort + AllocGlobal), at: &str, answer: Result<Done, Refusal>) {
+        match answer {
+            Err(refusal) => put_refusal(rt, &mut self.told, refusal),
+            Ok(done) => {
+                let Done {
+                    reply,
+                    effects,
+                    out,
+                } = done;
+                put_reply(rt, &mut self.told, &reply);
+                put_effects(rt, &mut self.told, at, effects.as_slice());
+                if let Some(letter) = out {
+                    self.sends(rt, at, letter);
+                }
+            }
+        }
+    }
+
+    fn sends(&mut self, rt: &(impl Abort + AllocGlobal), at: &str, letter: Letter) {
+        let sent = if at == "a" {
+            &mut self.sent_by_a
+        } else {
+            &mut self.sent_by_b
+        };
+        put(rt, &mut self.told, "  sent ");
+        put(rt, &mut self.told, at);
+        put(rt, &mut self.told, " ");
+        put_number(rt, &mut self.told, sent.len() as u64 + 1);
+        put(rt, &mut self.told, " to ");
+        put(rt, &mut self.told, letter.to.as_str());
+        put_kind(rt, &mut self.told, letter.kind);
+        if let Err(failed) = sent.push(letter) {
+            assert!(rt; sent.push(failed.value).is_ok(), "room");
+        }
+    }
+
+    fn shows(&mut self, rt: &(impl Abort + AllocGlobal), at: &str) {
+        put(rt, &mut self.told, "node ");
+        put(rt, &mut self.told, at);
+        let node = if at == "a" {
+            self.a.node()
+        } else {
+            self.b.node()
+        };
+        match node {
+            None => put(rt, &mut self.told, " down\n"),
+            Some(node) => put_node(rt, &mut self.told, node),
+        }
+    }
+
+    fn tells_message(&mut self, rt: &(impl Abort + AllocGlobal), line: &Line<'_>) {
+        let bytes = self.message(rt, line);
+        let Ok(text) = std::str::from_utf8(bytes) else {
+            panic!(rt; "no text")
+        };
+        put(rt, &mut self.told, text);
+        put(rt, &mut self.told, "\n");
+    }
+}
