@@ -1,40 +1,41 @@
--- A numeral that is parsed is its number, and one that isn't parsed has none of 32 bits.
-use Rattle.std.proofs.Common.{◌≡◌, ℕ, ◌<◌, ◌^◌, true, false, List, length, arith, rules, refl, None, Result}
+-- A text that is parsed is its number, and one that isn't parsed has none of 32 bits.
+use Rattle.std.proofs.Common.{◌≡◌, ℕ, ◌<◌, ◌^◌, true, false, Bool, List, length, arith, rules, refl, None, Result}
 use Rattle.std.specs.Prelude.{nat_lt, Ok, Err}
 use Rattle.std.proofs.lemmas.Bool.Decides.{nat_tests}
 use Rattle.std.specs.Result.{OkIff, result_ok}
 use Rattle.std.specs.Char.{is_ascii_digit}
 use Rattle.std.specs.List.{list_all}
-use Rattle.std.specs.Str.Parse.{ParsesUnsigned, digits_value}
-use Rattle.std.proofs.lemmas.Str.Parse.{IsNumeralModel, numerals_by_value, parse_digits}
-use Rattle.sup_command_line.specs.Numbers.{is_numeral, number_of}
+use Rattle.std.specs.Str.Parse.{IsNumeral, ParsesUnsigned, digits_value, without_leading_plus}
+use Rattle.std.proofs.lemmas.Str.Parse.{IsNumeralModel, numerals_by_value}
+use Rattle.sup_command_line.specs.Numbers.{is_numeral, value_of, number_of}
 
 own : IsNumeralModel (λ ds. list_all is_ascii_digit ds ≡ true) (digits_value 10)
 own = numerals_by_value _ (search rules)
 
-numeral_parses : {E : Type 0} (text : List ℕ) (r : Result ℕ E) → ParsesUnsigned 32 10 text r → is_numeral text ≡ true → OkIff r ((0 < length text) × (digits_value 10 text < 2 ^ 32)) (digits_value 10 text)
-numeral_parses text r h p = parse_digits own 32 text r h (grind arith)
+is_told : (digits : List ℕ) → IsNumeral 10 digits → is_numeral digits ≡ true
+is_told digits h = let all : list_all is_ascii_digit digits ≡ true = own.from digits h.1 in let some : 0 < length digits = h.0 in grind (arith, nat_tests)
 
-filled : (text : List ℕ) → is_numeral text ≡ true → 0 < length text
-filled text p = grind (arith, nat_tests)
+tells : (digits : List ℕ) → is_numeral digits ≡ true → IsNumeral 10 digits
+tells digits h = let all : list_all is_ascii_digit digits ≡ true = grind (arith, nat_tests) in let some : 0 < length digits = grind (arith, nat_tests) in (some, own.to digits all)
 
 below : (n k : ℕ) → n < k → nat_lt n k ≡ true
 below n k h = grind (arith, nat_tests)
 
-above : (n k : ℕ) → (n < k → ⊥) → nat_lt n k ≡ false
-above n k h = grind (arith, nat_tests)
+reached : (n k : ℕ) → nat_lt n k ≡ true → n < k
+reached n k h = grind (arith, nat_tests)
 
-pub parsed : {E : Type 0} (text : List ℕ) (r : Result ℕ E) → is_numeral text ≡ true → ParsesUnsigned 32 10 text r → result_ok r ≡ number_of text
-unfolding number_of
-parsed {E} text (Ok n) p h =
-    let told = numeral_parses {E = E} text (Ok n) h p in
-    let small : nat_lt (digits_value 10 text) (2 ^ 32) ≡ true = below (digits_value 10 text) (2 ^ 32) told.0.1 in
-    rw (p, small, told.1) refl
-parsed {E} text (Err e) p h =
-    let told = numeral_parses {E = E} text (Err e) h p in
-    let large : nat_lt (digits_value 10 text) (2 ^ 32) ≡ false = above (digits_value 10 text) (2 ^ 32) (λ low. told (filled text p, low)) in
-    rw (p, large) refl
+valued : {E : Type 0} (digits : List ℕ) (r : Result ℕ E) → OkIff r (IsNumeral 10 digits × (digits_value 10 digits < 2 ^ 32)) (digits_value 10 digits) → result_ok r ≡ value_of digits
+valued digits (Ok n) told =
+    let numeral : is_numeral digits ≡ true = is_told digits told.0.0 in
+    let small : nat_lt (digits_value 10 digits) (2 ^ 32) ≡ true = below (digits_value 10 digits) (2 ^ 32) told.0.1 in
+    rw (numeral, small, told.1) refl
+valued digits (Err e) told = by_tests (is_numeral digits) (nat_lt (digits_value 10 digits) (2 ^ 32)) refl refl
+  where
+    by_tests : (a b : Bool) → is_numeral digits ≡ a → nat_lt (digits_value 10 digits) (2 ^ 32) ≡ b → None ≡ value_of digits
+    by_tests true true p q = absurd (told (tells digits p, reached (digits_value 10 digits) (2 ^ 32) q))
+    by_tests true false p q = rw (p, q) refl
+    by_tests false b p q = rw p refl
 
-pub unread : (text : List ℕ) → is_numeral text ≡ false → None ≡ number_of text
+pub parsed : {E : Type 0} (text : List ℕ) (r : Result ℕ E) → ParsesUnsigned 32 10 text r → result_ok r ≡ number_of text
 unfolding number_of
-unread text p = rw p refl
+parsed text r h = valued (without_leading_plus text) r h

@@ -36,7 +36,18 @@ fn a_node_is_set_as_erlang_has_it_where_nothing_is_said(rt: HostRuntime) {
 
 #[test]
 fn each_option_sets_its_own_value(rt: HostRuntime) {
-    let cases: [(&[&str], Weighing, (u16, u32, u16)); 13] = [
+    let cases: [(&[&str], Weighing, (u16, u32, u16)); 16] = [
+        (
+            &["simulate", "--intensity", "007"],
+            Weighing::Sha256,
+            (7, 5, 64),
+        ),
+        (
+            &["simulate", "--period", "+8"],
+            Weighing::Sha256,
+            (1, 8, 64),
+        ),
+        (&["simulate", "--buffer=+09"], Weighing::Sha256, (1, 5, 9)),
         (&["simulate"], Weighing::Sha256, (1, 5, 64)),
         (&["simulate", "--weigh", "flat"], Weighing::Flat, (1, 5, 64)),
         (
