@@ -212,11 +212,12 @@ impl Stage {
     }
 
     fn tells_message(&mut self, rt: &(impl Abort + AllocGlobal), line: &Line<'_>) {
-        let bytes = self.message(rt, line);
-        let Ok(text) = std::str::from_utf8(bytes) else {
+        let mut copy = String::new(rt.alloc());
+        let Ok(text) = std::str::from_utf8(self.message(rt, line)) else {
             panic!(rt; "no text")
         };
-        put(rt, &mut self.told, text);
-        put(rt, &mut self.told, "\n");
+        put(rt, &mut copy, text);
+        put(rt, &mut copy, "\n");
+        put(rt, &mut self.told, copy.as_str());
     }
 }
