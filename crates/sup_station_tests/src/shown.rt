@@ -7,8 +7,20 @@ use sup_placement::{FlatWeigh, place};
 use sup_specs::{ChildId, ChildSpec, NodeName, Restart, Shutdown};
 use sup_tables::{Entry, Row, Tables};
 
+/// A node that runs, or that there is none.
+pub(crate) fn put_state(
+    rt: &(impl Abort + AllocGlobal),
+    told: &mut String,
+    node: Option<&Node<FlatWeigh>>,
+) {
+    match node {
+        None => put(rt, told, " down\n"),
+        Some(node) => put_node(rt, told, node),
+    }
+}
+
 /// The node's boot, its members and children, and what it keeps. No id has losers here, and there are no names.
-pub(crate) fn put_node(rt: &(impl Abort + AllocGlobal), told: &mut String, node: &Node<FlatWeigh>) {
+fn put_node(rt: &(impl Abort + AllocGlobal), told: &mut String, node: &Node<FlatWeigh>) {
     put(rt, told, " boot ");
     put_number(rt, told, node.boot());
     put(rt, told, "\n");

@@ -2,7 +2,7 @@
 //! is made once more. The calls promise nothing, and end the test where one of a station's fails.
 use crate::given::{message, name};
 use crate::line::Line;
-use crate::shown::put_node;
+use crate::shown::put_state;
 use crate::told::{put, put_effects, put_kind, put_number, put_refusal, put_reply};
 use std::process::Abort;
 use sup_keeper::MemKeeper;
@@ -180,35 +180,43 @@ impl Stage {
     }
 
     fn sends(&mut self, rt: &(impl Abort + AllocGlobal), at: &str, letter: Letter) {
-        let sent = if at == "a" {
-            &mut self.sent_by_a
-        } else {
-            &mut self.sent_by_b
-        };
+        let number = self.next_number(at);
         put(rt, &mut self.told, "  sent ");
         put(rt, &mut self.told, at);
         put(rt, &mut self.told, " ");
-        put_number(rt, &mut self.told, sent.len() as u64 + 1);
+        put_number(rt, &mut self.told, number);
         put(rt, &mut self.told, " to ");
         put(rt, &mut self.told, letter.to.as_str());
         put_kind(rt, &mut self.told, letter.kind);
-        if let Err(failed) = sent.push(letter) {
-            assert!(rt; sent.push(failed.value).is_ok(), "room");
+        self.posts(rt, at, letter);
+    }
+
+    fn next_number(&self, at: &str) -> u64 {
+        if at == "a" {
+            self.sent_by_a.len() as u64 + 1
+        } else {
+            self.sent_by_b.len() as u64 + 1
+        }
+    }
+
+    fn posts(&mut self, rt: &impl Abort, at: &str, letter: Letter) {
+        if at == "a" {
+            post(rt, &mut self.sent_by_a, letter);
+        } else {
+            post(rt, &mut self.sent_by_b, letter);
         }
     }
 
     fn shows(&mut self, rt: &(impl Abort + AllocGlobal), at: &str) {
-        put(rt, &mut self.told, "node ");
-        put(rt, &mut self.told, at);
-        let node = if at == "a" {
-            self.a.node()
+        let mut text = String::new(rt.alloc());
+        put(rt, &mut text, "node ");
+        put(rt, &mut text, at);
+        if at == "a" {
+            put_state(rt, &mut text, self.a.node());
         } else {
-            self.b.node()
-        };
-        match node {
-            None => put(rt, &mut self.told, " down\n"),
-            Some(node) => put_node(rt, &mut self.told, node),
+            put_state(rt, &mut text, self.b.node());
         }
+        put(rt, &mut self.told, text.as_str());
     }
 
     fn tells_message(&mut self, rt: &(impl Abort + AllocGlobal), line: &Line<'_>) {
@@ -219,5 +227,11 @@ impl Stage {
         put(rt, &mut copy, text);
         put(rt, &mut copy, "\n");
         put(rt, &mut self.told, copy.as_str());
+    }
+}
+
+fn post(rt: &impl Abort, sent: &mut Vec<Letter>, letter: Letter) {
+    if let Err(failed) = sent.push(letter) {
+        assert!(rt; sent.push(failed.value).is_ok(), "room");
     }
 }
