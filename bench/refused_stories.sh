@@ -13,7 +13,11 @@ trap 'rm -rf "$work"' EXIT
   sup_wire_tests refused::a_refused_text_of_an_image_is_written_or_read_when_asked_again \
   sup_wire_tests refused::a_fault_is_told_when_asked_again \
   sup_station_tests refused::an_interval_after_a_restart_is_sent_over_a_refused_growth \
-  sup_station_tests refused::an_add_goes_on_beside_a_removal_over_a_refused_growth
+  sup_station_tests refused::an_add_goes_on_beside_a_removal_over_a_refused_growth \
+  sup_station_tests rows::a_failed_save_leaves_the_dot_free \
+  sup_station_tests rows::a_restart_whose_save_fails_leaves_the_node_stopped \
+  sup_station_tests rows::an_overwritten_interval_is_sent_whole \
+  sup_station_tests rows::a_repeated_delivery_is_acknowledged_again
 "${CC:-cc}" -shared -fPIC -O1 -o "$work/refuse.so" "$top/bench/refuse_allocation.c" -ldl
 
 while [ $# -ge 2 ]; do

@@ -15,24 +15,36 @@ pub(crate) const REMOVAL: &str =
 pub(crate) const REMOVAL_TOLD: &str =
     "ok (a,1)\nok (a,2)\n  a start web 1.1\nok sent\n  sent a 1 to b delta 2 part\nok absorbed\n  sent b 1 to a ack 2\nok removed (a,2)\nok (a,3) removed (a,2)\n  a stop web 1.1\n  a start web 1.2\nok sent\n  sent b 2 to a delta 2 part\nok known\n  sent a 2 to b ack 2\nok sent\n  sent a 3 to b push\nok absorbed\nnode a boot 1\nmember a (a,1) label=\nchild web (a,3) worker permanent 5000 arg=x on a\nkept web 1.2\nnode b boot 1\nmember a (a,1) label=\nchild web (a,3) worker permanent 5000 arg=x on a\n";
 
+pub(crate) const FAILED_SAVE: &str =
+    "start a x !fail\nshow a\nstart a x\nstop a\nrestart a\nshow a\n";
+
+pub(crate) const FAILED_SAVE_TOLD: &str =
+    "refused 16 KeepFailed\nnode a boot 1\nok (a,1)\nok stopped\nok boot 2\nnode a boot 2\nchild x (a,1) worker permanent 5000 arg= unplaced\n";
+
+pub(crate) const FAILED_RESTART: &str = "stop a\nrestart a !fail\nshow a\nrestart a\nshow a\n";
+
+pub(crate) const FAILED_RESTART_TOLD: &str =
+    "ok stopped\nrefused 16 KeepFailed\nnode a down\nok boot 2\nnode a boot 2\n";
+
+pub(crate) const OVERWRITTEN: &str =
+    "start a x\nship a b\ndeliver a 1\ndeliver b 1\nstart a y\nstart a z\nship a b\ndeliver a 2\nshow b\n";
+
+pub(crate) const OVERWRITTEN_TOLD: &str =
+    "ok (a,1)\nok sent\n  sent a 1 to b delta 1 part\nok absorbed\n  sent b 1 to a ack 1\nok acked\nok (a,2)\nok (a,3)\nok sent\n  sent a 2 to b delta 3 whole\nok absorbed\n  sent b 2 to a ack 3\nnode b boot 1\nchild x (a,1) worker permanent 5000 arg= unplaced\nchild y (a,2) worker permanent 5000 arg= unplaced\nchild z (a,3) worker permanent 5000 arg= unplaced\n";
+
+pub(crate) const REPEATED: &str = "start a x\nship a b\ndeliver a 1\ndeliver a 1\n";
+
+pub(crate) const REPEATED_TOLD: &str =
+    "ok (a,1)\nok sent\n  sent a 1 to b delta 1 part\nok absorbed\n  sent b 1 to a ack 1\nok known\n  sent b 2 to a ack 1\n";
+
 #[test]
 fn a_failed_save_leaves_the_dot_free(rt: HostRuntime) {
-    plays(
-        &rt,
-        Config::default(),
-        "start a x !fail\nshow a\nstart a x\nstop a\nrestart a\nshow a\n",
-        "refused 16 KeepFailed\nnode a boot 1\nok (a,1)\nok stopped\nok boot 2\nnode a boot 2\nchild x (a,1) worker permanent 5000 arg= unplaced\n",
-    );
+    plays(&rt, Config::default(), FAILED_SAVE, FAILED_SAVE_TOLD);
 }
 
 #[test]
 fn a_restart_whose_save_fails_leaves_the_node_stopped(rt: HostRuntime) {
-    plays(
-        &rt,
-        Config::default(),
-        "stop a\nrestart a !fail\nshow a\nrestart a\nshow a\n",
-        "ok stopped\nrefused 16 KeepFailed\nnode a down\nok boot 2\nnode a boot 2\n",
-    );
+    plays(&rt, Config::default(), FAILED_RESTART, FAILED_RESTART_TOLD);
 }
 
 #[test]
@@ -40,19 +52,14 @@ fn an_overwritten_interval_is_sent_whole(rt: HostRuntime) {
     plays(
         &rt,
         Config::new(1, 5, 1).expect(&rt, "settings"),
-        "start a x\nship a b\ndeliver a 1\ndeliver b 1\nstart a y\nstart a z\nship a b\ndeliver a 2\nshow b\n",
-        "ok (a,1)\nok sent\n  sent a 1 to b delta 1 part\nok absorbed\n  sent b 1 to a ack 1\nok acked\nok (a,2)\nok (a,3)\nok sent\n  sent a 2 to b delta 3 whole\nok absorbed\n  sent b 2 to a ack 3\nnode b boot 1\nchild x (a,1) worker permanent 5000 arg= unplaced\nchild y (a,2) worker permanent 5000 arg= unplaced\nchild z (a,3) worker permanent 5000 arg= unplaced\n",
+        OVERWRITTEN,
+        OVERWRITTEN_TOLD,
     );
 }
 
 #[test]
 fn a_repeated_delivery_is_acknowledged_again(rt: HostRuntime) {
-    plays(
-        &rt,
-        Config::default(),
-        "start a x\nship a b\ndeliver a 1\ndeliver a 1\n",
-        "ok (a,1)\nok sent\n  sent a 1 to b delta 1 part\nok absorbed\n  sent b 1 to a ack 1\nok known\n  sent b 2 to a ack 1\n",
-    );
+    plays(&rt, Config::default(), REPEATED, REPEATED_TOLD);
 }
 
 #[test]
