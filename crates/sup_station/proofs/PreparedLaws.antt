@@ -3,7 +3,7 @@ use Rattle.std.specs.Prelude.{◌≡◌, ◌≢◌, ℕ, ◌+◌, ◌≤◌, Boo
 use Rattle.std.specs.Global.{Vec}
 use Rattle.std.specs.Result.{IsErrAnd}
 use Rattle.std.proofs.Common.{refl, sym, ap, ◌∙◌, subst, arith}
-use mathlib.Core.Logic.{◌⊎◌, inl, inr}
+use mathlib.Core.Logic.{inl, inr}
 use Rattle.sup_specs.specs.Values.{Bytes}
 use Rattle.sup_specs.specs.declared.limits.TheConstants.{MAX}
 use Rattle.sup_tables.specs.States.{State}
@@ -18,7 +18,7 @@ use Rattle.sup_replica.specs.declared.event.Act.TheVariants.{Event as Of, Stop, 
 use Rattle.sup_replica.specs.declared.done.Done.{Done}
 use Rattle.sup_replica.specs.declared.done.Reply.TheVariants.{Boot}
 use Rattle.sup_replica.specs.declared.refusal.Refusal.{Refusal}
-use Rattle.sup_replica.specs.declared.refusal.Refusal.TheVariants.{KeepFailed, CountSpent, OutOfMemory, BadMessage}
+use Rattle.sup_replica.specs.declared.refusal.Refusal.TheVariants.{KeepFailed, CountSpent, OutOfMemory}
 use Rattle.sup_replica.specs.Checks.{refused_if, then_do}
 use Rattle.sup_replica.specs.Nodes.{Node, Outcome}
 use Rattle.sup_replica.specs.Steps.{passes_greatest}
@@ -36,7 +36,7 @@ use Rattle.sup_node.specs.NodeSteps.{Fits, IsPlanOf, IsRefused, IsRestart, IsRes
 use Rattle.sup_node.specs.Texts.{IsImageText}
 use Rattle.sup_station.specs.Boots.{is_booted}
 use Rattle.sup_station.specs.Opening.{IsWritten, IsWrittenOf}
-use Rattle.sup_station.specs.Stills.{Still, IsKept, IsOwnImage, IsNoOwnImage, Refuses, RefusesRestart, ComesToSave, stop_done, restarted}
+use Rattle.sup_station.specs.Stills.{Still, IsKept, IsOwnImage, IsNoOwnImage, stop_done}
 use Rattle.sup_station.specs.Plans.{IsPreparedFor, IsPlanFor, Prepares, has_text, kept_after, node_after}
 use Rattle.sup_station.specs.declared.prepared.Prepared.{Prepared}
 use Rattle.sup_station.specs.declared.prepared.Next.{Next}

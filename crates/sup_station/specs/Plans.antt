@@ -1,7 +1,6 @@
 -- An act that a station has made ready, and what becomes of the station once that is committed (this project).
 use Rattle.std.specs.Prelude.{◌≡◌, ◌≢◌, ◌≤◌, ℕ, Bool, true, false, Option, Some, None, Result, Ok, Err}
 use Rattle.std.specs.Global.{Vec}
-use Rattle.std.specs.Option.{option_map}
 use mathlib.Core.Logic.{◌⊎◌}
 use Rattle.sup_specs.specs.Values.{Bytes}
 use Rattle.sup_tables.specs.States.{State}
@@ -11,7 +10,6 @@ use Rattle.sup_replica.specs.declared.done.Done.{Done}
 use Rattle.sup_replica.specs.declared.refusal.Refusal.{Refusal}
 use Rattle.sup_replica.specs.declared.refusal.Refusal.TheVariants.{KeepFailed, OutOfMemory}
 use Rattle.sup_replica.specs.Stations.{Station}
-use Rattle.sup_node.specs.declared.planned.Planned.{Planned}
 use Rattle.sup_node.specs.Changes.{saves, station_after}
 use Rattle.sup_node.specs.Contents.{station_in}
 use Rattle.sup_node.specs.NodeSteps.{Fits}
