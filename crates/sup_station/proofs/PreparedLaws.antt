@@ -114,15 +114,19 @@ module _ (g : Weigher) (name : Bytes) (config : Config) (kept : Bytes) where
       let is = has_written planned.change text w in
       let unsaved = h.ready.unsaved in
       record {
-        goes = (refl, refl, record {
-          mail = h.mail;
-          reads = h.reads;
-          move = h.ready.move;
-          moves = h.ready.moves;
-          told = h.ready.done;
-          becomes = ap Some h.ready.after;
-          keeps = keeps_text n planned.change (stepped g n event now h.mail false) h.ready.move kept text unsaved h.ready.after h.ready.fits w b;
-        });
+        goes = (
+          refl,
+          refl,
+          record {
+            mail = h.mail;
+            reads = h.reads;
+            move = h.ready.move;
+            moves = h.ready.moves;
+            told = h.ready.done;
+            becomes = ap Some h.ready.after;
+            keeps = keeps_text n planned.change (stepped g n event now h.mail false) h.ready.move kept text unsaved h.ready.after h.ready.fits w b;
+          },
+        );
         ready = record { plan = h.ready.fits; saved = is };
         saves = λ f. sym is ∙ comes (saves planned.change) (stepped g n event now h.mail false) h.ready.move unsaved (f h.mail h.reads);
         unsaved = λ s. inr (refl, (h.mail, h.reads, fails (saves planned.change) (stepped g n event now h.mail false) h.ready.move unsaved (is ∙ s)));
@@ -165,15 +169,19 @@ restart_prepared g name config kept now image state effects text own h w =
     let is : image_of (station_in state).node ≡ record { node = image.node; boot = image.boot + 1; count = image.count; state = image.state } = ap (λ (s : Station State). image_of s.node) h.after ∙ r.0 in
     let boot : (station_in state).node.supervisor.boot ≡ image.boot + 1 = ap (λ (i : Image). i.boot) is in
     record {
-      goes = (refl, refl, record {
-        image = image;
-        own = own;
-        station = station_in state;
-        restarts = h;
-        told = ap (λ (b : ℕ). record { reply = Boot b; effects = effects; out = None }) (sym boot);
-        becomes = refl;
-        keeps = subst (λ (i : Image). IsImageText text.items i) (sym is) (written_text text.items _ w r.1);
-      });
+      goes = (
+        refl,
+        refl,
+        record {
+          image = image;
+          own = own;
+          station = station_in state;
+          restarts = h;
+          told = ap (λ (b : ℕ). record { reply = Boot b; effects = effects; out = None }) (sym boot);
+          becomes = refl;
+          keeps = subst (λ (i : Image). IsImageText text.items i) (sym is) (written_text text.items _ w r.1);
+        },
+      );
       ready = record { plan = omega (arith, boot); saved = refl };
       saves = λ _. refl;
       unsaved = λ _. inl refl;

@@ -9,14 +9,13 @@ ghost use Rattle.sup_station.specs.Opening.{Opens, IsKeepRefusal, kept_by};
 ghost use Rattle.sup_station.specs.Plans.{IsPreparedFor, IsReadyFor, Commits, is_saved};
 ghost use Rattle.sup_station.specs.Stills.{still_of, keeper_of, Goes, Refuses, ComesToSave, IsUnsaved};
 
-use sup_keeper::Keeper;
-use sup_keeper::MemKeeper;
 use crate::prepared::Prepared;
-use crate::station::{Refused, Station};
 use crate::station::becoming::change_to;
 use crate::station::opening::open;
 use crate::station::saving::save_text;
+use crate::station::{Refused, Station};
 use std::alloc::Global;
+use sup_keeper::{Keeper, MemKeeper};
 use sup_node::Node;
 use sup_placement::Weigh;
 use sup_replica::{Act, Config, Done, Refusal};

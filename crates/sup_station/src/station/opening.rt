@@ -7,9 +7,9 @@ ghost use Rattle.sup_node.specs.Texts.{IsImageText};
 ghost use Rattle.sup_replica.specs.declared.refusal.Refusal.TheVariants.{KeepFailed};
 ghost use Rattle.sup_station.specs.Opening.{IsKeepRefusal};
 
-use sup_keeper::Keeper;
 use crate::station::saving::{refusal, text_of};
 use std::alloc::{AllocError, Global};
+use sup_keeper::Keeper;
 use sup_node::Node;
 use sup_placement::Weigh;
 use sup_replica::{Config, Refusal};

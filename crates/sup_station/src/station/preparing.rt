@@ -7,11 +7,11 @@ ghost use Rattle.sup_station.specs.Opening.{IsWritten};
 ghost use Rattle.sup_station.specs.Plans.{IsPreparedFor, Prepares};
 ghost use Rattle.sup_station.specs.Stills.{still_of, keeper_of, Refuses, IsOwnImage, IsNoOwnImage};
 
-use sup_keeper::Keeper;
 use crate::prepared::{Next, Prepared};
 use crate::station::Station;
 use crate::station::saving::{refusal, text_in, text_of};
 use std::alloc::{AllocError, Global};
+use sup_keeper::Keeper;
 use sup_local_sup::Effects;
 use sup_node::NodeState;
 use sup_placement::Weigh;

@@ -5,8 +5,8 @@ ghost use Rattle.sup_station.specs.Opening.{IsWritten, IsWrittenOf, IsKeepRefusa
 ghost use Rattle.sup_station.specs.Plans.{kept_after, has_text};
 ghost use Rattle.sup_node.specs.Changes.{image_in};
 
-use sup_keeper::{KeepFault, Keeper};
 use std::alloc::{AllocError, Global};
+use sup_keeper::{KeepFault, Keeper};
 use sup_node::Planned;
 use sup_replica::Refusal;
 use sup_wire::{Image, encode_image};
