@@ -1,7 +1,9 @@
 //! What a node answers.
-ghost use Rattle.std.specs.Prelude.{◌≡◌};
+ghost use Rattle.std.specs.Prelude.{◌≡◌, IfOk};
 
+use crate::copies::effects_copy;
 use crate::letter::Letter;
+use std::alloc::{AllocError, Global};
 use std::marker::Model;
 use sup_causal::Dot;
 use sup_local_sup::Effects;
@@ -12,6 +14,29 @@ pub struct Done {
     pub reply: Reply,
     pub effects: Effects,
     pub out: Option<Letter>,
+}
+
+impl Done {
+    /// A copy, which equals its source.
+    ///
+    /// # Errors
+    ///
+    /// `AllocError` where memory for it was refused.
+    pub fn try_clone(&self, alloc: Global) -> Result<Done, AllocError>
+        ensures { IfOk result (λ copy. copy ≡ self.now) }
+    {
+        let reply = self.reply.try_clone(alloc)?;
+        let effects = effects_copy(alloc, &self.effects)?;
+        let out = match &self.out {
+            Some(letter) => Some(letter.try_clone(alloc)?),
+            None => None,
+        };
+        Ok(Done {
+            reply,
+            effects,
+            out,
+        })
+    }
 }
 
 /// What is replied to an act that isn't refused.
@@ -42,6 +67,32 @@ pub enum Reply {
     Boot(u64),
 }
 
+impl Reply {
+    /// A copy, which equals its source.
+    ///
+    /// # Errors
+    ///
+    /// `AllocError` where memory for it was refused.
+    pub fn try_clone(&self, alloc: Global) -> Result<Reply, AllocError>
+        ensures { IfOk result (λ copy. copy ≡ self.now) }
+    {
+        Ok(match self {
+            Reply::Added(dot) => Reply::Added(*dot),
+            Reply::Replaced(dot, dots) => Reply::Replaced(*dot, dots.try_clone(alloc)?),
+            Reply::Removed(dots) => Reply::Removed(dots.try_clone(alloc)?),
+            Reply::Restarted => Reply::Restarted,
+            Reply::Finished(dot) => Reply::Finished(*dot),
+            Reply::GaveUp(dots) => Reply::GaveUp(dots.try_clone(alloc)?),
+            Reply::Sent => Reply::Sent,
+            Reply::Absorbed => Reply::Absorbed,
+            Reply::Known => Reply::Known,
+            Reply::Acked => Reply::Acked,
+            Reply::Stopped => Reply::Stopped,
+            Reply::Boot(boot) => Reply::Boot(*boot),
+        })
+    }
+}
+
 /// Dots inside a reply. A contract sees them as a list.
 #[derive(Drop)]
 pub struct Dots {
@@ -70,5 +121,17 @@ impl Dots {
         ensures { result.now ≡ self.now }
     {
         &self.dots
+    }
+
+    /// A copy, which equals its source.
+    ///
+    /// # Errors
+    ///
+    /// `AllocError` where memory for it was refused.
+    pub fn try_clone(&self, alloc: Global) -> Result<Dots, AllocError>
+        ensures { IfOk result (λ copy. copy ≡ self.now) }
+    {
+        let dots = self.dots.to_vec(alloc)?;
+        Ok(Dots { dots })
     }
 }

@@ -1,7 +1,10 @@
 //! What happens at a node.
+ghost use Rattle.std.specs.Prelude.{◌≡◌, IfOk};
+
 use crate::letter::MessageText;
+use std::alloc::{AllocError, Global};
 use sup_local_sup::Incarnation;
-use sup_specs::{ChildId, ChildSpec, ExitReason, Name, NodeName, Text};
+use sup_specs::{ChildId, ChildSpec, ExitReason, Name, NodeName, Plain, Text};
 
 /// What happens at a node that runs.
 #[derive(Drop)]
@@ -34,6 +37,39 @@ pub enum Event {
     Deliver(MessageText),
 }
 
+impl Event {
+    /// A copy, which equals its source.
+    ///
+    /// # Errors
+    ///
+    /// `AllocError` where memory for it was refused.
+    pub fn try_clone(&self, alloc: Global) -> Result<Event, AllocError>
+        ensures { IfOk result (λ copy. copy ≡ self.now) }
+    {
+        Ok(match self {
+            Event::Join(label) => Event::Join(label.try_clone(alloc)?),
+            Event::Leave(member) => Event::Leave(*member),
+            Event::Start(id, spec) => Event::Start(id.try_clone(alloc)?, spec.try_clone(alloc)?),
+            Event::Delete(id) => Event::Delete(id.try_clone(alloc)?),
+            Event::Replace(id, spec) => {
+                Event::Replace(id.try_clone(alloc)?, spec.try_clone(alloc)?)
+            }
+            Event::Register(name, id) => {
+                Event::Register(name.try_clone(alloc)?, id.try_clone(alloc)?)
+            }
+            Event::Unregister(name) => Event::Unregister(name.try_clone(alloc)?),
+            Event::Exit { id, inc, reason } => Event::Exit {
+                id: id.try_clone(alloc)?,
+                inc: *inc,
+                reason: reason.try_clone(alloc)?,
+            },
+            Event::Ship(to) => Event::Ship(*to),
+            Event::Push(to) => Event::Push(*to),
+            Event::Deliver(bytes) => Event::Deliver(bytes.try_clone(alloc)?),
+        })
+    }
+}
+
 /// What a node is told to do.
 #[derive(Drop)]
 pub enum Act {
@@ -42,4 +78,21 @@ pub enum Act {
     Stop,
     /// It begins a new boot from its image.
     Restart,
+}
+
+impl Act {
+    /// A copy, which equals its source.
+    ///
+    /// # Errors
+    ///
+    /// `AllocError` where memory for it was refused.
+    pub fn try_clone(&self, alloc: Global) -> Result<Act, AllocError>
+        ensures { IfOk result (λ copy. copy ≡ self.now) }
+    {
+        Ok(match self {
+            Act::Event(event) => Act::Event(event.try_clone(alloc)?),
+            Act::Stop => Act::Stop,
+            Act::Restart => Act::Restart,
+        })
+    }
 }

@@ -1,6 +1,7 @@
 //! What a node sends.
-ghost use Rattle.std.specs.Prelude.{◌≡◌};
+ghost use Rattle.std.specs.Prelude.{◌≡◌, IfOk};
 
+use std::alloc::{AllocError, Global};
 use std::marker::Model;
 use sup_specs::NodeName;
 
@@ -10,6 +11,24 @@ pub struct Letter {
     pub to: NodeName,
     pub kind: LetterKind,
     pub bytes: MessageText,
+}
+
+impl Letter {
+    /// A copy, which equals its source.
+    ///
+    /// # Errors
+    ///
+    /// `AllocError` where memory for it was refused.
+    pub fn try_clone(&self, alloc: Global) -> Result<Letter, AllocError>
+        ensures { IfOk result (λ copy. copy ≡ self.now) }
+    {
+        let bytes = self.bytes.try_clone(alloc)?;
+        Ok(Letter {
+            to: self.to,
+            kind: self.kind,
+            bytes,
+        })
+    }
 }
 
 /// What a message brings. The number is the sender's count of changes.
@@ -52,5 +71,17 @@ impl MessageText {
         ensures { result.now ≡ self.now }
     {
         &self.bytes
+    }
+
+    /// A copy, which equals its source.
+    ///
+    /// # Errors
+    ///
+    /// `AllocError` where memory for it was refused.
+    pub fn try_clone(&self, alloc: Global) -> Result<MessageText, AllocError>
+        ensures { IfOk result (λ copy. copy ≡ self.now) }
+    {
+        let bytes = self.bytes.to_vec(alloc)?;
+        Ok(MessageText { bytes })
     }
 }

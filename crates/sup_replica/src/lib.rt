@@ -2,6 +2,7 @@
 #![tactic(auto)]
 
 pub mod config;
+mod copies;
 pub mod done;
 pub mod event;
 pub mod letter;
