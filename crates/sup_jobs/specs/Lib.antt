@@ -1,0 +1,4 @@
+pub mod Faults
+pub mod Tells
+pub mod Reading
+pub mod Ends

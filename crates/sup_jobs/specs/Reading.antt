@@ -1,0 +1,21 @@
+-- How much of a reader is taken, by how reading it ends (this project).
+use Rattle.std.specs.Prelude.{◌≡◌, ℕ, ◌≤◌, ◌⊎◌, true, List, length, Option, Result, Ok, Err}
+use Rattle.std.specs.Io.KnownBytes.{Consumes}
+use Rattle.sup_jobs.specs.declared.input.InputFault.{InputFault}
+use Rattle.sup_jobs.specs.declared.input.InputFault.TheVariants.{TooLong, Device, OutOfMemory}
+use Rattle.sup_jobs.specs.declared.input.questions.Questions.{Questions}
+
+-- The bytes that were taken are the input, or one byte more than an input may have, or at most as many as it may have.
+abbrev pub IsReadAs : {X : Type 0} → (X → List ℕ) → Result X InputFault → List ℕ → Type 0
+IsReadAs view (Ok input) taken = taken ≡ view input
+IsReadAs view (Err TooLong) taken = length taken ≡ 1048577
+IsReadAs view (Err Device) taken = length taken ≤ 1048576
+IsReadAs view (Err OutOfMemory) taken = length taken ≤ 1048576
+
+-- What was taken from the reader is what the answer tells of it.
+abbrev pub ReadsFor : {X : Type 0} → (X → List ℕ) → Result X InputFault → Option (List ℕ) → Option (List ℕ) → Type 0
+ReadsFor view answer before after = (taken : List ℕ) × IsReadAs view answer taken × Consumes before after taken
+
+-- No more questions may be put: the reader failed, or was asked as often as it may be.
+abbrev pub IsSpent : Questions → Type 0
+IsSpent questions = (questions.failed ≡ true) ⊎ (2097154 ≤ questions.asked)
