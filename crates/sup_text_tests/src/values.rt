@@ -86,7 +86,7 @@ pub(crate) fn letter(
     })
 }
 
-/// Expects these lines of an answer of this node.
+/// Expects these lines of an answer of this node, and of its copy.
 pub(crate) fn expect_lines(
     rt: &(impl Abort + AllocGlobal),
     at: &str,
@@ -96,6 +96,9 @@ pub(crate) fn expect_lines(
 ) {
     let text = answer_text(rt.alloc(), &name(rt, at), &done, number).expect(rt, "room");
     assert_eq!(rt; text.as_str(), lines, "an answer");
+    let copy = done.try_clone(rt.alloc()).expect(rt, "room");
+    let text = answer_text(rt.alloc(), &name(rt, at), &copy, number).expect(rt, "room");
+    assert_eq!(rt; text.as_str(), lines, "a copy of an answer");
 }
 
 /// Expects this line of a reply alone.
