@@ -2,11 +2,7 @@
 use std::process::Abort;
 use sup_local_sup::Incarnation;
 use sup_replica::{Act, Event, MessageText};
-use sup_specs::{ChildId, ChildSpec, ExitReason, Kind, Name, NodeName, Restart, Shutdown, Text};
-
-fn node(rt: &impl Abort, text: &str) -> NodeName {
-    NodeName::parse(text).expect(rt, "a node's name")
-}
+use sup_specs::{ChildId, ChildSpec, ExitReason, Kind, Name, Restart, Shutdown, Text};
 
 fn child(rt: &(impl Abort + AllocGlobal), id: &str) -> ChildId {
     ChildId::parse(rt.alloc(), id).expect(rt, "an id")
@@ -73,15 +69,11 @@ fn a_registration_is_copied_with_both_names(rt: HostRuntime) {
 }
 
 #[test]
-fn bytes_and_targets_are_copied(rt: HostRuntime) {
+fn bytes_are_copied(rt: HostRuntime) {
     let mut bytes = Vec::new(rt.alloc());
     bytes.extend_from_slice(b"{}").expect(&rt, "room");
     match copy(&rt, Event::Deliver(MessageText::new(bytes))) {
         Some(Event::Deliver(bytes)) => assert!(rt; bytes.as_slice() == b"{}".as_slice()),
-        _ => assert!(rt; false),
-    }
-    match copy(&rt, Event::Ship(node(&rt, "b"))) {
-        Some(Event::Ship(to)) => assert!(rt; to.as_str() == "b"),
         _ => assert!(rt; false),
     }
 }
