@@ -1,5 +1,5 @@
 //! What keeps a node's image.
-ghost use Rattle.std.specs.Prelude.{◌≡◌, ◌≢◌, ◌<◌, ◌≤◌, ℕ, Bool, true, IfOk, OnOk, OnErr, IsErr};
+ghost use Rattle.std.specs.Prelude.{◌≡◌, ◌≢◌, ◌⊎◌, ◌<◌, ◌≤◌, ◌+◌, ℕ, Bool, true, IfOk, OnOk, OnErr, IsErr};
 ghost use Rattle.sup_specs.specs.Values.{Bytes};
 ghost use Rattle.sup_keeper.specs.declared.keeper.KeepFault.TheVariants.{Failed};
 
@@ -27,7 +27,7 @@ impl From<AllocError> for KeepFault {
     }
 }
 
-/// Keeps bytes, and counts how often it failed to. A contract sees the bytes and the count, and two tests that may both
+/// Keeps bytes, and counts how often it failed to, once a call at most. A contract sees the bytes and the count, and two tests that may both
 /// answer no.
 pub trait Keeper: Drop {
     // The bytes that are kept.
@@ -52,9 +52,11 @@ pub trait Keeper: Drop {
         ensures refused { OnErr result (kept self.new ≡ kept self.old) }
         ensures rose { result ≡ Err Failed → failures self.old < failures self.new }
         ensures never_falls { failures self.old ≤ failures self.new }
+        ensures by_one { failures self.new ≤ failures self.old + 1 }
         ensures uncounted { OnOk result (failures self.new ≡ failures self.old) }
         ensures failing { failing self.old ≡ true → IsErr result }
-        ensures sound { sound self.old ≡ true → result ≢ Err Failed };
+        ensures sound { sound self.old ≡ true → result ≢ Err Failed }
+        ensures steady { sound self.old ≡ true → failures self.new ≡ failures self.old };
 
     /// The bytes that are kept. They stay.
     ///
@@ -66,11 +68,13 @@ pub trait Keeper: Drop {
         ensures leaves { kept self.new ≡ kept self.old }
         ensures rose { result ≡ Err Failed → failures self.old < failures self.new }
         ensures never_falls { failures self.old ≤ failures self.new }
+        ensures by_one { failures self.new ≤ failures self.old + 1 }
         ensures uncounted { OnOk result (failures self.new ≡ failures self.old) }
         ensures stays_failing { failing self.new ≡ failing self.old }
         ensures stays_sound { sound self.new ≡ sound self.old }
         ensures failing { failing self.old ≡ true → result ≢ Err Failed }
-        ensures sound { sound self.old ≡ true → result ≢ Err Failed };
+        ensures sound { sound self.old ≡ true → result ≢ Err Failed }
+        ensures steady { (failing self.old ≡ true) ⊎ (sound self.old ≡ true) → failures self.new ≡ failures self.old };
 
     /// How often a save or a load has failed.
     fn failures(&self) -> u64

@@ -129,7 +129,7 @@ module _ (g : Weigher) (name : Bytes) (config : Config) (kept : Bytes) where
         );
         ready = record { plan = h.ready.fits; saved = is };
         saves = λ f. sym is ∙ comes (saves planned.change) (stepped g n event now h.mail false) h.ready.move unsaved (f h.mail h.reads);
-        unsaved = λ s. inr (refl, (h.mail, h.reads, fails (saves planned.change) (stepped g n event now h.mail false) h.ready.move unsaved (is ∙ s)));
+        unsaved = λ s. (h.mail, h.reads, fails (saves planned.change) (stepped g n event now h.mail false) h.ready.move unsaved (is ∙ s));
         lacks = λ _. inl (inr (refl, may_lack g n event now h.mail h.ready.move h.ready.moves));
       }
 
@@ -184,7 +184,7 @@ restart_prepared g name config kept now image state effects text own h w =
       );
       ready = record { plan = omega (arith, boot); saved = refl };
       saves = λ _. refl;
-      unsaved = λ _. inl refl;
+      unsaved = λ _. (image, own, h.unsaved);
       lacks = λ _. inr (inl refl);
     }
 

@@ -105,6 +105,15 @@ abbrev pub RefusesRestart : Weigher → Still → Refusal → Type 0
 RefusesRestart g s r =
     (r ≡ KeepFailed) ⊎ ((r ≡ OutOfMemory) ⊎ (((r ≡ BadMessage) × IsForeign s.name s.kept) ⊎ ((image : Image) × IsOwnImage s.name s.kept image × (restart_of g s.config image true ≡ Err r))))
 
+-- the act's save is what fails
+abbrev pub FailsToSave : Weigher → Still → Option (Station State) → Act → ℕ → Type 0
+FailsToSave g s None (Of event) now = ⊥
+FailsToSave g s (Some n) (Of event) now = FailsToKeep g n event now
+FailsToSave g s None Stop now = ⊥
+FailsToSave g s (Some n) Stop now = ⊥
+FailsToSave g s None Restart now = (image : Image) × IsOwnImage s.name s.kept image × (restart_of g s.config image false ≡ Err KeepFailed)
+FailsToSave g s (Some n) Restart now = ⊥
+
 -- why an act is refused
 abbrev pub Refuses : Weigher → Still → Option (Station State) → Act → ℕ → Refusal → Type 0
 Refuses g s None (Of event) now r = r ≡ Down

@@ -1,5 +1,5 @@
 //! A keeper that gives nothing back.
-ghost use Rattle.std.specs.Prelude.{◌≡◌, ◌<◌, ◌≤◌};
+ghost use Rattle.std.specs.Prelude.{◌+◌, ◌≡◌, ◌<◌, ◌≤◌};
 ghost use Rattle.sup_keeper.specs.declared.keeper.KeepFault.TheVariants.{Failed};
 
 use sup_keeper::{KeepFault, Keeper};
@@ -18,6 +18,7 @@ impl Unreadable {
     fn fails(&mut self) -> KeepFault
         ensures rose { result ≡ Failed → self.old.failures < self.new.failures }
         ensures never_falls { self.old.failures ≤ self.new.failures }
+        ensures by_one { self.new.failures ≤ self.old.failures + 1 }
     {
         if self.failures == u64::MAX {
             return KeepFault::OutOfMemory;

@@ -1,5 +1,5 @@
 //! What a station is asked.
-ghost use Rattle.std.specs.Prelude.{◌≡◌, ◌≢◌, ◌<◌, ◌≤◌, true, Some, None, IsErr, IfErr, IfOk, OnOk, OnErr, MatchResult};
+ghost use Rattle.std.specs.Prelude.{◌≡◌, ◌≢◌, ◌⊎◌, ◌<◌, ◌≤◌, ◌+◌, true, Some, None, IsErr, IfErr, IfOk, OnOk, OnErr, MatchResult};
 ghost use Rattle.std.specs.Option.{option_map, option_copied};
 ghost use Rattle.sup_node.specs.Contents.{station_of};
 ghost use Rattle.sup_replica.specs.declared.event.Act.TheVariants.{Restart};
@@ -7,7 +7,7 @@ ghost use Rattle.sup_replica.specs.declared.refusal.Refusal.TheVariants.{KeepFai
 ghost use Rattle.sup_keeper.specs.Keeping.{failing_next};
 ghost use Rattle.sup_station.specs.Opening.{Opens, IsKeepRefusal, kept_by};
 ghost use Rattle.sup_station.specs.Plans.{IsPreparedFor, IsReadyFor, Commits, is_saved};
-ghost use Rattle.sup_station.specs.Stills.{still_of, keeper_of, Goes, Refuses, ComesToSave, IsUnsaved};
+ghost use Rattle.sup_station.specs.Stills.{still_of, keeper_of, Goes, Refuses, FailsToSave, ComesToSave, IsUnsaved};
 
 use crate::prepared::Prepared;
 use crate::station::becoming::change_to;
@@ -38,6 +38,7 @@ impl<K: Keeper, W: Weigh> Station<K, W> {
         ensures reason { IfErr result (λ r. IsKeepRefusal r.reason) }
         ensures rose { IfErr result (λ r. r.reason ≡ KeepFailed → K.failures keeper < K.failures r.keeper) }
         ensures never_falls { IfErr result (λ r. K.failures keeper ≤ K.failures r.keeper) }
+        ensures by_one { IfErr result (λ r. K.failures r.keeper ≤ K.failures keeper + 1) }
         ensures uncounted { IfOk result (λ s. K.failures (keeper_of s) ≡ K.failures keeper) }
         ensures failing { K.failing keeper ≡ true → IsErr result }
         ensures sound { IfErr result (λ r. K.sound keeper ≡ true → r.reason ≢ KeepFailed) }
@@ -98,10 +99,13 @@ impl<K: Keeper, W: Weigh> Station<K, W> {
         ensures loads { act.now ≢ Restart → (keeper_of self.new ≡ keeper_of self.old) × (result ≢ Err KeepFailed) }
         ensures rose { result ≡ Err KeepFailed → K.failures (keeper_of self.old) < K.failures (keeper_of self.new) }
         ensures never_falls { K.failures (keeper_of self.old) ≤ K.failures (keeper_of self.new) }
+        ensures by_one { K.failures (keeper_of self.new) ≤ K.failures (keeper_of self.old) + 1 }
         ensures uncounted { OnOk result (K.failures (keeper_of self.new) ≡ K.failures (keeper_of self.old)) }
         ensures stays_failing { K.failing (keeper_of self.new) ≡ K.failing (keeper_of self.old) }
         ensures stays_sound { K.sound (keeper_of self.new) ≡ K.sound (keeper_of self.old) }
         ensures sound { K.sound (keeper_of self.old) ≡ true → result ≢ Err KeepFailed }
+        ensures failing { K.failing (keeper_of self.old) ≡ true → result ≢ Err KeepFailed }
+        ensures steady { (K.failing (keeper_of self.old) ≡ true) ⊎ (K.sound (keeper_of self.old) ≡ true) → K.failures (keeper_of self.new) ≡ K.failures (keeper_of self.old) }
     {
         match act {
             Act::Event(event) => self.prepare_event(event, now, weigher),
@@ -120,9 +124,11 @@ impl<K: Keeper, W: Weigh> Station<K, W> {
         ensures answer { Commits (still_of K.kept self.old) prepared result (still_of K.kept self.new) }
         ensures rose { result ≡ Err KeepFailed → K.failures (keeper_of self.old) < K.failures (keeper_of self.new) }
         ensures never_falls { K.failures (keeper_of self.old) ≤ K.failures (keeper_of self.new) }
+        ensures by_one { K.failures (keeper_of self.new) ≤ K.failures (keeper_of self.old) + 1 }
         ensures uncounted { OnOk result (K.failures (keeper_of self.new) ≡ K.failures (keeper_of self.old)) }
         ensures failing { K.failing (keeper_of self.old) ≡ true → is_saved prepared ≡ true → IsErr result }
         ensures sound { K.sound (keeper_of self.old) ≡ true → result ≢ Err KeepFailed }
+        ensures steady { K.sound (keeper_of self.old) ≡ true → K.failures (keeper_of self.new) ≡ K.failures (keeper_of self.old) }
     {
         let Prepared { next, text } = prepared;
         save_text(&mut self.keeper, text)?;
@@ -139,9 +145,12 @@ impl<K: Keeper, W: Weigh> Station<K, W> {
         ensures goes { Goes W.weight_of (still_of K.kept self.old) act now result (still_of K.kept self.new) }
         ensures failed { result ≡ Err KeepFailed → K.failures (keeper_of self.old) < K.failures (keeper_of self.new) }
         ensures never_falls { K.failures (keeper_of self.old) ≤ K.failures (keeper_of self.new) }
+        ensures by_one { K.failures (keeper_of self.new) ≤ K.failures (keeper_of self.old) + 1 }
         ensures uncounted { OnOk result (K.failures (keeper_of self.new) ≡ K.failures (keeper_of self.old)) }
         ensures failing { K.failing (keeper_of self.old) ≡ true → ComesToSave W.weight_of (still_of K.kept self.old) (still_of K.kept self.old).node act now → IsUnsaved result }
         ensures sound { K.sound (keeper_of self.old) ≡ true → result ≢ Err KeepFailed }
+        ensures unsaved { (K.failing (keeper_of self.old) ≡ true) ⊎ (K.sound (keeper_of self.old) ≡ true) → result ≡ Err KeepFailed → FailsToSave W.weight_of (still_of K.kept self.old) (still_of K.kept self.old).node act now }
+        ensures steady { K.sound (keeper_of self.old) ≡ true → K.failures (keeper_of self.new) ≡ K.failures (keeper_of self.old) }
     {
         let prepared = self.prepare(&act, now, weigher)?;
         self.commit(prepared)

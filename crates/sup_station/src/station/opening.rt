@@ -1,5 +1,5 @@
 //! A station's opening image.
-ghost use Rattle.std.specs.Prelude.{◌≡◌, ◌≢◌, ◌<◌, ◌≤◌, true, IsErr, IfErr, IfOk, OnOk, OnErr};
+ghost use Rattle.std.specs.Prelude.{◌≡◌, ◌≢◌, ◌<◌, ◌≤◌, ◌+◌, true, IsErr, IfErr, IfOk, OnOk, OnErr};
 ghost use Rattle.sup_node.specs.Changes.{image_of};
 ghost use Rattle.sup_node.specs.Contents.{station_of};
 ghost use Rattle.sup_node.specs.NodeSteps.{fresh_station};
@@ -43,6 +43,7 @@ pub(super) fn open<K: Keeper, W: Weigh>(
     ensures reason { IfErr result IsKeepRefusal }
     ensures rose { result ≡ Err KeepFailed → K.failures keeper.old < K.failures keeper.new }
     ensures never_falls { K.failures keeper.old ≤ K.failures keeper.new }
+    ensures by_one { K.failures keeper.new ≤ K.failures keeper.old + 1 }
     ensures uncounted { OnOk result (K.failures keeper.new ≡ K.failures keeper.old) }
     ensures failing { K.failing keeper.old ≡ true → IsErr result }
     ensures sound { K.sound keeper.old ≡ true → result ≢ Err KeepFailed }

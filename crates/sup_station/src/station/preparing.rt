@@ -1,5 +1,5 @@
 //! What a station makes ready of an act.
-ghost use Rattle.std.specs.Prelude.{◌≡◌, ◌≢◌, ◌<◌, ◌≤◌, ◌+◌, true, None, IfOk, MatchResult, IfErr, OnOk};
+ghost use Rattle.std.specs.Prelude.{◌≡◌, ◌≢◌, ◌⊎◌, ◌<◌, ◌≤◌, ◌+◌, true, None, IfOk, MatchResult, IfErr, OnOk};
 ghost use Rattle.sup_replica.specs.declared.event.Act.TheVariants.{Event as Of, Stop, Restart};
 ghost use Rattle.sup_replica.specs.declared.refusal.Refusal.TheVariants.{KeepFailed};
 ghost use Rattle.sup_specs.specs.declared.limits.TheConstants.{MAX as MOST};
@@ -63,10 +63,13 @@ impl<K: Keeper, W: Weigh> Station<K, W> {
         ensures answer { MatchResult result (IsPreparedFor W.weight_of (still_of K.kept self.old) Restart now) (Refuses W.weight_of (still_of K.kept self.old) (still_of K.kept self.old).node Restart now) }
         ensures rose { result ≡ Err KeepFailed → K.failures (keeper_of self.old) < K.failures (keeper_of self.new) }
         ensures never_falls { K.failures (keeper_of self.old) ≤ K.failures (keeper_of self.new) }
+        ensures by_one { K.failures (keeper_of self.new) ≤ K.failures (keeper_of self.old) + 1 }
         ensures uncounted { OnOk result (K.failures (keeper_of self.new) ≡ K.failures (keeper_of self.old)) }
         ensures stays_failing { K.failing (keeper_of self.new) ≡ K.failing (keeper_of self.old) }
         ensures stays_sound { K.sound (keeper_of self.new) ≡ K.sound (keeper_of self.old) }
         ensures sound { K.sound (keeper_of self.old) ≡ true → result ≢ Err KeepFailed }
+        ensures failing { K.failing (keeper_of self.old) ≡ true → result ≢ Err KeepFailed }
+        ensures steady { (K.failing (keeper_of self.old) ≡ true) ⊎ (K.sound (keeper_of self.old) ≡ true) → K.failures (keeper_of self.new) ≡ K.failures (keeper_of self.old) }
     {
         if self.node.is_some() {
             return Err(Refusal::AlreadyUp);

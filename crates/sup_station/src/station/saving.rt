@@ -1,5 +1,5 @@
 //! Saves of an image.
-ghost use Rattle.std.specs.Prelude.{◌≡◌, ◌≢◌, ◌<◌, ◌≤◌, true, IsErr, IfErr, IfOk, OnOk, OnErr};
+ghost use Rattle.std.specs.Prelude.{◌≡◌, ◌≢◌, ◌<◌, ◌≤◌, ◌+◌, true, IsErr, IfErr, IfOk, OnOk, OnErr};
 ghost use Rattle.sup_replica.specs.declared.refusal.Refusal.TheVariants.{KeepFailed};
 ghost use Rattle.sup_station.specs.Opening.{IsWritten, IsWrittenOf, IsKeepRefusal, refusal_of};
 ghost use Rattle.sup_station.specs.Plans.{kept_after, has_text};
@@ -49,9 +49,11 @@ pub(super) fn save_text<K: Keeper>(keeper: &mut K, text: Option<Vec<u8>>) -> Res
     ensures only { IsErr result → has_text text ≡ true }
     ensures rose { result ≡ Err KeepFailed → K.failures keeper.old < K.failures keeper.new }
     ensures never_falls { K.failures keeper.old ≤ K.failures keeper.new }
+    ensures by_one { K.failures keeper.new ≤ K.failures keeper.old + 1 }
     ensures uncounted { OnOk result (K.failures keeper.new ≡ K.failures keeper.old) }
     ensures failing { K.failing keeper.old ≡ true → has_text text ≡ true → IsErr result }
     ensures sound { K.sound keeper.old ≡ true → result ≢ Err KeepFailed }
+    ensures steady { K.sound keeper.old ≡ true → K.failures keeper.new ≡ K.failures keeper.old }
 {
     let Some(text) = text else {
         return Ok(());
