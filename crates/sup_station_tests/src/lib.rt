@@ -3,8 +3,6 @@
 #![tactic(auto)]
 
 #[cfg(test)]
-mod foreign;
-#[cfg(test)]
 mod given;
 #[cfg(test)]
 mod line;
@@ -15,10 +13,6 @@ mod rows;
 #[cfg(test)]
 mod shown;
 #[cfg(test)]
-mod spent;
-#[cfg(test)]
 mod stage;
 #[cfg(test)]
 mod told;
-#[cfg(test)]
-mod unreadable;

@@ -1,0 +1,5 @@
+pub mod Runs
+pub mod KeptRows
+pub mod Tests
+pub mod WholeStates
+pub mod MessageTexts
