@@ -23,6 +23,14 @@ fn an_acknowledgement_above_the_count_is_refused(rt: HostRuntime) {
     assert!(rt; refused == Some(Refusal::BadMessage));
 }
 
+#[test]
+fn bytes_that_are_no_message_are_refused(rt: HostRuntime) {
+    let event = Event::Deliver(message(rt.alloc(), b"{}").expect(&rt, "room"));
+    let a = Node::<FlatWeigh>::fresh(rt.alloc(), name(&rt, "a"), Config::default());
+    let refused = a.expect(&rt, "room").step(event, 0, &FlatWeigh).err();
+    assert!(rt; refused == Some(Refusal::BadMessage));
+}
+
 // A stopped station of the node `of`, over a keeper that keeps the opening image of node a, is told to restart.
 fn restarts_as(
     rt: &(impl Abort + AllocGlobal),

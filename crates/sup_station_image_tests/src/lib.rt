@@ -7,6 +7,8 @@ mod foreign;
 #[cfg(test)]
 mod given;
 #[cfg(test)]
+mod keepers;
+#[cfg(test)]
 mod spent;
 #[cfg(test)]
 mod unreadable;

@@ -2,7 +2,7 @@
 use std::alloc::Global;
 use std::process::Abort;
 use sup_replica::MessageText;
-use sup_specs::{ChildId, ChildSpec, Kind, NodeName, Restart, Shutdown, Text};
+use sup_specs::{ChildId, ChildSpec, Kind, Name, NodeName, Restart, Shutdown, Text};
 
 pub(crate) fn name(rt: &impl Abort, text: &str) -> NodeName {
     NodeName::parse(text).expect(rt, "a node's name")
@@ -10,6 +10,10 @@ pub(crate) fn name(rt: &impl Abort, text: &str) -> NodeName {
 
 pub(crate) fn child(alloc: Global, id: &str) -> Option<ChildId> {
     ChildId::parse(alloc, id).ok()
+}
+
+pub(crate) fn called(alloc: Global, text: &str) -> Option<Name> {
+    Name::parse(alloc, text).ok()
 }
 
 pub(crate) fn text(alloc: Global, text: &str) -> Option<Text> {

@@ -1,5 +1,5 @@
 //! A line of a row, and the act that it tells.
-use crate::given::{child, name, text, worker};
+use crate::given::{called, child, name, text, worker};
 use std::process::Abort;
 use sup_local_sup::Incarnation;
 use sup_replica::{Act, Event};
@@ -51,9 +51,17 @@ impl<'a> Line<'a> {
             }
             "crash" => Some(Event::Exit {
                 id: child(alloc, self.word)?,
-                inc: Incarnation { boot: 1, k: 1 },
+                inc: Incarnation {
+                    boot: 1,
+                    k: self.option.parse::<u64>().unwrap_or(0),
+                },
                 reason: ExitReason::Crash,
             }),
+            "register" => {
+                let id = child(alloc, self.option)?;
+                Some(Event::Register(called(alloc, self.word)?, id))
+            }
+            "unregister" => Some(Event::Unregister(called(alloc, self.word)?)),
             _ => {
                 assert!(rt; self.verb == "start");
                 Some(Event::Start(child(alloc, self.word)?, worker(alloc, "")?))

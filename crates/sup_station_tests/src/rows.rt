@@ -81,3 +81,63 @@ fn a_restart_begins_what_is_placed_here_in_its_own_boot(rt: HostRuntime) {
         "ok (a,1)\nok (a,2)\n  a start web 1.1\nok removed (a,1)\n  a stop web 1.1\nok (a,3)\n  a start web 1.2\nok stopped\nrefused 1 Down\nok boot 2\n  a start web 2.1\nrefused 2 AlreadyUp\n",
     );
 }
+
+#[test]
+fn the_image_of_a_member_with_a_child_is_the_stated_text(rt: HostRuntime) {
+    plays(
+        &rt,
+        Config::default(),
+        "join a\nstart a web\nimage a\n",
+        "ok (a,1)\nok (a,2)\n  a start web 1.1\n{\"boot\":1,\"count\":2,\"ctx\":{\"cloud\":[],\"vector\":{\"a\":2}},\"kind\":\"image\",\"node\":\"a\",\"rows\":[[\"member\",\"a\",[\"a\",1],{\"label\":\"\"}],[\"child\",\"web\",[\"a\",2],{\"arg\":\"\",\"kind\":\"worker\",\"restart\":\"permanent\",\"shutdown\":5000}]],\"v\":1}\n",
+    );
+}
+
+#[test]
+fn names_follow_their_child(rt: HostRuntime) {
+    plays(
+        &rt,
+        Config::default(),
+        "join a\nstart a web\nregister a www web\nregister a www web\nregister a api db\nwhere a www\ndelete a web\nwhere a www\nunregister a www\n",
+        "ok (a,1)\nok (a,2)\n  a start web 1.1\nok (a,3)\nrefused 8 NameTaken\nrefused 9 NoSuchChild\nwww web on a\nok removed (a,2) (a,3)\n  a stop web 1.1\nwww unknown\nrefused 10 NameUnknown\n",
+    );
+}
+
+#[test]
+fn a_name_leads_to_a_child_that_no_member_has(rt: HostRuntime) {
+    plays(
+        &rt,
+        Config::default(),
+        "start a web\nregister a www web\nwhere a www\n",
+        "ok (a,1)\nok (a,2)\nwww web unplaced\n",
+    );
+}
+
+#[test]
+fn too_many_restarts_end_a_membership(rt: HostRuntime) {
+    plays(
+        &rt,
+        Config::default(),
+        "join a\nstart a web\ncrash a web 1\ncrash a web 1\ncrash a web 2\nshow a\n",
+        "ok (a,1)\nok (a,2)\n  a start web 1.1\nok restarted\n  a start web 1.2\nrefused 14 StaleExit\nok gave up removed (a,1)\nnode a boot 1\nchild web (a,2) worker permanent 5000 arg= unplaced\n",
+    );
+}
+
+#[test]
+fn the_newest_own_operation_is_pushed_to_its_receiver_alone(rt: HostRuntime) {
+    plays(
+        &rt,
+        Config::default(),
+        "push a b\nstart a x\npush a b\ndeliver a 1\nreturn a 1\n",
+        "refused 22 NothingToPush\nok (a,1)\nok sent\n  sent a 1 to b push\nok absorbed\nrefused 18 WrongReceiver\n",
+    );
+}
+
+#[test]
+fn what_is_acknowledged_is_not_sent_again(rt: HostRuntime) {
+    plays(
+        &rt,
+        Config::default(),
+        "ship a b\nstart a x\nship a b\ndeliver a 1\ndeliver b 1\nship a b\n",
+        "refused 12 UpToDate\nok (a,1)\nok sent\n  sent a 1 to b delta 1 part\nok absorbed\n  sent b 1 to a ack 1\nok acked\nrefused 12 UpToDate\n",
+    );
+}

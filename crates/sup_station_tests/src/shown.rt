@@ -2,9 +2,9 @@
 use crate::told::{put, put_dot, put_number, put_run};
 use std::alloc::{AllocError, Global};
 use std::process::Abort;
-use sup_node::Node;
+use sup_node::{Node, Whereis};
 use sup_placement::{FlatWeigh, place};
-use sup_specs::{ChildId, ChildSpec, NodeName, Restart, Shutdown};
+use sup_specs::{ChildId, ChildSpec, Name, NodeName, Restart, Shutdown};
 use sup_tables::{Entry, Row, Tables};
 
 /// A node that runs, or that there is none.
@@ -100,4 +100,31 @@ fn put_place(rt: &impl Abort, told: &mut String, id: &ChildId, hosts: &[NodeName
             put(rt, told, host.as_str());
         }
     }
+}
+
+/// Where a name leads at a node that runs.
+pub(crate) fn put_lead(
+    rt: &impl Abort,
+    told: &mut String,
+    node: Option<&Node<FlatWeigh>>,
+    sought: &Name,
+) {
+    let node = node.expect(rt, "a node that runs");
+    put(rt, told, sought.as_str());
+    match node.whereis(sought, &FlatWeigh).expect(rt, "room") {
+        Whereis::Unknown => put(rt, told, " unknown"),
+        Whereis::Gone(id) => put_led(rt, told, id, " gone"),
+        Whereis::Unplaced(id) => put_led(rt, told, id, " unplaced"),
+        Whereis::On(id, host) => {
+            put_led(rt, told, id, " on ");
+            put(rt, told, host.as_str());
+        }
+    }
+    put(rt, told, "\n");
+}
+
+fn put_led(rt: &impl Abort, told: &mut String, id: &ChildId, place: &str) {
+    put(rt, told, " ");
+    put(rt, told, id.as_str());
+    put(rt, told, place);
 }

@@ -1,8 +1,8 @@
 //! Two stations, a and b, with what they sent: the lines of a row, played one after another. Where memory is refused a call
 //! is made once more. The calls promise nothing, and end the test where one of a station's fails.
-use crate::given::{message, name};
+use crate::given::{called, message, name};
 use crate::line::Line;
-use crate::shown::put_state;
+use crate::shown::{put_lead, put_state};
 use crate::told::{put, put_effects, put_kind, put_number, put_refusal, put_reply};
 use std::process::Abort;
 use sup_keeper::MemKeeper;
@@ -74,6 +74,8 @@ impl Stage {
         match line.verb {
             "show" => self.shows(rt, line.at),
             "message" => self.tells_message(rt, line),
+            "image" => self.tells_image(rt, line.at),
+            "where" => self.tells_lead(rt, line),
             "deliver" => {
                 let at = if line.at == "a" { "b" } else { "a" };
                 self.plays_act(rt, line, at);
@@ -124,7 +126,7 @@ impl Stage {
     }
 
     fn act(&self, rt: &(impl Abort + AllocGlobal), line: &Line<'_>) -> Option<Act> {
-        if line.verb == "deliver" {
+        if line.verb == "deliver" || line.verb == "return" {
             let bytes = self.message(rt, line);
             return Some(Act::Event(Event::Deliver(message(rt.alloc(), bytes)?)));
         }
@@ -220,14 +222,40 @@ impl Stage {
     }
 
     fn tells_message(&mut self, rt: &(impl Abort + AllocGlobal), line: &Line<'_>) {
-        let mut copy = String::new(rt.alloc());
-        let Ok(text) = std::str::from_utf8(self.message(rt, line)) else {
-            panic!(rt; "no text")
-        };
-        put(rt, &mut copy, text);
-        put(rt, &mut copy, "\n");
+        let copy = line_of(rt, self.message(rt, line));
         put(rt, &mut self.told, copy.as_str());
     }
+
+    fn tells_image(&mut self, rt: &(impl Abort + AllocGlobal), at: &str) {
+        let copy = if at == "a" {
+            line_of(rt, self.a.keeper().stored())
+        } else {
+            line_of(rt, self.b.keeper().stored())
+        };
+        put(rt, &mut self.told, copy.as_str());
+    }
+
+    fn tells_lead(&mut self, rt: &(impl Abort + AllocGlobal), line: &Line<'_>) {
+        let sought = called(rt.alloc(), line.word).expect(rt, "room");
+        let mut text = String::new(rt.alloc());
+        if line.at == "a" {
+            put_lead(rt, &mut text, self.a.node(), &sought);
+        } else {
+            put_lead(rt, &mut text, self.b.node(), &sought);
+        }
+        put(rt, &mut self.told, text.as_str());
+    }
+}
+
+// The bytes as a line.
+fn line_of(rt: &(impl Abort + AllocGlobal), bytes: &[u8]) -> String {
+    let mut copy = String::new(rt.alloc());
+    let Ok(text) = std::str::from_utf8(bytes) else {
+        panic!(rt; "no text")
+    };
+    put(rt, &mut copy, text);
+    put(rt, &mut copy, "\n");
+    copy
 }
 
 fn post(rt: &impl Abort, sent: &mut Vec<Letter>, letter: Letter) {

@@ -65,7 +65,14 @@ pub(crate) fn put_reply(rt: &(impl Abort + AllocGlobal), told: &mut String, repl
         Reply::Acked => put(rt, told, "acked"),
         Reply::Stopped => put(rt, told, "stopped"),
         Reply::Restarted => put(rt, told, "restarted"),
-        Reply::Finished(_) | Reply::GaveUp(_) => put(rt, told, "ended"),
+        Reply::Finished(dot) => {
+            put(rt, told, "finished ");
+            put_dot(rt, told, dot);
+        }
+        Reply::GaveUp(dots) => {
+            put(rt, told, "gave up");
+            put_removed(rt, told, dots.as_slice());
+        }
     }
     put(rt, told, "\n");
 }
