@@ -11,8 +11,6 @@ mod refused;
 #[cfg(test)]
 mod rows;
 #[cfg(test)]
-mod shown;
-#[cfg(test)]
 mod stage;
 #[cfg(test)]
 mod told;

@@ -2,8 +2,7 @@
 //! is made once more. The calls promise nothing, and end the test where one of a station's fails.
 use crate::given::{called, message, name};
 use crate::line::Line;
-use crate::shown::{put_lead, put_state};
-use crate::told::{put, put_effects, put_kind, put_number, put_refusal, put_reply};
+use crate::told::{answered, led, line_of, put, refused, shown};
 use std::process::Abort;
 use sup_keeper::MemKeeper;
 use sup_placement::FlatWeigh;
@@ -165,32 +164,22 @@ impl Stage {
 
     fn tells(&mut self, rt: &(impl Abort + AllocGlobal), at: &str, answer: Result<Done, Refusal>) {
         match answer {
-            Err(refusal) => put_refusal(rt, &mut self.told, refusal),
-            Ok(done) => {
-                let Done {
-                    reply,
-                    effects,
-                    out,
-                } = done;
-                put_reply(rt, &mut self.told, &reply);
-                put_effects(rt, &mut self.told, at, effects.as_slice());
-                if let Some(letter) = out {
-                    self.sends(rt, at, letter);
-                }
+            Err(refusal) => {
+                let text = refused(rt, refusal);
+                put(rt, &mut self.told, text.as_str());
             }
+            Ok(done) => self.tells_done(rt, at, done),
         }
     }
 
-    fn sends(&mut self, rt: &(impl Abort + AllocGlobal), at: &str, letter: Letter) {
-        let number = self.next_number(at);
-        put(rt, &mut self.told, "  sent ");
-        put(rt, &mut self.told, at);
-        put(rt, &mut self.told, " ");
-        put_number(rt, &mut self.told, number);
-        put(rt, &mut self.told, " to ");
-        put(rt, &mut self.told, letter.to.as_str());
-        put_kind(rt, &mut self.told, letter.kind);
-        self.posts(rt, at, letter);
+    fn tells_done(&mut self, rt: &(impl Abort + AllocGlobal), at: &str, done: Done) {
+        let number = done.out.as_ref().map(|_| self.next_number(at));
+        let text = answered(rt, &name(rt, at), &done, number);
+        put(rt, &mut self.told, text.as_str());
+        let Done { out, .. } = done;
+        if let Some(letter) = out {
+            self.posts(rt, at, letter);
+        }
     }
 
     fn next_number(&self, at: &str) -> u64 {
@@ -210,52 +199,38 @@ impl Stage {
     }
 
     fn shows(&mut self, rt: &(impl Abort + AllocGlobal), at: &str) {
-        let mut text = String::new(rt.alloc());
-        put(rt, &mut text, "node ");
-        put(rt, &mut text, at);
-        if at == "a" {
-            put_state(rt, &mut text, self.a.node());
+        let text = if at == "a" {
+            shown(rt, &name(rt, at), self.a.node())
         } else {
-            put_state(rt, &mut text, self.b.node());
-        }
+            shown(rt, &name(rt, at), self.b.node())
+        };
         put(rt, &mut self.told, text.as_str());
     }
 
     fn tells_message(&mut self, rt: &(impl Abort + AllocGlobal), line: &Line<'_>) {
-        let copy = line_of(rt, self.message(rt, line));
-        put(rt, &mut self.told, copy.as_str());
+        let text = line_of(rt, self.message(rt, line));
+        put(rt, &mut self.told, text.as_str());
     }
 
     fn tells_image(&mut self, rt: &(impl Abort + AllocGlobal), at: &str) {
-        let copy = if at == "a" {
+        let text = if at == "a" {
             line_of(rt, self.a.keeper().stored())
         } else {
             line_of(rt, self.b.keeper().stored())
         };
-        put(rt, &mut self.told, copy.as_str());
+        put(rt, &mut self.told, text.as_str());
     }
 
     fn tells_lead(&mut self, rt: &(impl Abort + AllocGlobal), line: &Line<'_>) {
+        let at = name(rt, line.at);
         let sought = called(rt.alloc(), line.word).expect(rt, "room");
-        let mut text = String::new(rt.alloc());
-        if line.at == "a" {
-            put_lead(rt, &mut text, self.a.node(), &sought);
+        let text = if line.at == "a" {
+            led(rt, &at, self.a.node(), &sought)
         } else {
-            put_lead(rt, &mut text, self.b.node(), &sought);
-        }
+            led(rt, &at, self.b.node(), &sought)
+        };
         put(rt, &mut self.told, text.as_str());
     }
-}
-
-// The bytes as a line.
-fn line_of(rt: &(impl Abort + AllocGlobal), bytes: &[u8]) -> String {
-    let mut copy = String::new(rt.alloc());
-    let Ok(text) = std::str::from_utf8(bytes) else {
-        panic!(rt; "no text")
-    };
-    put(rt, &mut copy, text);
-    put(rt, &mut copy, "\n");
-    copy
 }
 
 fn post(rt: &impl Abort, sent: &mut Vec<Letter>, letter: Letter) {

@@ -1,0 +1,8 @@
+use Rattle.std.proofs.Common.{◌≡◌, map, take, string_bytes}
+use Rattle.std.specs.List.{flat_map}
+use Rattle.sup_tables.specs.Stored.{child_row}
+use Rattle.sup_node_text.specs.Shown.{child_lines}
+use Rattle.sup_node_text.proofs.tables.children_text.Given as goal
+
+abbrev pub invariant-loop-winner : goal.invariant-loop-winner
+invariant-loop-winner g l = string_bytes l.text ≡ flat_map (child_lines g.W.Weigh.weight_of l.tables.rows) (map (λ w. child_row w.key.now w.dot.now w.value.now) (take l.winner-index l.winner-items))

@@ -1,0 +1,14 @@
+//! What is printed of a node: what it shows, and where a name leads.
+#![tactic(auto)]
+
+pub mod kept;
+pub mod line;
+pub mod losers;
+pub mod place;
+pub mod show;
+pub mod tables;
+pub mod whereis;
+
+pub use show::show_text;
+pub use tables::tables_text;
+pub use whereis::where_text;

@@ -1,0 +1,37 @@
+//! What is printed of where a name leads.
+
+ghost use Rattle.std.specs.Prelude.{◌≡◌, IfOk, string_bytes};
+ghost use Rattle.sup_node_text.specs.Shown.{shown_at, where_text};
+
+use crate::place::LeadText;
+use crate::show::down_text;
+use crate::tables::{eligible, lead_at};
+use std::alloc::{AllocError, Global};
+use sup_node::Node;
+use sup_placement::Weigh;
+use sup_specs::{Name, NodeName};
+
+/// The line of where a name leads at the node of this name, which is none while it's stopped: its child, and the member that
+/// the child is placed on. To print is no step.
+///
+/// # Errors
+///
+/// Refused only for memory.
+pub fn where_text<W: Weigh>(
+    alloc: Global,
+    at: &NodeName,
+    node: Option<&Node<W>>,
+    name: &Name,
+    weigher: &W,
+) -> Result<String, AllocError>
+    ensures { IfOk result (λ s. string_bytes s ≡ where_text W.weight_of at.now (shown_at node.entry) name.now) }
+{
+    let Some(node) = node else {
+        return down_text(alloc, at);
+    };
+    let tables = node.tables();
+    let hosts = eligible(alloc, tables)?;
+    let lead = LeadText(lead_at(weigher, &hosts, tables, name));
+    let name = name.as_str();
+    format!(in alloc; "{name} {lead}\n")
+}
