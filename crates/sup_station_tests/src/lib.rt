@@ -5,6 +5,10 @@
 #[cfg(test)]
 mod given;
 #[cfg(test)]
+mod images;
+#[cfg(test)]
+mod keepers;
+#[cfg(test)]
 mod line;
 #[cfg(test)]
 mod refused;
@@ -14,3 +18,5 @@ mod rows;
 mod stage;
 #[cfg(test)]
 mod told;
+#[cfg(test)]
+mod unreadable;

@@ -1,5 +1,5 @@
 //! A line of a row, and the act that it tells.
-use crate::given::{called, child, name, text, worker};
+use crate::given::{called, child, message, name, text, worker};
 use std::process::Abort;
 use sup_local_sup::Incarnation;
 use sup_replica::{Act, Event};
@@ -57,6 +57,7 @@ impl<'a> Line<'a> {
                 },
                 reason: ExitReason::Crash,
             }),
+            "bytes" => Some(Event::Deliver(message(alloc, self.word.as_bytes())?)),
             "register" => {
                 let id = child(alloc, self.option)?;
                 Some(Event::Register(called(alloc, self.word)?, id))

@@ -4,7 +4,7 @@ use crate::given::{called, message, name};
 use crate::line::Line;
 use crate::told::{answered, led, line_of, put, refused, shown};
 use std::process::Abort;
-use sup_keeper::MemKeeper;
+use sup_keeper::{Keeper, MemKeeper};
 use sup_placement::FlatWeigh;
 use sup_replica::{Act, Config, Done, Event, Letter, Refusal};
 use sup_station::Station;
@@ -20,7 +20,7 @@ pub(crate) struct Stage {
     failing: usize,
     acts: usize,
     // How many acts were refused since their save failed, and made once more.
-    pub(crate) failed: usize,
+    failed: usize,
 }
 
 /// The stations of the row play its lines, and tell what is wanted.
@@ -36,21 +36,47 @@ pub(crate) fn plays_over_failure(
     wanted: &str,
     failing: usize,
 ) -> usize {
-    let mut stage = Stage {
-        a: station(rt, "a", config),
-        b: station(rt, "b", config),
-        sent_by_a: Vec::new(rt.alloc()),
-        sent_by_b: Vec::new(rt.alloc()),
-        told: String::new(rt.alloc()),
-        failing,
-        acts: 0,
-        failed: 0,
-    };
-    for line in lines.lines() {
-        stage.plays_line(rt, &Line::of(line));
-    }
-    assert!(rt; stage.told.as_str() == wanted, "{failing}");
+    let a = station(rt, "a", config);
+    let b = station(rt, "b", config);
+    let mut stage = Stage::new(rt, a, b, failing);
+    stage.plays_lines(rt, lines, wanted);
     stage.failed
+}
+
+/// The same where one of the two stations is stopped and its keeper has this image.
+pub(crate) fn plays_from(
+    rt: &(impl Abort + AllocGlobal),
+    of: &str,
+    image: &str,
+    lines: &str,
+    wanted: &str,
+) {
+    let mut stage = if of == "a" {
+        Stage::new(
+            rt,
+            stopped(rt, "a", image),
+            station(rt, "b", Config::default()),
+            0,
+        )
+    } else {
+        Stage::new(
+            rt,
+            station(rt, "a", Config::default()),
+            stopped(rt, "b", image),
+            0,
+        )
+    };
+    stage.plays_lines(rt, lines, wanted);
+}
+
+fn stopped(
+    rt: &(impl Abort + AllocGlobal),
+    of: &str,
+    image: &str,
+) -> Station<MemKeeper, FlatWeigh> {
+    let mut keeper = MemKeeper::new(rt.alloc());
+    assert!(rt; keeper.save(image.as_bytes()).is_ok());
+    Station::stopped(rt.alloc(), name(rt, of), Config::default(), keeper)
 }
 
 fn station(
@@ -69,6 +95,31 @@ fn station(
 }
 
 impl Stage {
+    fn new(
+        rt: &impl AllocGlobal,
+        a: Station<MemKeeper, FlatWeigh>,
+        b: Station<MemKeeper, FlatWeigh>,
+        failing: usize,
+    ) -> Stage {
+        Stage {
+            a,
+            b,
+            sent_by_a: Vec::new(rt.alloc()),
+            sent_by_b: Vec::new(rt.alloc()),
+            told: String::new(rt.alloc()),
+            failing,
+            acts: 0,
+            failed: 0,
+        }
+    }
+
+    fn plays_lines(&mut self, rt: &(impl Abort + AllocGlobal), lines: &str, wanted: &str) {
+        for line in lines.lines() {
+            self.plays_line(rt, &Line::of(line));
+        }
+        assert!(rt; self.told.as_str() == wanted);
+    }
+
     fn plays_line(&mut self, rt: &(impl Abort + AllocGlobal), line: &Line<'_>) {
         match line.verb {
             "show" => self.shows(rt, line.at),
