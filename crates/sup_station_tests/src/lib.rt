@@ -1,5 +1,5 @@
-//! The tests of stations, through their public calls. A crate with tests is proved twice, once without and once with them:
-//! here there is nothing to prove without them.
+//! The tests of stations, of their nodes and keepers and of what is printed of them, through public calls. A crate with tests
+//! is proved twice, once without and once with them: here there is nothing to prove without them.
 #![tactic(auto)]
 
 #[cfg(test)]
@@ -14,6 +14,8 @@ mod line;
 mod refused;
 #[cfg(test)]
 mod rows;
+#[cfg(test)]
+mod shows;
 #[cfg(test)]
 mod stage;
 #[cfg(test)]
