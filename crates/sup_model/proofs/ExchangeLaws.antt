@@ -242,3 +242,27 @@ exchange_took w a b w' (inr c) apart = record {
   took = took_nothing c.0.target.node.known c.0.sender.node.known c.0.covered;
   others = λ name apart. ap (λ z. known_at z name) c.1;
 }
+
+-- a ship that is made has a number
+pub ship_numbered : (w : World) (a b : Bytes) (x : Stepped) → step w (AtNode a (Of (Ship b)) 0 true) ≡ Ok x → (k : ℕ) × (x.answer.number ≡ Some k)
+ship_numbered w a b x ships =
+    let sh : Shipped w a b x = subst (After (Shipped w a b)) ships (ship_after w a b 0 true) in
+    (length sh.site.sent + 1, ap (λ (y : Stepped). y.answer.number) sh.is)
+
+-- and so has the acknowledgement of its delivery
+pub ship_answered : (w : World) (a b : Bytes) (x y : Stepped) (k : ℕ) → step w (AtNode a (Of (Ship b)) 0 true) ≡ Ok x → x.answer.number ≡ Some k
+    → step x.world (Delivery a k None 0 0 true) ≡ Ok y → (n : ℕ) × (y.answer.number ≡ Some n)
+ship_answered w a b x y k ships is comes =
+    let sh : Shipped w a b x = subst (After (Shipped w a b)) ships (ship_after w a b 0 true) in
+    let s = sh.site in
+    let m : Message Ops = record { to = b; kind = delta; content = s.node.known } in
+    let t : Site = record { node = s.node; sent = s.sent ++ m ∷ [] } in
+    let v = with_site w t in
+    let world : x.world ≡ v = ap (λ (y : Stepped). y.world) sh.is in
+    let number : Some (length s.sent + 1) ≡ Some k = sym (ap (λ (y : Stepped). y.answer.number) sh.is) ∙ is in
+    let d : Delivered v a k y = subst (λ u. Delivered u a k y) world (subst (After (Delivered x.world a k)) comes (deliver_after x.world a k 0 true)) in
+    let sender : d.sender ≡ t = some_is d.sender t (sym d.sends ∙ put_here w s t a sh.found refl) in
+    let message : d.message ≡ m = some_is d.message m (sym d.there ∙ ap (λ (y : Site). message_of y k) sender ∙ last_message t s.sent m k refl number) in
+    let r = d.receiver in
+    let came : y ≡ acted v r (takes by_operations v.weigher r.node a delta s.node.known) = d.is ∙ ap (λ (z : Message Ops). acted v r (takes by_operations v.weigher r.node a z.kind z.content)) message in
+    (length r.sent + 1, ap (λ (z : Stepped). z.answer.number) came ∙ ap (number_of r.sent) (delta_letter v r.node a s.node.known))

@@ -22,3 +22,5 @@ pub mod FollowLaws
 pub mod RunLaws
 pub mod ArrivalLaws
 pub mod MemoryLaws
+pub mod Unlikes
+pub mod RunLists

@@ -1,0 +1,14 @@
+pub mod Standing
+pub mod Moves
+pub mod Seen
+pub mod Telling
+pub mod Carrying
+pub mod Following
+pub mod Naming
+pub mod Newness
+pub mod Coming
+pub mod Runs
+pub mod Showing
+pub mod Settling
+pub mod Tallies
+pub mod Exchanges
