@@ -1,15 +1,14 @@
 -- Worked rows: what nodes send one another.
 use Rattle.std.specs.Prelude.{[], ◌∷◌, codes, Some, refl}
+use Rattle.std.specs.Fmt.{digits}
 use Rattle.sup_causal.specs.Dots.{has}
 use Rattle.sup_placement.specs.Place.{Weigher}
 use Rattle.sup_replica.specs.declared.done.Reply.TheVariants.{Added, Replaced, Removed, Sent, Absorbed, Known, Acked, Stopped, Boot}
 use Rattle.sup_replica.specs.declared.letter.LetterKind.TheVariants.{Part, Whole, Push, Ack}
 use Rattle.sup_replica.specs.declared.refusal.Refusal.TheVariants.{UpToDate, BadMessage, WrongReceiver}
-use Rattle.sup_world.specs.declared.line.Line.TheVariants.{Member, Child}
-use Rattle.sup_world.specs.declared.line.Place.TheVariants.{On, Unplaced}
-use Rattle.sup_model_rows.specs.Scripts.{◌⇒◌, show, inspect, letter, run, ok, refused, shown, Tells}
+use Rattle.sup_model_rows.specs.Scripts.{◌⇒◌, show, inspect, letter, ok, refused, Tells, prints}
 use Rattle.sup_model_rows.proofs.Lines.{join, start, replace, delete, ship, push, stop, restart, deliver, deliver_at, deliver_cut}
-use Rattle.sup_model_rows.proofs.Words.{a, b, c, x, y, z, web, sp, with_arg, unlabelled, weighed, flat, with_room, dot, begins, ends, did, did_with, sent, knows_parts}
+use Rattle.sup_model_rows.proofs.Words.{a, b, c, x, y, z, web, sp, with_arg, weighed, flat, with_room, dot, begins, ends, did, did_with, sent, knows_parts}
 
 -- An add that a removal has not seen outlives it.
 pub an_add_beside_a_removal : Tells flat (a ∷ b ∷ []) (
@@ -23,10 +22,10 @@ pub an_add_beside_a_removal : Tells flat (a ∷ b ∷ []) (
     ∷ deliver b 2 ⇒ sent a Known (letter a 2 b (Ack 2))
     ∷ push a b ⇒ sent a Sent (letter a 3 b Push)
     ∷ deliver a 3 ⇒ did b Absorbed
-    ∷ show a ⇒ shown a 1 (Member a (dot a 1) unlabelled ∷ Child web (dot a 3) (with_arg (codes "x") sp) (On a) ∷ []) (run web 1 2 ∷ [])
-    ∷ show b ⇒ shown b 1 (Member a (dot a 1) unlabelled ∷ Child web (dot a 3) (with_arg (codes "x") sp) (On a) ∷ []) []
+    ∷ show a ⇒ prints (codes "node a boot 1\nmember a (a,1) label=\nchild web (a,3) worker permanent 5000 arg=x on a\nkept web 1.2\n")
+    ∷ show b ⇒ prints (codes "node b boot 1\nmember a (a,1) label=\nchild web (a,3) worker permanent 5000 arg=x on a\n")
     ∷ [])
-unfolding has
+unfolding has digits
 an_add_beside_a_removal = (refl, refl)
 
 -- A child moves to the member of lesser name.
@@ -39,7 +38,7 @@ pub a_child_moves_to_the_lesser_member : Tells flat (a ∷ b ∷ []) (
     ∷ ship b a ⇒ sent b Sent (letter b 1 a (Part 3))
     ∷ deliver b 1 ⇒ ok a Absorbed (begins web sp 1 1 ∷ []) (Some (letter a 2 b (Ack 3)))
     ∷ [])
-unfolding has
+unfolding has digits
 a_child_moves_to_the_lesser_member = (refl, refl)
 
 -- What comes again is known, and is acknowledged again.
@@ -49,7 +48,7 @@ pub a_repeated_delivery_is_acknowledged_again : (weight : Weigher) → Tells (we
     ∷ deliver a 1 ⇒ sent b Absorbed (letter b 1 a (Ack 1))
     ∷ deliver a 1 ⇒ sent b Known (letter b 2 a (Ack 1))
     ∷ [])
-unfolding has
+unfolding has digits
 a_repeated_delivery_is_acknowledged_again weight = (refl, refl)
 
 -- Where the buffer has lost a delta all is sent.
@@ -62,9 +61,9 @@ pub an_overwritten_interval_is_sent_whole : (weight : Weigher) → Tells (with_r
     ∷ start a z sp ⇒ did a (Added (dot a 3))
     ∷ ship a b ⇒ sent a Sent (letter a 2 b (Whole 3))
     ∷ deliver a 2 ⇒ sent b Absorbed (letter b 2 a (Ack 3))
-    ∷ show b ⇒ shown b 1 (Child x (dot a 1) sp Unplaced ∷ Child y (dot a 2) sp Unplaced ∷ Child z (dot a 3) sp Unplaced ∷ []) []
+    ∷ show b ⇒ prints (codes "node b boot 1\nchild x (a,1) worker permanent 5000 arg= unplaced\nchild y (a,2) worker permanent 5000 arg= unplaced\nchild z (a,3) worker permanent 5000 arg= unplaced\n")
     ∷ [])
-unfolding has
+unfolding has digits
 an_overwritten_interval_is_sent_whole weight = (refl, refl)
 
 -- A node that restarted takes an acknowledgement from before, and sends what came after it.
@@ -79,7 +78,7 @@ pub an_interval_after_a_restart : (weight : Weigher) → Tells (weighed weight) 
     ∷ start a y sp ⇒ did a (Added (dot a 2))
     ∷ ship a b ⇒ sent a Sent (letter a 2 b (Part 2))
     ∷ [])
-unfolding has
+unfolding has digits
 an_interval_after_a_restart weight = (refl, refl)
 
 -- A message that is cut short is none; one for another node is refused.
@@ -90,7 +89,7 @@ pub cut_and_misdirected_messages : (weight : Weigher) → Tells (weighed weight)
     ∷ deliver_at c a 1 ⇒ refused WrongReceiver
     ∷ deliver a 1 ⇒ sent b Absorbed (letter b 1 a (Ack 1))
     ∷ [])
-unfolding has
+unfolding has digits
 cut_and_misdirected_messages weight = (refl, refl)
 
 -- Pushes that come out of order leave a gap, until the last has come.
@@ -103,13 +102,13 @@ pub pushes_out_of_order_leave_a_gap : (weight : Weigher) → Tells (weighed weig
     ∷ push a b ⇒ sent a Sent (letter a 3 b Push)
     ∷ deliver a 3 ⇒ did b Absorbed
     ∷ deliver a 1 ⇒ did b Absorbed
-    ∷ show b ⇒ shown b 1 (Child x (dot a 1) sp Unplaced ∷ Child z (dot a 3) sp Unplaced ∷ []) []
+    ∷ show b ⇒ prints (codes "node b boot 1\nchild x (a,1) worker permanent 5000 arg= unplaced\nchild z (a,3) worker permanent 5000 arg= unplaced\n")
     ∷ inspect b ⇒ knows_parts 2 2 ((a, 1) ∷ []) (dot a 3 ∷ [])
     ∷ deliver a 2 ⇒ did b Absorbed
-    ∷ show b ⇒ shown b 1 (Child x (dot a 1) sp Unplaced ∷ Child y (dot a 2) sp Unplaced ∷ Child z (dot a 3) sp Unplaced ∷ []) []
+    ∷ show b ⇒ prints (codes "node b boot 1\nchild x (a,1) worker permanent 5000 arg= unplaced\nchild y (a,2) worker permanent 5000 arg= unplaced\nchild z (a,3) worker permanent 5000 arg= unplaced\n")
     ∷ inspect b ⇒ knows_parts 3 3 ((a, 3) ∷ []) []
     ∷ [])
-unfolding has
+unfolding has digits
 pushes_out_of_order_leave_a_gap weight = (refl, refl)
 
 -- A removal that comes before its add.
@@ -120,8 +119,8 @@ pub a_removal_overtakes_its_add : (weight : Weigher) → Tells (weighed weight) 
     ∷ push a b ⇒ sent a Sent (letter a 2 b Push)
     ∷ deliver a 2 ⇒ did b Absorbed
     ∷ deliver a 1 ⇒ did b Known
-    ∷ show b ⇒ shown b 1 [] []
+    ∷ show b ⇒ prints (codes "node b boot 1\n")
     ∷ inspect b ⇒ knows_parts 1 1 ((a, 1) ∷ []) []
     ∷ [])
-unfolding has
+unfolding has digits
 a_removal_overtakes_its_add weight = (refl, refl)

@@ -1,16 +1,15 @@
 -- Worked rows: what commands do to the tables of a node, and what it shows.
 use Rattle.std.specs.Prelude.{List, [], ◌∷◌, codes, refl}
 use Rattle.sup_specs.specs.Values.{Bytes}
+use Rattle.std.specs.Fmt.{digits}
 use Rattle.sup_causal.specs.Dots.{has}
 use Rattle.sup_placement.specs.Place.{Weigher}
 use Rattle.sup_replica.specs.declared.done.Reply.TheVariants.{Added, Removed, Sent, Absorbed, Stopped}
 use Rattle.sup_replica.specs.declared.letter.LetterKind.TheVariants.{Part, Ack}
 use Rattle.sup_replica.specs.declared.refusal.Refusal.TheVariants.{Down, AlreadyUp, UnknownNode, AlreadyPresent, NotFound, AlreadyMember, NotMember, NameTaken, NoSuchChild, NameUnknown, UpToDate, NoSuchMessage, KeepFailed, BadMessage, NothingToPush}
-use Rattle.sup_world.specs.declared.line.Line.TheVariants.{Member, Child, Name}
-use Rattle.sup_world.specs.declared.line.Place.TheVariants.{On, Unplaced}
-use Rattle.sup_model_rows.specs.Scripts.{◌⇒◌, settle, show, find, letter, run, refused, settled, shown, found, unknown, Tells}
+use Rattle.sup_model_rows.specs.Scripts.{◌⇒◌, settle, show, find, letter, refused, settled, Tells, prints}
 use Rattle.sup_model_rows.proofs.Lines.{join, leave, start, replace, delete, register, unregister, ship, push, stop, restart, deliver, raw, fails}
-use Rattle.sup_model_rows.proofs.Words.{a, b, c, x, z, n, web, www, db, api, of_kind, sp, unlabelled, weighed, flat, with_messages, dot, begins, ends, did, did_with, sent, lost_child, lost_name}
+use Rattle.sup_model_rows.proofs.Words.{a, b, c, x, z, n, web, www, db, api, of_kind, sp, weighed, flat, with_messages, dot, begins, ends, did, did_with, sent}
 
 -- the messages among the raw words
 abbrev pub words_that_are_messages : List Bytes
@@ -21,17 +20,17 @@ words_that_are_messages =
 
 -- A node that has done nothing shows nothing.
 pub an_empty_node_is_shown : (weight : Weigher) → Tells (weighed weight) (a ∷ []) (
-    show a ⇒ shown a 1 [] []
+    show a ⇒ prints (codes "node a boot 1\n")
     ∷ [])
-unfolding has
+unfolding has digits
 an_empty_node_is_shown weight = (refl, refl)
 
 -- Without members a child is nowhere.
 pub a_child_is_unplaced_without_members : (weight : Weigher) → Tells (weighed weight) (a ∷ []) (
     start a web sp ⇒ did a (Added (dot a 1))
-    ∷ show a ⇒ shown a 1 (Child web (dot a 1) sp Unplaced ∷ []) []
+    ∷ show a ⇒ prints (codes "node a boot 1\nchild web (a,1) worker permanent 5000 arg= unplaced\n")
     ∷ [])
-unfolding has
+unfolding has digits
 a_child_is_unplaced_without_members weight = (refl, refl)
 
 -- The first refusals.
@@ -44,7 +43,7 @@ pub first_refusals : (weight : Weigher) → Tells (weighed weight) (a ∷ b ∷ 
     ∷ start z x sp ⇒ refused UnknownNode
     ∷ ship a a ⇒ refused UnknownNode
     ∷ [])
-unfolding has
+unfolding has digits
 first_refusals weight = (refl, refl)
 
 -- Words that look like endings are ids.
@@ -53,9 +52,9 @@ pub words_that_look_like_endings_are_ids : (weight : Weigher) → Tells (weighed
     ∷ start a (codes "!fail") sp ⇒ did a (Added (dot a 2))
     ∷ fails (start a x sp) ⇒ refused KeepFailed
     ∷ start a (codes "kind=k") (of_kind (codes "z")) ⇒ did a (Added (dot a 3))
-    ∷ show a ⇒ shown a 1 (Child (codes "!fail") (dot a 2) sp Unplaced ∷ Child (codes "@5") (dot a 1) sp Unplaced ∷ Child (codes "kind=k") (dot a 3) (of_kind (codes "z")) Unplaced ∷ []) []
+    ∷ show a ⇒ prints (codes "node a boot 1\nchild !fail (a,2) worker permanent 5000 arg= unplaced\nchild @5 (a,1) worker permanent 5000 arg= unplaced\nchild kind=k (a,3) z permanent 5000 arg= unplaced\n")
     ∷ [])
-unfolding has
+unfolding has digits
 words_that_look_like_endings_are_ids weight = (refl, refl)
 
 -- A member starts its child.
@@ -63,9 +62,9 @@ pub a_member_starts_its_child : Tells flat (a ∷ []) (
     join a ⇒ did a (Added (dot a 1))
     ∷ start a web sp ⇒ did_with a (Added (dot a 2)) (begins web sp 1 1 ∷ [])
     ∷ start a web sp ⇒ refused AlreadyPresent
-    ∷ show a ⇒ shown a 1 (Member a (dot a 1) unlabelled ∷ Child web (dot a 2) sp (On a) ∷ []) (run web 1 1 ∷ [])
+    ∷ show a ⇒ prints (codes "node a boot 1\nmember a (a,1) label=\nchild web (a,2) worker permanent 5000 arg= on a\nkept web 1.1\n")
     ∷ [])
-unfolding has
+unfolding has digits
 a_member_starts_its_child = (refl, refl)
 
 -- A name is where its child is, and goes with it.
@@ -75,12 +74,12 @@ pub names_follow_their_child : Tells flat (a ∷ []) (
     ∷ register a www web ⇒ did a (Added (dot a 3))
     ∷ register a www web ⇒ refused NameTaken
     ∷ register a api db ⇒ refused NoSuchChild
-    ∷ find a www ⇒ found web (On a)
+    ∷ find a www ⇒ prints (codes "www web on a\n")
     ∷ delete a web ⇒ did_with a (Removed (dot a 2 ∷ dot a 3 ∷ [])) (ends web 1 1 ∷ [])
-    ∷ find a www ⇒ unknown
+    ∷ find a www ⇒ prints (codes "www unknown\n")
     ∷ unregister a www ⇒ refused NameUnknown
     ∷ [])
-unfolding has
+unfolding has digits
 names_follow_their_child = (refl, refl)
 
 -- A name that is taken back goes with its losers.
@@ -92,10 +91,10 @@ pub unregister_takes_winner_and_loser : (weight : Weigher) → Tells (weighed we
     ∷ register b n x ⇒ did b (Added (dot b 1))
     ∷ ship b a ⇒ sent b Sent (letter b 2 a (Part 2))
     ∷ deliver b 2 ⇒ sent a Absorbed (letter a 2 b (Ack 2))
-    ∷ show a ⇒ shown a 1 (Child x (dot a 1) sp Unplaced ∷ Name n (dot b 1) x Unplaced ∷ lost_name n (dot a 2) ∷ []) []
+    ∷ show a ⇒ prints (codes "node a boot 1\nchild x (a,1) worker permanent 5000 arg= unplaced\nname n (b,1) x unplaced\nloser name n (a,2)\n")
     ∷ unregister a n ⇒ did a (Removed (dot b 1 ∷ dot a 2 ∷ []))
     ∷ [])
-unfolding has
+unfolding has digits
 unregister_takes_winner_and_loser weight = (refl, refl)
 
 -- The least dot wins. Settling sends six messages, since one of the ships has nothing to send.
@@ -103,9 +102,9 @@ pub the_least_dot_wins : (weight : Weigher) → Tells (weighed weight) (a ∷ b 
     start c db (of_kind (codes "slow")) ⇒ did c (Added (dot c 1))
     ∷ start a db (of_kind (codes "quick")) ⇒ did a (Added (dot a 1))
     ∷ settle ⇒ settled 6 []
-    ∷ show b ⇒ shown b 1 (Child db (dot a 1) (of_kind (codes "quick")) Unplaced ∷ lost_child db (dot c 1) ∷ []) []
+    ∷ show b ⇒ prints (codes "node b boot 1\nchild db (a,1) quick permanent 5000 arg= unplaced\nloser child db (c,1)\n")
     ∷ [])
-unfolding has
+unfolding has digits
 the_least_dot_wins weight = (refl, refl)
 
 -- Each refusal in its order. Of the two words that come raw the second is a message.
@@ -127,7 +126,7 @@ pub each_refusal_in_order : (weight : Weigher) → Tells (with_messages words_th
     ∷ raw a (codes "{}") ⇒ refused BadMessage
     ∷ raw a (codes "{\"from\":\"b\",\"kind\":\"ack\",\"n\":1,\"to\":\"a\",\"v\":1}") ⇒ refused NoSuchMessage
     ∷ [])
-unfolding has
+unfolding has digits
 each_refusal_in_order weight = (refl, refl)
 
 -- Raw words: two of them are messages, which nobody sent.
@@ -142,12 +141,12 @@ pub raw_words_are_messages_or_not : (weight : Weigher) → Tells (with_messages 
     ∷ raw a (codes "{\"ctx\":{\"cloud\":[[\"a\",1]],\"vector\":{}},\"from\":\"a\",\"kind\":\"push\",\"rows\":[],\"to\":\"b\",\"v\":1}") ⇒ refused BadMessage
     ∷ raw a (codes "{\"ctx\":{\"cloud\":[[\"a\",2]],\"vector\":{}},\"from\":\"a\",\"kind\":\"push\",\"rows\":[],\"to\":\"b\",\"v\":1}") ⇒ refused NoSuchMessage
     ∷ [])
-unfolding has
+unfolding has digits
 raw_words_are_messages_or_not weight = (refl, refl)
 
 -- A raw word that is no message.
 pub a_raw_word_of_an_unknown_version : (weight : Weigher) → Tells (with_messages words_that_are_messages (weighed weight)) (a ∷ []) (
     raw a (codes "{\"from\":\"b\",\"kind\":\"ack\",\"n\":1,\"to\":\"a\",\"v\":2}") ⇒ refused BadMessage
     ∷ [])
-unfolding has
+unfolding has digits
 a_raw_word_of_an_unknown_version weight = (refl, refl)

@@ -14,9 +14,6 @@ use Rattle.sup_placement.specs.Weights.{flat_weight}
 use Rattle.sup_local_sup.specs.declared.effect.Effect.{Effect}
 use Rattle.sup_local_sup.specs.declared.effect.Effect.TheVariants as effect
 use Rattle.sup_replica.specs.declared.done.Reply.{Reply}
-use Rattle.sup_world.specs.declared.line.Key.TheVariants as key
-use Rattle.sup_world.specs.declared.line.Line.{Line}
-use Rattle.sup_world.specs.declared.line.Line.TheVariants.{Loser}
 use Rattle.sup_model_rows.specs.Scripts.{Telling, ok, knows, Letter, Options}
 
 -- nodes
@@ -113,12 +110,6 @@ did_with at reply effects = ok at reply effects None
 
 abbrev pub sent : Bytes → Reply → Letter → Telling
 sent at reply one = ok at reply [] (Some one)
-
-abbrev pub lost_child : Bytes → Dot → Line
-lost_child id dot = Loser (key.Child id) dot
-
-abbrev pub lost_name : Bytes → Dot → Line
-lost_name name dot = Loser (key.Name name) dot
 
 -- a vector's entry stands for the dots up to its number
 abbrev pub dots_to : Bytes → ℕ → List Dot

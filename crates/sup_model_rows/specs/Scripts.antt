@@ -4,11 +4,8 @@ use Rattle.sup_specs.specs.Values.{Bytes, text_cmp}
 use Rattle.sup_specs.specs.Rising.{rising, among}
 use Rattle.sup_causal.specs.declared.dot.Dot.{Dot}
 use Rattle.sup_causal.specs.Dots.{dot_cmp}
-use Rattle.sup_tables.specs.declared.row.Row.{Row}
-use Rattle.sup_tables.specs.Rows.{names, target_of}
 use Rattle.sup_tables.specs.Operations.{dots_of}
 use Rattle.sup_tables.specs.States.{State}
-use Rattle.sup_tables.specs.Readers.{winner}
 use Rattle.sup_placement.specs.Place.{Weigher}
 use Rattle.sup_local_sup.specs.declared.effect.Effect.{Effect}
 use Rattle.sup_replica.specs.declared.done.Reply.{Reply}
@@ -22,9 +19,7 @@ use Rattle.sup_model.specs.declared.step.Step.{Step}
 use Rattle.sup_model.specs.Worlds.{Setting}
 use Rattle.sup_model.specs.Posts.{Post, Real, RealStepped, post_of, mail_of, real_step, real_after, real_run, real_new}
 use Rattle.sup_model_rows.specs.Settled.{settles, up_names}
-use Rattle.sup_world.specs.declared.line.Line.{Line}
-use Rattle.sup_world.specs.declared.line.Place.{Place}
-use Rattle.sup_world.specs.Shown.{lines, name_place}
+use Rattle.sup_node_text.specs.Shown.{Shown, show_text, where_text, down_text}
 
 infix 70 ◌⇒◌
 -- what a line asks: a step, to settle, or to be shown something
@@ -39,20 +34,13 @@ pub data Asked : Type 0 where
 pub data Letter : Type 0 where
   letter : (from : Bytes) (k : ℕ) (to : Bytes) (kind : LetterKind) → Letter
 
--- a kept child's run
-pub data Run : Type 0 where
-  run : (id : Bytes) (boot k : ℕ) → Run
-
 -- what a line tells
 pub data Telling : Type 0 where
   ok : (at : Bytes) (reply : Reply) (effects : List Effect) (letter : Option Letter) → Telling
   refused : Refusal → Telling
   settled : (messages : ℕ) (effects : List (Bytes × Effect)) → Telling
-  down : (node : Bytes) → Telling
-  shown : (node : Bytes) (boot : ℕ) (lines : List Line) (kept : List Run) → Telling
+  prints : (text : List ℕ) → Telling
   knows : (count held : ℕ) (dots : List Dot) → Telling  -- of a station, beside what it shows
-  found : (id : Bytes) (place : Place) → Telling
-  unknown : Telling
 
 abbrev pub ◌⇒◌ : Asked → Telling → Asked × Telling
 asked ⇒ told = (asked, told)
@@ -72,26 +60,27 @@ abbrev pub told_answer : {K : Type 0} → Result (RealStepped K) Refusal → Tel
 told_answer (Ok s) = ok s.answer.at s.answer.reply s.answer.effects (numbered_letter s.answer.number s.answer.letter)
 told_answer (Err refusal) = refused refusal
 
--- where the child is that a name stands for
-abbrev pub told_place : Weigher → List Row → Option Row → Telling
-told_place weight rows None = unknown
-told_place weight rows (Some r) = found (target_of r.entry) (name_place weight rows (target_of r.entry))
-
 module _ {K : Type 0} (k : Knowledge K) (dots : K → List Dot) where
   abbrev pub told_station : Weigher → (Weigher → Post K → Telling) → Option (Post K) → Telling
   told_station weight tell None = refused UnknownNode
-  told_station weight tell (Some post) = if post.station.node.up then tell weight post else down post.station.node.name
+  told_station weight tell (Some post) = tell weight post
+
+  -- what of a node is shown, nothing of a stopped one
+  abbrev pub shown_in : Post K → Option Shown
+  shown_in post =
+      let node = post.station.node in
+      if node.up then Some (record { boot = node.supervisor.boot; rows = k.rows node.known; kept = node.supervisor.kept }) else None
 
   abbrev pub shows : Weigher → Post K → Telling
-  shows weight post =
-      let node = post.station.node in
-      shown node.name node.supervisor.boot (lines weight (k.rows node.known)) (map (λ child. run child.0 child.1.inc.boot child.1.inc.k) node.supervisor.kept)
+  shows weight post = prints (show_text weight post.station.node.name (shown_in post))
 
   abbrev pub inspects : Weigher → Post K → Telling
-  inspects weight post = knows post.station.node.count (length post.station.held) (dots post.station.node.known)
+  inspects weight post =
+      let node = post.station.node in
+      if node.up then knows node.count (length post.station.held) (dots node.known) else prints (down_text node.name)
 
   abbrev pub finds : Bytes → Weigher → Post K → Telling
-  finds name weight post = told_place weight (k.rows post.station.node.known) (winner (k.rows post.station.node.known) names name)
+  finds name weight post = prints (where_text weight post.station.node.name (shown_in post) name)
 
   -- a whole script
   abbrev pub plays : Real K → List Asked → List Telling

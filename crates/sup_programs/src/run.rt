@@ -1,0 +1,158 @@
+//! The program's run, from its words and input to its output and status.
+
+ghost use Rattle.std.specs.Prelude.{◌≡◌, ◌+◌, None, Some, map};
+ghost use Rattle.sup_command_line.specs.Requests.{request_of};
+ghost use Rattle.sup_jobs.specs.Ends.{TakesAtMost};
+ghost use Rattle.sup_programs.specs.Performing.{Performs, Refuses, WantsMemory};
+ghost use Rattle.sup_programs.specs.Runs.{Runs, status_in};
+
+use crate::simulate::simulate;
+use clap::Error;
+use std::alloc::Global;
+use std::convert::AsStr;
+use std::io::{Read, Write};
+use sup_command_line::{Request, Weighing, is_want_of_memory, read_words};
+use sup_jobs::{Ended, Fault, LIMIT, finish, put_all};
+use sup_placement::{FlatWeigh, Sha256Weigh};
+use sup_placing::place_children;
+use sup_replica::Config;
+
+/// The exit status where the words are refused.
+pub const USAGE: u8 = 2;
+
+/// How a run ended that waits for nobody.
+#[derive(Clone, Copy, Debug, PartialEq, Eq)]
+pub enum Ran {
+    /// With this exit status.
+    Status(u8),
+}
+
+/// Runs the program, and answers its exit status: 0, or 1 where the input is bad, `USAGE` where the words are refused, and 3 where the
+/// device or memory ended it. The words are those after the program's name. Faults of the error writer are passed over.
+pub fn run<S: AsStr, R: Read, W: Write, E: Write>(
+    alloc: Global,
+    words: &[S],
+    reader: &mut R,
+    writer: &mut W,
+    errors: &mut E,
+) -> u8
+    ensures { Runs R.remaining W.contents E.contents (map S.text words.now) reader.old reader.new
+        writer.old writer.new errors.old errors.new result }
+{
+    match run_plain(alloc, words, reader, writer, errors) {
+        Ran::Status(status) => status,
+    }
+}
+
+/// Runs the commands that wait for nobody, as `run` does, and answers how that ended.
+pub fn run_plain<S: AsStr, R: Read, W: Write, E: Write>(
+    alloc: Global,
+    words: &[S],
+    reader: &mut R,
+    writer: &mut W,
+    errors: &mut E,
+) -> Ran
+    ensures { Runs R.remaining W.contents E.contents (map S.text words.now) reader.old reader.new
+        writer.old writer.new errors.old errors.new (status_in result) }
+{
+    let ended = run_words(alloc, words, reader, writer, errors);
+    Ran::Status(ended.status)
+}
+
+// Does what the words ask for, or tells why they are refused.
+fn run_words<S: AsStr, R: Read, W: Write, E: Write>(
+    alloc: Global,
+    words: &[S],
+    reader: &mut R,
+    writer: &mut W,
+    errors: &mut E,
+) -> Ended
+    ensures performs { Performs (request_of (map S.text words.now)) (R.remaining reader.old) (R.remaining reader.new)
+        (W.contents writer.old) (W.contents writer.new) (E.contents errors.old) (E.contents errors.new) result }
+    ensures taken { TakesAtMost (LIMIT + 1) (R.remaining reader.old) (R.remaining reader.new) }
+    ensures unread { request_of (map S.text words.now) ≡ None → reader.new ≡ reader.old }
+    ensures unwritten { request_of (map S.text words.now) ≡ None → writer.new ≡ writer.old }
+{
+    match read_words(alloc, words) {
+        Ok(request) => perform(alloc, request, reader, writer, errors),
+        Err(error) if is_want_of_memory(&error) => want_of_memory(errors),
+        Err(error) => refuse(alloc, &error, errors),
+    }
+}
+
+// Does what is asked for.
+fn perform<R: Read, W: Write, E: Write>(
+    alloc: Global,
+    request: Request,
+    reader: &mut R,
+    writer: &mut W,
+    errors: &mut E,
+) -> Ended
+    ensures performs { Performs (Some request) (R.remaining reader.old) (R.remaining reader.new)
+        (W.contents writer.old) (W.contents writer.new) (E.contents errors.old) (E.contents errors.new) result }
+    ensures taken { TakesAtMost (LIMIT + 1) (R.remaining reader.old) (R.remaining reader.new) }
+{
+    match request {
+        Request::Simulate { weighing, config } => {
+            simulate_by(alloc, weighing, config, reader, writer, errors)
+        }
+        Request::Place { weighing } => place_by(alloc, weighing, reader, writer, errors),
+    }
+}
+
+// Runs a script, with the weights that are asked for.
+fn simulate_by<R: Read, W: Write, E: Write>(
+    alloc: Global,
+    weighing: Weighing,
+    config: Config,
+    reader: &mut R,
+    writer: &mut W,
+    errors: &mut E,
+) -> Ended
+    ensures performs { Performs (Some (Request.Simulate weighing config)) (R.remaining reader.old) (R.remaining reader.new)
+        (W.contents writer.old) (W.contents writer.new) (E.contents errors.old) (E.contents errors.new) result }
+    ensures taken { TakesAtMost (LIMIT + 1) (R.remaining reader.old) (R.remaining reader.new) }
+{
+    match weighing {
+        Weighing::Sha256 => simulate(alloc, &Sha256Weigh, config, reader, writer, errors),
+        Weighing::Flat => simulate(alloc, &FlatWeigh, config, reader, writer, errors),
+    }
+}
+
+// Places children, with the weights that are asked for.
+fn place_by<R: Read, W: Write, E: Write>(
+    alloc: Global,
+    weighing: Weighing,
+    reader: &mut R,
+    writer: &mut W,
+    errors: &mut E,
+) -> Ended
+    ensures performs { Performs (Some (Request.Place weighing)) (R.remaining reader.old) (R.remaining reader.new)
+        (W.contents writer.old) (W.contents writer.new) (E.contents errors.old) (E.contents errors.new) result }
+    ensures taken { TakesAtMost (LIMIT + 1) (R.remaining reader.old) (R.remaining reader.new) }
+{
+    match weighing {
+        Weighing::Sha256 => place_children(alloc, &Sha256Weigh, reader, writer, errors),
+        Weighing::Flat => place_children(alloc, &FlatWeigh, reader, writer, errors),
+    }
+}
+
+// Tells why the words are refused, or that memory was.
+fn refuse<E: Write>(alloc: Global, error: &Error, errors: &mut E) -> Ended
+    ensures { Refuses (E.contents errors.old) (E.contents errors.new) result }
+{
+    match format!(in alloc; "{error}") {
+        Ok(text) => Ended {
+            status: USAGE,
+            told: put_all(errors, text.as_bytes()),
+        },
+        Err(_) => want_of_memory(errors),
+    }
+}
+
+/// Tells that memory was refused, and answers that end, with status 3.
+pub fn want_of_memory<E: Write>(errors: &mut E) -> Ended
+    ensures { WantsMemory (E.contents errors.old) (E.contents errors.new) result }
+{
+    finish(errors, Err(Fault::OutOfMemory))
+}
