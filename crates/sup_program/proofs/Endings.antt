@@ -1,23 +1,29 @@
--- Runs that end before their input is done.
-use Rattle.std.proofs.Common.{ℕ, List, [], Some, None, inl, refl, arith}
-use Rattle.std.specs.Prelude.{Err}
+-- Runs that end before their input is read.
+use Rattle.std.proofs.Common.{[], Some, None, inl, inr, refl, arith}
+use Rattle.std.specs.Prelude.{Option, Err}
 use Rattle.std.proofs.KnownBytes.{Keeps-refl}
-use Rattle.sup_placement.specs.Place.{Weigher}
-use Rattle.sup_program.specs.declared.fault.Ended.{Ended}
-use Rattle.sup_program.specs.declared.fault.Fault.{Fault}
-use Rattle.sup_program.specs.declared.fault.Fault.TheVariants.{BadLine, BadInput, Device, OutOfMemory}
-use Rattle.sup_program.specs.Faults.{IsOutside}
-use Rattle.sup_program.specs.Ends.{Bytes, Job, Does, StopsAt}
-use Rattle.sup_program.specs.Run.{Ends, WantsMemory, simulation}
+use Rattle.sup_command_line.specs.declared.request.Request.{Request}
+use Rattle.sup_command_line.specs.declared.request.Request.TheVariants.{Simulate, Place}
+use Rattle.sup_command_line.specs.Weighings.{weight_of}
+use Rattle.sup_jobs.specs.declared.fault.Ended.{Ended}
+use Rattle.sup_jobs.specs.declared.fault.Fault.TheVariants.{OutOfMemory}
+use Rattle.sup_jobs.specs.Ends.{Bytes, Job, Does}
+use Rattle.sup_placing.specs.Placing.{placement}
+use Rattle.sup_program.specs.Simulating.{simulation}
+use Rattle.sup_program.specs.Performing.{Performs, WantsMemory}
+use Rattle.sup_program.specs.Runs.{EndsWith}
 
 -- a run that was refused memory at once has taken and written nothing, whatever its input is
-pub unstarted : {A : Type 0} (job : Job A) (input before errors_before errors_written : Bytes) (ended : Ended) → WantsMemory errors_before errors_written ended → Does job input input before before errors_before errors_written ended
+unstarted : {A : Type 0} (job : Job A) (input before errors_before errors_written : Bytes) (ended : Ended) → WantsMemory errors_before errors_written ended → Does job input input before before errors_before errors_written ended
 unstarted job None before errors_before errors_written ended h = (Err OutOfMemory, h.0, h.1, ([], omega arith, tt), tt)
 unstarted job (Some bytes) before errors_before errors_written ended h = (Err OutOfMemory, h.0, h.1, ([], omega arith, refl), inl (Keeps-refl before))
 
--- a run that the device or memory ended
-pub stopped : (X : Type 0) (weight : Weigher) (fault : Fault) (input : List ℕ) (before written : Bytes) → IsOutside fault → StopsAt (simulation weight) input before written → Ends {X = X} weight input before written (Err fault)
-stopped X weight (BadLine number) input before written out h = absurd out
-stopped X weight BadInput input before written out h = absurd out
-stopped X weight Device input before written out h = h
-stopped X weight OutOfMemory input before written out h = h
+-- whatever was asked for
+pub unperformed : (asked : Option Request) (input before errors_before errors_written : Bytes) (ended : Ended) → WantsMemory errors_before errors_written ended → Performs asked input input before before errors_before errors_written ended
+unperformed None input before errors_before errors_written ended h = inr h
+unperformed (Some (Simulate weighing config)) input before errors_before errors_written ended h = unstarted (simulation (weight_of weighing) config) input before errors_before errors_written ended h
+unperformed (Some (Place weighing)) input before errors_before errors_written ended h = unstarted (placement (weight_of weighing)) input before errors_before errors_written ended h
+
+-- an end of which only the status is told
+pub ended_so : (Is : Ended → Type 0) (ended : Ended) → Is ended → EndsWith ended.status Is
+ended_so Is ended h = (ended, refl, h)

@@ -1,4 +1,8 @@
+pub mod PlayedRuns
+pub mod Messages
+pub mod Counts
+pub mod Lines
+pub mod DryLines
 pub mod Playing
-pub mod Fronts
+pub mod Scripts
 pub mod Endings
-pub mod Requests

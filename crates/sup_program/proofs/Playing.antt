@@ -1,82 +1,92 @@
--- Steps one after another.
+-- Lines one after another.
 use Rattle.std.proofs.Common.{◌≡◌, ◌∙◌, ℕ, ◌+◌, ◌<◌, ◌≤◌, List, [], ◌∷◌, ◌++◌, length, take, get_or, refl, sym, ap, subst, arith, append_assoc}
+use Rattle.std.specs.Prelude.{Result, Ok, Err, IsErrAnd}
 use Rattle.std.proofs.lemmas.List.{take_more, append-nil, take_all}
 use Rattle.std.proofs.Math.Seq.{take-append-add}
 use Rattle.std.specs.Io.KnownBytes.{Appends}
 use Rattle.std.proofs.KnownBytes.{Appends-nil, Appends-trans}
 use Rattle.sup_placement.specs.Place.{Weigher}
-use Rattle.sup_world.specs.declared.state.World.{World as Real}
-use Rattle.sup_world.specs.declared.step.Step.{Step}
-use Rattle.sup_world.specs.declared.answer.Answer.{Answer}
-use Rattle.sup_script.specs.Text.{answer_text}
-use Rattle.sup_world.specs.Worlds.{World}
-use Rattle.sup_world.specs.Runs.{Allows}
-use Rattle.sup_world.specs.Stands.{Follows, WorldStandsFor}
-use Rattle.sup_program.specs.Run.{Bytes, Plays, PrintsAll, PrintsFront}
+use Rattle.sup_jobs.specs.Ends.{Bytes as Known}
+use Rattle.sup_jobs.specs.declared.fault.Fault.{Fault}
+use Rattle.sup_model.specs.Worlds.{World}
+use Rattle.sup_world.specs.Following.{StandsFor}
+use Rattle.sup_world.specs.Seen.{Seen}
+use Rattle.sup_lines.specs.declared.line.Line.{Line}
+use Rattle.sup_program.specs.Prints.{Prints, TellsMessages}
+use Rattle.sup_program.specs.Plays.{Plays, PrintsAllFrom, PrintsFrontFrom}
+use Rattle.sup_program.specs.Playing.{Speaks, PlaysLine}
+use Rattle.sup_program.proofs.PlayedRuns.{line_run}
+use Rattle.sup_program.proofs.Messages.{run_same}
 
--- steps that were made and written, and the model world that they reach
-pub record PlaysTo (weight : Weigher) (old : World) (steps : List Step) (real : Real) (before written : Bytes) : Type 0 where
+-- lines that were played and written, and the model world that they reach
+pub record PlaysTo (weigher : Weigher) (old : World) (lines : List Line) (sites : List Seen) (before written : Known) : Type 0 where
   pub printed : List ℕ
   pub reached : World
-  pub plays : Plays weight old steps printed reached
-  pub stands : WorldStandsFor real reached
+  pub plays : Plays old lines printed reached
+  pub stands : StandsFor weigher sites reached
+  pub tells : TellsMessages reached.is_message
   pub writes : Appends before written printed
 
--- before the first step
-pub begins : (weight : Weigher) (old : World) (real : Real) (a : Bytes) → WorldStandsFor real old → PlaysTo weight old [] real a a
-begins weight old real a h = record {
+-- before the first line
+pub begins : (weigher : Weigher) (old : World) (sites : List Seen) (a : Known) → StandsFor weigher sites old → TellsMessages old.is_message → PlaysTo weigher old [] sites a a
+begins weigher old sites a h tells = record {
   printed = [];
   reached = old;
   plays = (refl, refl);
   stands = h;
+  tells = tells;
   writes = Appends-nil a;
 }
 
--- a run goes on by one step
-plays_one_more : (weight : Weigher) (old : World) (steps : List Step) (step : Step) (printed : List ℕ) (mid new : World) (answer : Answer) → Plays weight old steps printed mid → Allows weight mid step answer new → Plays weight old (steps ++ step ∷ []) (printed ++ answer_text answer) new
-plays_one_more weight old [] step printed mid new answer h s =
-    let s' : Allows weight old step answer new = subst (λ (w : World). Allows weight w step answer new) h.1 s in
-    (answer, new, [], s', (refl, refl), ap (λ (p : List ℕ). p ++ answer_text answer) h.0 ∙ sym (append-nil (answer_text answer)))
-plays_one_more weight old (first ∷ steps) step printed mid new answer h s = (
+-- one line more
+plays_one_more : (old : World) (lines : List Line) (line : Line) (printed said : List ℕ) (mid new : World) → Plays old lines printed mid → Prints mid line said new → Plays old (lines ++ line ∷ []) (printed ++ said) new
+plays_one_more old [] line printed said mid new h p =
+    let p' : Prints old line said new = subst (λ (w : World). Prints w line said new) h.1 p in
+    (said, new, [], p', (refl, refl), ap (λ (front : List ℕ). front ++ said) h.0 ∙ sym (append-nil said))
+plays_one_more old (first ∷ lines) line printed said mid new h p = (
   h.0,
   h.1,
-  h.2 ++ answer_text answer,
+  h.2 ++ said,
   h.3,
-  plays_one_more weight h.1 steps step h.2 mid new answer h.4 s,
-  ap (λ (p : List ℕ). p ++ answer_text answer) h.5 ∙ append_assoc (answer_text h.0) h.2 (answer_text answer),
+  plays_one_more h.1 lines line h.2 said mid new h.4 p,
+  ap (λ (front : List ℕ). front ++ said) h.5 ∙ append_assoc h.0 h.2 said,
 )
 
-module _ (weight : Weigher) (old : World) (steps : List Step) (i : ℕ) (step : Step) (mid new : Real) (a b c : Bytes) (lt : i < length steps) (is : step ≡ get_or steps i step) (h : PlaysTo weight old (take i steps) mid a b) (answer : Answer) (f : Follows weight h.reached step answer new) where
-  all : take (i + 1) steps ≡ take i steps ++ step ∷ []
-  all = take_more steps i step lt ∙ ap (λ (s : Step). take i steps ++ s ∷ []) (sym is)
+module _ (weigher : Weigher) (old : World) (lines : List Line) (i : ℕ) (line : Line) (mid new : List Seen) (a b c : Known) (lt : i < length lines) (is : line ≡ get_or lines i line) (h : PlaysTo weigher old (take i lines) mid a b) (speaks : Speaks weigher h.reached line new) where
+  all : take (i + 1) lines ≡ take i lines ++ line ∷ []
+  all = take_more lines i line lt ∙ ap (λ (l : Line). take i lines ++ l ∷ []) (sym is)
 
-  more : Plays weight old (take (i + 1) steps) (h.printed ++ answer_text answer) f.0
-  more = rw all (plays_one_more weight old (take i steps) step h.printed h.reached f.0 answer h.plays f.1)
+  more : Plays old (take (i + 1) lines) (h.printed ++ speaks.said) speaks.after
+  more = rw all (plays_one_more old (take i lines) line h.printed speaks.said h.reached speaks.after h.plays speaks.prints)
 
-  -- a step whose text was written whole
-  pub goes_on : Appends b c (answer_text answer) → PlaysTo weight old (take (i + 1) steps) new a c
+  same : speaks.after.is_message ≡ h.reached.is_message
+  same = let run = line_run h.reached line speaks.said speaks.after speaks.prints in run_same h.reached run.0 run.1 speaks.after run.2
+
+  -- a line whose text was written whole
+  pub goes_on : Appends b c speaks.said → PlaysTo weigher old (take (i + 1) lines) new a c
   goes_on w = record {
-    printed = h.printed ++ answer_text answer;
-    reached = f.0;
+    printed = h.printed ++ speaks.said;
+    reached = speaks.after;
     plays = more;
-    stands = f.2;
-    writes = Appends-trans a b c h.printed (answer_text answer) h.writes w;
+    stands = speaks.stands;
+    tells = subst TellsMessages (sym same) h.tells;
+    writes = Appends-trans a b c h.printed speaks.said h.writes w;
   }
 
-  -- a step whose text was cut short
-  pub cut_front : (count : ℕ) → Appends b c (take count (answer_text answer)) → PrintsFront weight old steps a c
+  -- a line whose text was cut short
+  pub cut_front : (count : ℕ) → Appends b c (take count speaks.said) → PrintsFrontFrom old lines a c
   cut_front count w = record {
     made = i + 1;
     bytes = length h.printed + count;
-    printed = h.printed ++ answer_text answer;
-    final = f.0;
+    printed = h.printed ++ speaks.said;
+    final = speaks.after;
     plays = more;
-    writes = rw (take-append-add h.printed (answer_text answer) count) (Appends-trans a b c h.printed (take count (answer_text answer)) h.writes w);
+    writes = rw (take-append-add h.printed speaks.said count) (Appends-trans a b c h.printed (take count speaks.said) h.writes w);
   }
 
--- what all of the steps print is a front of itself
-pub whole_front : (weight : Weigher) (old : World) (steps : List Step) (i : ℕ) (mid : Real) (a b : Bytes) → PlaysTo weight old (take i steps) mid a b → PrintsFront weight old steps a b
-whole_front weight old steps i mid a b h = record {
+-- what all of the lines print is a front of itself
+pub whole_front : (weigher : Weigher) (old : World) (lines : List Line) (i : ℕ) (mid : List Seen) (a b : Known) → PlaysTo weigher old (take i lines) mid a b → PrintsFrontFrom old lines a b
+whole_front weigher old lines i mid a b h = record {
   made = i;
   bytes = length h.printed;
   printed = h.printed;
@@ -85,11 +95,25 @@ whole_front weight old steps i mid a b h = record {
   writes = rw (take_all (length h.printed) h.printed (omega arith)) h.writes;
 }
 
--- what all of the steps print
-pub whole : (weight : Weigher) (old : World) (steps : List Step) (i : ℕ) (mid : Real) (a b : Bytes) → length steps ≤ i → PlaysTo weight old (take i steps) mid a b → PrintsAll weight old steps a b
-whole weight old steps i mid a b end h = record {
+-- what all of the lines print
+pub whole : (weigher : Weigher) (old : World) (lines : List Line) (i : ℕ) (mid : List Seen) (a b : Known) → length lines ≤ i → PlaysTo weigher old (take i lines) mid a b → PrintsAllFrom old lines a b
+whole weigher old lines i mid a b end h = record {
   printed = h.printed;
   final = h.reached;
-  plays = rw (take_all i steps end) at h.plays;
+  plays = rw (take_all i lines end) at h.plays;
   writes = h.writes;
 }
+
+module _ {weigher : Weigher} {model : World} {line : Line} {new : List Seen} where
+  -- a line of which no text was written
+  pub said_none : (a : Known) → Speaks weigher model line new → (speaks : Speaks weigher model line new) × (count : ℕ) × Appends a a (take count speaks.said)
+  said_none a speaks = (speaks, 0, Appends-nil a)
+
+  -- a line whose text was cut short
+  pub said_front : {X : Type 0} (result : Result X Fault) (Q : Fault → Type 0) (a b : Known) (text : List ℕ) → IsErrAnd result Q → (s : (speaks : Speaks weigher model line new) × (text ≡ speaks.said)) → ((count : ℕ) × Appends a b (take count text)) → PlaysLine weigher model line new a b result
+  said_front (Ok x) Q a b text err s w = absurd err
+  said_front (Err fault) Q a b text err s w = (s.0, w.0, rw s.1 at w.1)
+
+  -- a line whose text was written whole
+  pub said_all : (a b : Known) (text : List ℕ) → (s : (speaks : Speaks weigher model line new) × (text ≡ speaks.said)) → Appends a b text → (speaks : Speaks weigher model line new) × Appends a b speaks.said
+  said_all a b text s w = (s.0, rw s.1 at w)

@@ -1,8 +1,6 @@
-pub mod Faults
-pub mod Tells
-pub mod Reading
-pub mod Ends
-pub mod Run
+pub mod Prints
+pub mod Plays
+pub mod Playing
+pub mod Simulating
+pub mod Performing
 pub mod Runs
-pub mod Placing
-pub mod CommandLine

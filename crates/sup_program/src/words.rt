@@ -2,25 +2,27 @@
 
 ghost use Rattle.std.specs.Prelude.{◌≡◌, ◌≢◌, IfErr, IfOk, map, string_bytes};
 ghost use Rattle.std.specs.IoError.{error_kind};
-ghost use Rattle.sup_program.specs.Faults.{no_text_line};
-ghost use Rattle.sup_program.specs.Run.{TellsUsage, WantsMemory};
-ghost use Rattle.sup_program.specs.Runs.{Runs, RunsWithout};
+ghost use Rattle.sup_program.specs.Runs.{no_text_line, Runs, RunsWithout};
+ghost use Rattle.sup_program.specs.Performing.{TellsUsage, WantsMemory};
 
-use crate::fault::Ended;
-use crate::output::put_all;
 use crate::run::{USAGE, run, want_of_memory};
 use std::alloc::Global;
 use std::env::{self, Env};
 use std::io::{self, ErrorKind, Read, Write};
+use sup_jobs::{Ended, put_all};
 
 /// The words after the program's name, in their order.
+///
+/// # Errors
+///
+/// Where a word is no UTF-8, or memory was refused (`ErrorKind::OutOfMemory`).
 pub fn words_of<R: Env + AllocGlobal>(rt: &R) -> io::Result<Vec<String>> {
     let words = env::args(rt)?.skip(1).collect(rt.alloc())?;
     Ok(words)
 }
 
-/// Runs the program with the words after its name, or tells why they can't be had. Answers the exit
-/// status.
+/// Runs the program with the words after its name, or tells why they can't be had. Answers the exit status: that of `run`, or 3 where
+/// memory for the words was refused, or else `USAGE`.
 pub fn run_with<R: Read, W: Write, E: Write>(
     alloc: Global,
     words: io::Result<Vec<String>>,
@@ -42,7 +44,7 @@ pub fn run_with<R: Read, W: Write, E: Write>(
     }
 }
 
-// Words that are no text are refused as words that are no command.
+// Words that are no text are refused as words that are no command. Want of memory is told as such.
 fn without_words<E: Write>(error: &io::Error, errors: &mut E) -> Ended
     ensures usage { error_kind error.now ≢ ErrorKind.OutOfMemory
         → TellsUsage no_text_line (E.contents errors.old) (E.contents errors.new) result }

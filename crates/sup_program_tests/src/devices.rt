@@ -1,8 +1,15 @@
-//! Readers, writers and memory that fail.
-
+//! Readers and writers that fail.
 use crate::runs::{OUTPUT, SCRIPT, expect_run, simulate};
 use std::alloc::Global;
 use std::io::{self, ErrorKind, Read, Write};
+use std::process::Abort;
+use sup_program::run;
+
+/// A script of steps, and what it prints: answers, effects and letters.
+const STEPS: &[u8] = b"nodes a b\njoin b\nstart b web\nship b a\nsettle\nshow a\nwhere a www\n";
+
+const STEPS_OUTPUT: &[u8] =
+    b"ok (b,1)\nok (b,2)\n  b start web 1.1\nok sent\n  sent b 1 to a delta 2 part\nok settled 4\nnode a boot 1\nmember b (b,1) label=\nchild web (b,2) worker permanent 5000 arg= on b\nwww unknown\n";
 
 /// A reader that is interrupted so often, then gives a byte at a time, and then ends or fails.
 #[derive(Drop)]
@@ -94,18 +101,58 @@ fn an_interrupted_reader_is_asked_again(rt: HostRuntime) {
     expect_run(&rt, &mut byte_by_byte(1000, true), 0, OUTPUT, b"");
 }
 
+// Reading comes before the form of what was read.
+#[test]
+fn a_reader_that_fails_behind_a_bad_line_is_a_device_fault(rt: HostRuntime) {
+    let mut reader = Slow {
+        bytes: b"show a\n",
+        interrupts: 0,
+        ends: false,
+    };
+    expect_run(&rt, &mut reader, 3, b"", b"device\n");
+}
+
+// Expects the front of a simulation's output that there is room for.
+fn expect_front(rt: &(impl Abort + AllocGlobal), input: &[u8], output: &[u8], room: usize) {
+    let mut reader = input;
+    let mut writer = Short::new(rt.alloc(), room);
+    let mut errors = Vec::new(rt.alloc());
+    let words = ["simulate", "--weigh", "flat"];
+    let status = run(rt.alloc(), &words, &mut reader, &mut writer, &mut errors);
+    let count = output.len().min(room);
+    assert!(rt; writer.bytes.as_slice() == &output[..count]);
+    if room < output.len() {
+        assert!(rt; status == 3 && errors.as_slice() == b"device\n".as_slice());
+    } else {
+        assert!(rt; status == 0 && errors.is_empty());
+    }
+}
+
 #[test]
 fn what_was_written_before_a_fault_stays(rt: HostRuntime) {
-    for room in 0..OUTPUT.len() + 1 {
+    for room in 0..OUTPUT.len() + 2 {
+        expect_front(&rt, SCRIPT, OUTPUT, room);
+    }
+}
+
+#[test]
+fn what_steps_wrote_before_a_fault_stays(rt: HostRuntime) {
+    for room in 0..STEPS_OUTPUT.len() + 2 {
+        expect_front(&rt, STEPS, STEPS_OUTPUT, room);
+    }
+}
+
+#[test]
+fn what_a_placement_wrote_before_a_fault_stays(rt: HostRuntime) {
+    let output = b"web a\ndb a\n".as_slice();
+    for room in 0..output.len() {
+        let mut reader = b"members b a\nweb\ndb\n".as_slice();
         let mut writer = Short::new(rt.alloc(), room);
         let mut errors = Vec::new(rt.alloc());
-        let status = simulate(rt.alloc(), &mut SCRIPT, &mut writer, &mut errors);
-        assert!(rt; writer.bytes.as_slice() == &OUTPUT[..room]);
-        if room == OUTPUT.len() {
-            assert!(rt; status == 0 && errors.is_empty());
-        } else {
-            assert!(rt; status == 3 && errors.as_slice() == b"device\n".as_slice());
-        }
+        let words = ["place", "--weigh", "flat"];
+        let status = run(rt.alloc(), &words, &mut reader, &mut writer, &mut errors);
+        assert!(rt; writer.bytes.as_slice() == &output[..room]);
+        assert!(rt; status == 3 && errors.as_slice() == b"device\n".as_slice());
     }
 }
 
@@ -122,22 +169,17 @@ fn faults_of_the_error_writer_are_passed_over(rt: HostRuntime) {
     }
 }
 
-// Run with each allocation refused in turn: this test takes no memory of its own.
 #[test]
-fn a_refused_allocation_ends_the_run_or_changes_nothing(rt: HostRuntime) {
-    let mut printed = [0u8; 64];
-    let mut told = [0u8; 32];
-    let mut writer = printed.as_mut_slice();
-    let mut errors = told.as_mut_slice();
-    let status = simulate(rt.alloc(), &mut SCRIPT, &mut writer, &mut errors);
-    let written = 64usize.saturating_sub(writer.len());
-    let told_count = 32usize.saturating_sub(errors.len());
-    if status == 0 {
-        assert!(rt; written == OUTPUT.len() && told_count == 0);
-    } else {
-        assert!(rt; status == 3 && told_count == 14 && told.starts_with(b"out of memory\n"));
-        assert!(rt; written <= OUTPUT.len());
-    }
-    let mut pairs = printed.iter().zip(OUTPUT).take(written);
-    assert!(rt; pairs.all(|(byte, wanted)| byte == wanted));
+fn usage_that_cant_be_told_keeps_its_status(rt: HostRuntime) {
+    let mut reader = SCRIPT;
+    let mut writer = Vec::new(rt.alloc());
+    let mut errors = Short::new(rt.alloc(), 0);
+    let status = run(
+        rt.alloc(),
+        &["simulat"],
+        &mut reader,
+        &mut writer,
+        &mut errors,
+    );
+    assert!(rt; status == 2 && writer.is_empty() && errors.bytes.is_empty());
 }

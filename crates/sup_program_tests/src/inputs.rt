@@ -1,5 +1,5 @@
 //! Inputs of the greatest length.
-use crate::runs::{OUTPUT, SCRIPT, expect_run};
+use crate::runs::{OUTPUT, SCRIPT, expect, expect_run};
 use std::test::Fail;
 
 #[test]
@@ -12,5 +12,17 @@ fn an_input_has_at_most_1048576_bytes(rt: HostRuntime) -> Result<(), Fail> {
     input.extend_from_slice(SCRIPT)?;
     assert!(rt; input.len() == 1_048_576);
     expect_run(&rt, &mut input.as_slice(), 0, OUTPUT, b"");
+    Ok(())
+}
+
+// The length is looked at before the lines.
+#[test]
+fn an_input_that_is_too_long_has_no_bad_line(rt: HostRuntime) -> Result<(), Fail> {
+    let input = vec![in rt.alloc(); b'x'; 1_048_577]?;
+    expect(&rt, &["simulate"], input.as_slice(), 1, b"", b"bad input\n");
+    expect(&rt, &["place"], input.as_slice(), 1, b"", b"bad input\n");
+    let shorter = &input.as_slice()[1..];
+    expect(&rt, &["simulate"], shorter, 1, b"", b"bad line 1\n");
+    expect(&rt, &["place"], shorter, 1, b"", b"bad line 1\n");
     Ok(())
 }

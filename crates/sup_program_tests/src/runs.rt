@@ -1,8 +1,8 @@
-//! Runs of `simulate` over given devices, and what they have to give.
+//! Runs of the program over given words and devices, and what they have to give.
 use std::alloc::Global;
 use std::io::{Read, Write};
 use std::process::Abort;
-use sup_program::run::run;
+use sup_program::{USAGE, run};
 
 /// A script with skipped lines, and what it prints.
 pub(crate) const SCRIPT: &[u8] = b"# two nodes\nnodes a b\n\nshow b\nshow z\nshow a\n";
@@ -18,7 +18,7 @@ pub(crate) fn simulate<R: Read, W: Write, E: Write>(
     run(alloc, &["simulate"], reader, writer, errors)
 }
 
-/// Expects what a run over this reader writes, and its status.
+/// Expects what a simulation over this reader writes, and its status.
 pub(crate) fn expect_run<R: Read>(
     rt: &(impl Abort + AllocGlobal),
     reader: &mut R,
@@ -30,4 +30,42 @@ pub(crate) fn expect_run<R: Read>(
     let mut told = Vec::new(rt.alloc());
     assert!(rt; simulate(rt.alloc(), reader, &mut written, &mut told) == status);
     assert!(rt; written.as_slice() == output && told.as_slice() == errors);
+}
+
+/// Expects what a run with these words over this input writes, and its status.
+pub(crate) fn expect(
+    rt: &(impl Abort + AllocGlobal),
+    words: &[&str],
+    input: &[u8],
+    status: u8,
+    output: &[u8],
+    errors: &[u8],
+) {
+    let mut reader = input;
+    let mut written = Vec::new(rt.alloc());
+    let mut told = Vec::new(rt.alloc());
+    let ended = run(rt.alloc(), words, &mut reader, &mut written, &mut told);
+    assert!(rt; ended == status, "{ended}");
+    assert!(rt; written.as_slice() == output && told.as_slice() == errors);
+}
+
+/// Expects what a simulation writes in which all members weigh alike.
+pub(crate) fn expect_flat(rt: &(impl Abort + AllocGlobal), input: &[u8], output: &[u8]) {
+    expect(rt, &["simulate", "--weigh", "flat"], input, 0, output, b"");
+}
+
+/// Expects a simulation that is refused for its input.
+pub(crate) fn expect_bad(rt: &(impl Abort + AllocGlobal), input: &[u8], errors: &[u8]) {
+    expect(rt, &["simulate"], input, 1, b"", errors);
+}
+
+/// Expects that these words are refused, for whatever reason is told.
+pub(crate) fn expect_usage(rt: &(impl Abort + AllocGlobal), words: &[&str], input: &[u8]) {
+    let mut reader = input;
+    let mut written = Vec::new(rt.alloc());
+    let mut told = Vec::new(rt.alloc());
+    let ended = run(rt.alloc(), words, &mut reader, &mut written, &mut told);
+    assert!(rt; ended == USAGE && ended == 2);
+    assert!(rt; reader.len() == input.len());
+    assert!(rt; written.is_empty() && !told.is_empty());
 }

@@ -1,11 +1,12 @@
 //! The words that the program is started with.
-
 use std::env::{Env, FillError};
-use sup_program::words::words_of;
+use std::io::ErrorKind;
+use std::process::Abort;
+use sup_program::{run_with, words_of};
 
 /// Arguments, the program's name first.
 #[derive(Clone, Copy)]
-struct Started<'a>(&'a [&'a str]);
+struct Started<'a>(&'a [&'a [u8]]);
 
 impl Env for Started<'_> {
     fn arg(&self, i: usize, buffer: &mut [u8]) -> Result<usize, FillError> {
@@ -15,7 +16,7 @@ impl Env for Started<'_> {
         if argument.len() > buffer.len() {
             return Err(FillError::TooLong);
         }
-        buffer[..argument.len()].copy_from_slice(argument.as_bytes());
+        buffer[..argument.len()].copy_from_slice(argument);
         Ok(argument.len())
     }
 
@@ -30,7 +31,7 @@ impl Env for Started<'_> {
 
 #[test]
 fn the_words_are_all_that_come_after_the_name(rt: HostRuntime) {
-    let started = Started(&["supctl", "simulate", "--weigh", "flat", "more"]);
+    let started = Started(&[b"supctl", b"simulate", b"--weigh", b"flat", b"more"]);
     let words = words_of(&(started, rt.alloc()));
     assert!(rt; words.is_ok());
     let words = words.unwrap_or(Vec::new(rt.alloc()));
@@ -43,6 +44,54 @@ fn the_words_are_all_that_come_after_the_name(rt: HostRuntime) {
 
 #[test]
 fn a_name_alone_has_no_words(rt: HostRuntime) {
-    let words = words_of(&(Started(&["supctl"]), rt.alloc()));
+    let words = words_of(&(Started(&[b"supctl"]), rt.alloc()));
     assert!(rt; words.is_ok_and(|words| words.is_empty()));
+    let words = words_of(&(Started(&[]), rt.alloc()));
+    assert!(rt; words.is_ok_and(|words| words.is_empty()));
+}
+
+#[test]
+fn a_word_that_is_no_text_is_a_fault(rt: HostRuntime) {
+    let started = Started(&[b"supctl", b"simulate", b"\xff"]);
+    let fault = words_of(&(started, rt.alloc())).err();
+    assert!(rt; fault.is_some_and(|fault| fault.kind() == ErrorKind::InvalidData));
+}
+
+// Expects what a run writes that was started so, and its status.
+fn expect_started(
+    rt: &(impl Abort + AllocGlobal),
+    arguments: &[&[u8]],
+    status: u8,
+    output: &[u8],
+    errors: &[u8],
+) {
+    let words = words_of(&(Started(arguments), rt.alloc()));
+    let mut reader = b"nodes a\nshow a\n".as_slice();
+    let mut written = Vec::new(rt.alloc());
+    let mut told = Vec::new(rt.alloc());
+    let ended = run_with(rt.alloc(), words, &mut reader, &mut written, &mut told);
+    assert!(rt; ended == status);
+    assert!(rt; written.as_slice() == output && told.as_slice() == errors);
+    assert!(rt; reader.is_empty() == (status == 0));
+}
+
+#[test]
+fn a_run_has_the_words_that_it_was_started_with(rt: HostRuntime) {
+    let shown = b"node a boot 1\n";
+    expect_started(&rt, &[b"supctl", b"simulate"], 0, shown, b"");
+    let words: [&[u8]; 4] = [b"supctl", b"simulate", b"--weigh", b"flat"];
+    expect_started(&rt, &words, 0, shown, b"");
+}
+
+#[test]
+fn words_that_are_no_text_are_refused_unread(rt: HostRuntime) {
+    let line = b"error: invalid UTF-8 was detected in one or more arguments\n";
+    expect_started(&rt, &[b"supctl", b"\xff"], 2, b"", line);
+    expect_started(
+        &rt,
+        &[b"supctl", b"simulate", b"--weigh", b"\xc3\x28"],
+        2,
+        b"",
+        line,
+    );
 }

@@ -1,22 +1,20 @@
-//! The private world of a script: its nodes, and every message that each of them sent.
+//! A world of stations: any network, in any order. Its steps are those of `sup_model`, and so are its model and laws.
 #![tactic(auto)]
 
 mod acts;
 pub mod answer;
-pub mod command;
-pub mod laws;
-pub mod line;
-mod lines;
-mod node;
-mod outbox;
-pub mod refusal;
+mod arriving;
+mod carrying;
+pub mod fault;
+mod names;
+pub mod settled;
+pub mod settling;
+pub mod site;
 pub mod state;
-pub mod step;
+pub mod tally;
 mod world;
 
-pub use answer::{Answer, Dots, Letter, LetterKind};
-pub use command::Command;
-pub use line::{Key, Line, Lines, Place};
-pub use refusal::Refusal;
+pub use answer::{Answer, Answers};
+pub use fault::WorldFault;
+pub use settled::Settled;
 pub use state::World;
-pub use step::Step;

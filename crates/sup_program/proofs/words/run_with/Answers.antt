@@ -1,12 +1,11 @@
 use Rattle.std.proofs.Common.{refl}
+use Rattle.sup_program.proofs.Endings.{ended_so}
 use Rattle.sup_program.proofs.words.run_with.Goals as goal
 
 pub returns-in-Err-clause-without : goal.returns-in-Err-clause-without
-returns-in-Err-clause-without g c =
-    let ended = c.without_words-ended.result in
-    rw c.in-Err.is (record {
-      usage = λ other. (ended, refl, c.without_words-ended.ensures.usage other);
-      memory = λ same. (ended, refl, c.without_words-ended.ensures.memory same);
-      unread = refl;
-      unwritten = refl;
-    })
+returns-in-Err-clause-without g c = rw c.in-Err.is (record {
+  usage = λ other. ended_so _ _ (c.without_words-ended.ensures.usage other);
+  memory = λ same. ended_so _ _ (c.without_words-ended.ensures.memory same);
+  unread = refl;
+  unwritten = refl;
+})

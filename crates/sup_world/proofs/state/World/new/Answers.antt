@@ -1,14 +1,18 @@
-use Rattle.std.proofs.Common.{sym, ◌∙◌, map}
-use Rattle.sup_world.specs.Worlds.{new_site}
-use Rattle.sup_world.specs.Stands.{NodeStandsFor, OutboxStandsFor}
-use Rattle.sup_world.proofs.PlaceLaws.{same_length}
-use Rattle.sup_world.proofs.RunLaws.{new_sound}
+use Rattle.std.proofs.Common.{map}
+use Rattle.sup_world.specs.Seen.{seen_of}
+use Rattle.sup_world.specs.Naming.{AreWorldNames}
+use Rattle.sup_world.proofs.Newness.{shows_new, stands_new, unfailed_new}
 use Rattle.sup_world.proofs.state.World.new.Goals as goal
 
-pub invariant_of-result : goal.invariant_of-result
-invariant_of-result c =
-    let sites = map new_site c.args.names.now in
-    record { paired = same_length OutboxStandsFor c.in_ok-outboxes.outboxes.items sites c.in_ok-outboxes.ensures ∙ sym (same_length NodeStandsFor c.in_ok-nodes.nodes.items sites c.in_ok-nodes.ensures) }
+pub returns-clause-shows : goal.returns-clause-shows
+returns-clause-shows g c codec =
+    let named : AreWorldNames c.args.names.now = c.are_world_names.ensures.0 c.if-not-are_world_names.false in
+    shows_new c.args.config g.W.Weigh.weight_of codec c.args.names.now (map seen_of c.in_ok-sites.sites.items) named.apart c.in_ok-sites.ensures.new
 
-pub returns : goal.returns
-returns c = record { nodes_stand = c.in_ok-nodes.ensures; outboxes_stand = c.in_ok-outboxes.ensures; sound = new_sound c.args.names.now }
+pub returns-clause-stands : goal.returns-clause-stands
+returns-clause-stands g c is_message =
+    let named : AreWorldNames c.args.names.now = c.are_world_names.ensures.0 c.if-not-are_world_names.false in
+    stands_new c.args.config g.W.Weigh.weight_of is_message c.args.names.now (map seen_of c.in_ok-sites.sites.items) named.apart c.in_ok-sites.ensures.new
+
+pub returns-clause-unfailed : goal.returns-clause-unfailed
+returns-clause-unfailed g c = unfailed_new c.args.config c.args.names.now (map seen_of c.in_ok-sites.sites.items) c.in_ok-sites.ensures.new

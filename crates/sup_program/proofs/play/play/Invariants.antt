@@ -1,0 +1,14 @@
+use Rattle.std.proofs.Common.{take}
+use Rattle.sup_model.specs.Worlds.{World}
+use Rattle.sup_world.specs.Following.{StandsFor}
+use Rattle.sup_world.specs.Seen.{sites_of}
+use Rattle.sup_program.specs.Prints.{TellsMessages}
+use Rattle.sup_program.proofs.Counts.{FailedAtMost}
+use Rattle.sup_program.proofs.Playing.{PlaysTo}
+use Rattle.sup_program.proofs.play.play.Given as goal
+
+abbrev pub invariant-loop-line : goal.invariant-loop-line
+invariant-loop-line g l = record {
+  counted : FailedAtMost l.line-index (sites_of l.world);
+  plays : (model : World) → StandsFor g.G.Weigh.weight_of (sites_of l.fn.world) model → TellsMessages model.is_message → PlaysTo g.G.Weigh.weight_of model (take l.line-index l.lines) (sites_of l.world) (g.W.Write.contents l.fn.writer) (g.W.Write.contents l.writer);
+}

@@ -1,5 +1,0 @@
-use Rattle.sup_programs.proofs.PlayedRuns.{played_worlds_keep}
-use Rattle.sup_programs.proofs.laws.played_worlds_keep.Goals as goal
-
-pub returns : goal.returns
-returns c = played_worlds_keep

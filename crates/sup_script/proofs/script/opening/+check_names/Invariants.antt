@@ -1,5 +1,0 @@
-use Rattle.std.proofs.Common.{length}
-use Rattle.sup_script.proofs.script.opening.+check_names.Given as goal
-
-abbrev pub decreases-check_names : goal.decreases-check_names
-decreases-check_names l = length l.words.now

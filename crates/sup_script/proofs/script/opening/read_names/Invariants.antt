@@ -1,8 +1,0 @@
-use Rattle.std.proofs.Common.{◌≡◌, drop}
-use Rattle.sup_script.specs.Words.{texts}
-use Rattle.sup_script.specs.Forms.{names_of}
-use Rattle.sup_script.proofs.Loops.{after_names}
-use Rattle.sup_script.proofs.script.opening.read_names.Given as goal
-
-abbrev pub invariant-loop-word : goal.invariant-loop-word
-invariant-loop-word l = after_names l.names.items (names_of (texts (drop l.word-index l.words))) ≡ names_of (texts l.words)

@@ -1,5 +1,0 @@
-use Rattle.sup_script.proofs.WordValues.{stripped}
-use Rattle.sup_script.proofs.script.options.value_after.Goals as goal
-
-pub returns : goal.returns
-returns c = stripped _ _ _ c.strip_prefix.ensures.cases

@@ -1,0 +1,195 @@
+-- What an exchange does, by what its three steps are answered.
+use Rattle.std.specs.Prelude.{◌≡◌, ◌≢◌, ℕ, List, [], ◌∷◌, Option, Some, None, Result, Ok, Err, IsErrAnd, OnOk, refl}
+use Rattle.std.proofs.Common.{sym, ap, ◌∙◌, subst, arith}
+use mathlib.Core.Logic.{inl, inr}
+use Rattle.sup_specs.specs.Values.{Bytes}
+use Rattle.sup_placement.specs.Place.{Weigher}
+use Rattle.sup_replica.specs.declared.refusal.Refusal.{Refusal}
+use Rattle.sup_replica.specs.declared.refusal.Refusal.TheVariants.{OutOfMemory, UpToDate}
+use Rattle.sup_model.specs.declared.step.Step.{Step}
+use Rattle.sup_model.specs.Worlds.{World, Answer as Expected, Stepped, step}
+use Rattle.sup_model.specs.Runs.{Allows, answer_of, world_after}
+use Rattle.sup_model.specs.Settles.{Sent}
+use Rattle.sup_model.proofs.ExchangeLaws.{ship_answered}
+use Rattle.sup_world.specs.declared.tally.Tally.{Tally}
+use Rattle.sup_world.specs.Following.{StandsFor}
+use Rattle.sup_world.specs.Seen.{Seen}
+use Rattle.sup_world.specs.Settling.{IsRefusedBy}
+use Rattle.sup_world.specs.Tallies.{Notes}
+use Rattle.sup_world.specs.Exchanges.{ship_of, arrival, IsNoted, Ships, Comes, IsNotedAll, Goes}
+use Rattle.sup_world.proofs.Noting.{notes_none, notes_then}
+use Rattle.sup_world.proofs.Going.{refused_after}
+
+-- a step of the model that is answered well
+pub record Stepping (w : World) (s : Step) (e : Expected) (w' : World) : Type 0 where
+  pub x : Stepped
+  pub steps : step w s ≡ Ok x
+  pub answer : e ≡ x.answer
+  pub world : w' ≡ x.world
+
+ok_is : (x y : Expected) → (let r : Result Expected Refusal = Ok x in r) ≡ Ok y → x ≡ y
+ok_is x y e = cc
+
+ok_err : (x : Expected) (q : Refusal) → (let r : Result Expected Refusal = Ok x in r) ≡ Err q → ⊥
+ok_err x q e = cc
+
+stepped : (w : World) (s : Step) (e : Expected) (w' : World) (r : Result Stepped Refusal) → step w s ≡ r → Ok e ≡ answer_of r → w' ≡ world_after w r → Stepping w s e w'
+stepped w s e w' (Ok x) is a b = record { x = x; steps = is; answer = ok_is e x.answer a; world = b }
+stepped w s e w' (Err q) is a b = absurd (ok_err e q a)
+
+pub stepping : (w : World) (s : Step) (e : Expected) (w' : World) → Allows w s (Ok e) w' → Stepping w s e w'
+stepping w s e w' (inl h) = stepped w s e w' (step w s) refl h.0 h.1
+stepping w s e w' (inr (inl h)) = absurd (ok_err e OutOfMemory h.0)
+stepping w s e w' (inr (inr h)) = absurd (ok_err e UpToDate h.0)
+
+-- a step that was noted
+pub record Noted (w : World) (s : Step) (x : Result Expected Refusal) (w' : World) (old : Tally) (number : Option ℕ) (new : Tally) : Type 0 where
+  pub answer : Expected
+  pub is : x ≡ Ok answer
+  pub numbered : number ≡ answer.number
+  pub notes : Notes (x ∷ []) old new
+  pub makes : Stepping w s answer w'
+
+pub noted : (w : World) (s : Step) (x : Result Expected Refusal) (w' : World) (old : Tally) (number : Option ℕ) (new : Tally) → Allows w s x w' → IsNoted x old (Ok number) new → Noted w s x w' old number new
+noted w s (Ok e) w' old number new h n = record { answer = e; is = refl; numbered = n.0; notes = n.1; makes = stepping w s e w' h }
+noted w s (Err q) w' old number new h n = absurd n
+
+-- one that wasn't
+pub refused_one : (x : Result Expected Refusal) (old new : Tally) (r : Refusal) → IsNoted x old (Err r) new → r ≢ UpToDate → IsRefusedBy (x ∷ []) r
+refused_one (Ok e) old new r h n = inl h
+refused_one (Err q) old new r h n = inr ((0, omega arith, ap (λ (p : Refusal). let y : Result Expected Refusal = Err p in y) (sym h.0)), n)
+
+-- the same refusal told by a result
+refused_as : {X : Type 0} (answers : List (Result Expected Refusal)) (old new : Tally) (result : Result X Refusal) (r : Refusal) → IsErrAnd result (λ q. q ≡ r) → IsRefusedBy answers r → IsNotedAll answers old result new
+refused_as answers old new (Ok x) r e h = absurd e
+refused_as answers old new (Err q) r e h = subst (IsRefusedBy answers) (sym e) h
+
+err_any : {X : Type 0} (P : Type 0) (result : Result X Refusal) (r : Refusal) → IsErrAnd result (λ q. q ≡ r) → OnOk result P
+err_any P (Ok x) r e = absurd e
+err_any P (Err q) r e = tt
+
+some_none : (number : Option ℕ) (n : ℕ) → None ≡ number → number ≡ Some n → ⊥
+some_none number n e f = cc
+
+module _ (weigher : Weigher) (model : World) (a b : Bytes) (old : Tally) where
+  -- the ship is refused
+  pub exchange_unsent : (new : Tally) (sites : List Seen) (r : Refusal) (result : Result (Unit {0}) Refusal) → IsErrAnd result (λ q. q ≡ r) → Ships weigher model a b old (Err r) new sites → Goes weigher model ((a, b) ∷ []) old result new sites
+  exchange_unsent new sites r result e h = record {
+    steps = ship_of a b ∷ [];
+    answers = h.expected ∷ [];
+    after = h.after;
+    runs = (h.after, h.allows, refl);
+    noted = refused_as (h.expected ∷ []) old new result r e (refused_one h.expected old new r h.noted.0 h.noted.1);
+    exchanged = err_any _ result r e;
+    stands = h.stands;
+  }
+
+  -- it is passed over
+  pub exchange_passed : (new : Tally) (sites : List Seen) → Ships weigher model a b old (Ok None) new sites → Goes weigher model ((a, b) ∷ []) old (let r : Result (Unit {0}) Refusal = Ok tt in r) new sites
+  exchange_passed new sites h = record {
+    steps = [];
+    answers = [];
+    after = model;
+    runs = refl;
+    noted = subst (λ (t : Tally). Notes [] old t) (sym h.noted.3) (notes_none old);
+    exchanged = (model, inr (h.noted.1, refl), refl);
+    stands = subst (StandsFor weigher sites) h.noted.2 h.stands;
+  }
+
+  module _ (k : ℕ) (sent : Tally) (shipped : List Seen) (h : Ships weigher model a b old (Ok (Some k)) sent shipped) where
+    pub mid : World
+    mid = h.after
+
+    pub mid_stands : StandsFor weigher shipped h.after
+    mid_stands = h.stands
+
+    ship : Noted model (ship_of a b) h.expected h.after old (Some k) sent
+    ship = noted model (ship_of a b) h.expected h.after old (Some k) sent h.allows h.noted
+
+    -- the delivery is refused
+    pub exchange_unbrought : (new : Tally) (sites : List Seen) (r : Refusal) (result : Result (Unit {0}) Refusal) → IsErrAnd result (λ q. q ≡ r) → Comes weigher h.after a k sent (Err r) new sites → Goes weigher model ((a, b) ∷ []) old result new sites
+    exchange_unbrought new sites r result e d = record {
+      steps = ship_of a b ∷ arrival a k ∷ [];
+      answers = h.expected ∷ d.0.expected ∷ [];
+      after = d.0.after;
+      runs = (h.after, h.allows, (d.0.after, d.0.allows, refl));
+      noted = refused_as (h.expected ∷ d.0.expected ∷ []) old new result r e (refused_after (h.expected ∷ []) (d.0.expected ∷ []) r (refused_one d.0.expected sent new r d.0.noted d.1));
+      exchanged = err_any _ result r e;
+      stands = d.0.stands;
+    }
+
+    at_ship : Stepping model (ship_of a b) ship.answer h.after
+    at_ship = ship.makes
+
+    ship_number : at_ship.x.answer.number ≡ Some k
+    ship_number = sym (ap (λ (y : Expected). y.number) at_ship.answer) ∙ sym ship.numbered
+
+    -- the receiver always acknowledges
+    module _ (number : Option ℕ) (brought : Tally) (came : List Seen) (d : Comes weigher h.after a k sent (Ok number) brought came) where
+      arrives : Noted h.after (arrival a k) d.0.expected d.0.after sent number brought
+      arrives = noted h.after (arrival a k) d.0.expected d.0.after sent number brought d.0.allows d.0.noted
+
+      at_arrival : Stepping h.after (arrival a k) arrives.answer d.0.after
+      at_arrival = arrives.makes
+
+      comes : step at_ship.x.world (arrival a k) ≡ Ok at_arrival.x
+      comes = subst (λ (w : World). step w (arrival a k) ≡ Ok at_arrival.x) at_ship.world at_arrival.steps
+
+      arrival_number : at_arrival.x.answer.number ≡ number
+      arrival_number = sym (ap (λ (y : Expected). y.number) at_arrival.answer) ∙ sym arrives.numbered
+
+      pub always_answered : None ≡ number → ⊥
+      always_answered none =
+          let n = ship_answered model a b at_ship.x at_arrival.x k at_ship.steps ship_number comes in
+          some_none number n.0 none (sym arrival_number ∙ n.1)
+
+    module _ (n : ℕ) (brought : Tally) (came : List Seen) (d : Comes weigher h.after a k sent (Ok (Some n)) brought came) where
+      pub last : World
+      last = d.0.after
+
+      pub last_stands : StandsFor weigher came d.0.after
+      last_stands = d.0.stands
+
+      told_arrival : Noted h.after (arrival a k) d.0.expected d.0.after sent (Some n) brought
+      told_arrival = arrives (Some n) brought came d
+
+      -- the acknowledgement is refused
+      pub exchange_untold : (new : Tally) (sites : List Seen) (r : Refusal) (result : Result (Unit {0}) Refusal) → IsErrAnd result (λ q. q ≡ r) → Comes weigher d.0.after b n brought (Err r) new sites → Goes weigher model ((a, b) ∷ []) old result new sites
+      exchange_untold new sites r result e t = record {
+        steps = ship_of a b ∷ arrival a k ∷ arrival b n ∷ [];
+        answers = h.expected ∷ d.0.expected ∷ t.0.expected ∷ [];
+        after = t.0.after;
+        runs = (h.after, h.allows, (d.0.after, d.0.allows, (t.0.after, t.0.allows, refl)));
+        noted = refused_as (h.expected ∷ d.0.expected ∷ t.0.expected ∷ []) old new result r e (refused_after (h.expected ∷ d.0.expected ∷ []) (t.0.expected ∷ []) r (refused_one t.0.expected brought new r t.0.noted t.1));
+        exchanged = err_any _ result r e;
+        stands = t.0.stands;
+      }
+
+      -- all three are made
+      pub exchange_done : (number : Option ℕ) (new : Tally) (sites : List Seen) → Comes weigher d.0.after b n brought (Ok number) new sites → Goes weigher model ((a, b) ∷ []) old (let r : Result (Unit {0}) Refusal = Ok tt in r) new sites
+      exchange_done number new sites t =
+          let third : Noted d.0.after (arrival b n) t.0.expected t.0.after brought number new = noted d.0.after (arrival b n) t.0.expected t.0.after brought number new t.0.allows t.0.noted in
+          let at_told : Stepping d.0.after (arrival b n) third.answer t.0.after = third.makes in
+          let second = at_arrival (Some n) brought came d in
+          let sending : Sent model a b t.0.after = record {
+            ship = at_ship.x;
+            k = k;
+            came = second.x;
+            n = n;
+            told = at_told.x;
+            ships = at_ship.steps;
+            number = ship_number;
+            comes = comes (Some n) brought came d;
+            answered = arrival_number (Some n) brought came d;
+            tells = subst (λ (w : World). step w (arrival b n) ≡ Ok at_told.x) second.world at_told.steps;
+            ends = at_told.world;
+          } in
+          record {
+            steps = ship_of a b ∷ arrival a k ∷ arrival b n ∷ [];
+            answers = h.expected ∷ d.0.expected ∷ t.0.expected ∷ [];
+            after = t.0.after;
+            runs = (h.after, h.allows, (d.0.after, d.0.allows, (t.0.after, t.0.allows, refl)));
+            noted = notes_then (h.expected ∷ []) (d.0.expected ∷ t.0.expected ∷ []) old sent new ship.notes (notes_then (d.0.expected ∷ []) (t.0.expected ∷ []) sent brought new told_arrival.notes third.notes);
+            exchanged = (t.0.after, inl sending, refl);
+            stands = t.0.stands;
+          }

@@ -1,0 +1,13 @@
+use Rattle.sup_world.specs.Carrying.{carried}
+use Rattle.sup_world.specs.Seen.{sites_of}
+use Rattle.sup_world.proofs.Making.{makes_err, makes_taken}
+use Rattle.sup_world.proofs.state.World.make.Goals as goal
+
+pub returns-in_err-answer-clause-makes : goal.returns-in_err-answer-clause-makes
+returns-in_err-answer-clause-makes g c model h knows =
+    makes_err g.W.Weigh.weight_of model (carried (sites_of c.args.self.now) c.args.step.now) c.args.tally.now (sites_of c.step.new.self) c.in_err-answer.field-0.0 c.from_residual.result c.from_residual.ensures.1 (c.in_err-answer.ensures.follows model h knows)
+
+pub returns-clause-makes : goal.returns-clause-makes
+returns-clause-makes g c model h knows =
+    makes_taken g.W.Weigh.weight_of model (carried (sites_of c.args.self.now) c.args.step.now) c.args.tally.now c.take.new.self (sites_of c.step.new.self) c.in_ok-answer.answer c.take.result
+    (c.in_ok-answer.ensures.follows model h knows) c.take.ensures.taken c.take.ensures.sent c.take.ensures.effects c.take.ensures.refused

@@ -1,8 +1,0 @@
-use Rattle.std.proofs.Common.{map, take}
-use Rattle.std.specs.List.{AllZip}
-use Rattle.sup_world.specs.Worlds.{new_site}
-use Rattle.sup_world.specs.Stands.{NodeStandsFor}
-use Rattle.sup_world.proofs.world.new_nodes.Given as goal
-
-abbrev pub invariant-loop-name : goal.invariant-loop-name
-invariant-loop-name l = AllZip NodeStandsFor l.nodes.items (map new_site (take l.name-index l.names))

@@ -1,5 +1,0 @@
-use Rattle.std.proofs.Common.{length}
-use Rattle.sup_worlds.proofs.names.+differ.Given as goal
-
-abbrev pub decreases-differ : goal.decreases-differ
-decreases-differ l = length l.names.now
