@@ -17,7 +17,18 @@ trap 'rm -rf "$work"' EXIT
   sup_station_tests rows::a_failed_save_leaves_the_dot_free \
   sup_station_tests rows::a_restart_whose_save_fails_leaves_the_node_stopped \
   sup_station_tests rows::an_overwritten_interval_is_sent_whole \
-  sup_station_tests rows::a_repeated_delivery_is_acknowledged_again
+  sup_station_tests rows::a_repeated_delivery_is_acknowledged_again \
+  sup_world_tests refused::a_world_refused_for_memory_is_made_when_asked_again \
+  sup_world_tests refused::a_step_refused_for_memory_changes_nothing_and_is_made_when_asked_again \
+  sup_world_tests refused::a_run_refused_for_memory_makes_no_step_and_is_made_when_asked_again \
+  sup_world_tests refused::a_settling_refused_for_memory_is_ended_when_asked_again \
+  sup_world_tests travels::an_interval_after_a_restart_is_sent \
+  sup_world_tests travels::an_add_beside_a_removal_stays \
+  sup_world_tests refusals::each_refusal_has_its_place \
+  sup_program_tests memory::a_refused_allocation_ends_the_run_or_changes_nothing \
+  sup_program_tests memory::a_refused_allocation_ends_the_run_or_refuses_a_step \
+  sup_program_tests memory::a_refused_allocation_ends_the_run_or_a_settling \
+  sup_program_tests memory::a_refused_allocation_ends_a_placement_or_changes_nothing
 "${CC:-cc}" -shared -fPIC -O1 -o "$work/refuse.so" "$top/bench/refuse_allocation.c" -ldl
 
 while [ $# -ge 2 ]; do

@@ -13,27 +13,26 @@ const REFUSED_OUTPUT: &[u8] = b"refused 19 OutOfMemory\nnode a boot 1\n";
 
 const SETTLED: &[u8] = b"nodes a b\nstart b x\nsettle\nsettle\nsettle\nshow a\n";
 
-const SETTLED_END: &[u8] =
-    b"ok settled 0\nnode a boot 1\nchild x (b,1) worker permanent 5000 arg= unplaced\n";
+const SETTLED_END: &[u8] = b"node a boot 1\nchild x (b,1) worker permanent 5000 arg= unplaced\n";
 
 const PLACED: &[u8] = b"members b a\nweb\n";
 
 /// What a run has written into these bytes, and its status.
 #[derive(Clone, Copy)]
-struct Ended {
+struct Outcome {
     status: u8,
     written: usize,
     told: usize,
 }
 
 // Runs over devices that take no memory.
-fn ended(
+fn run_lean(
     rt: &impl AllocGlobal,
     words: &[&str],
     input: &[u8],
     printed: &mut [u8],
     errors: &mut [u8],
-) -> Ended {
+) -> Outcome {
     let room = printed.len();
     let errors_room = errors.len();
     let mut reader = input;
@@ -46,7 +45,7 @@ fn ended(
         &mut writer,
         &mut error_writer,
     );
-    Ended {
+    Outcome {
         status,
         written: room.saturating_sub(writer.len()),
         told: errors_room.saturating_sub(error_writer.len()),
@@ -54,7 +53,7 @@ fn ended(
 }
 
 // A run that ends for want of memory says so, and has written a front of what it should; one that doesn't has written all.
-fn expect_front(rt: &impl Abort, ended: Ended, printed: &[u8], errors: &[u8], wanted: &[u8]) {
+fn expect_front(rt: &impl Abort, ended: Outcome, printed: &[u8], errors: &[u8], wanted: &[u8]) {
     if ended.status == 0 {
         assert!(rt; ended.told == 0 && ended.written == wanted.len());
     } else {
@@ -70,7 +69,7 @@ fn expect_front(rt: &impl Abort, ended: Ended, printed: &[u8], errors: &[u8], wa
 fn a_refused_allocation_ends_the_run_or_changes_nothing(rt: HostRuntime) {
     let mut printed = [0u8; 128];
     let mut errors = [0u8; 32];
-    let ended = ended(&rt, &["simulate"], SCRIPT, &mut printed, &mut errors);
+    let ended = run_lean(&rt, &["simulate"], SCRIPT, &mut printed, &mut errors);
     expect_front(&rt, ended, &printed, &errors, OUTPUT);
 }
 
@@ -79,7 +78,7 @@ fn a_refused_allocation_ends_a_placement_or_changes_nothing(rt: HostRuntime) {
     let mut printed = [0u8; 128];
     let mut errors = [0u8; 32];
     let words = ["place", "--weigh", "flat"];
-    let ended = ended(&rt, &words, PLACED, &mut printed, &mut errors);
+    let ended = run_lean(&rt, &words, PLACED, &mut printed, &mut errors);
     expect_front(&rt, ended, &printed, &errors, b"web a\n");
 }
 
@@ -88,7 +87,7 @@ fn a_refused_allocation_ends_a_placement_or_changes_nothing(rt: HostRuntime) {
 fn a_refused_allocation_ends_the_run_or_refuses_a_step(rt: HostRuntime) {
     let mut printed = [0u8; 128];
     let mut errors = [0u8; 32];
-    let ended = ended(&rt, &["simulate"], STEP, &mut printed, &mut errors);
+    let ended = run_lean(&rt, &["simulate"], STEP, &mut printed, &mut errors);
     if printed.starts_with(b"refused") {
         expect_front(&rt, ended, &printed, &errors, REFUSED_OUTPUT);
     } else {
@@ -96,12 +95,12 @@ fn a_refused_allocation_ends_the_run_or_refuses_a_step(rt: HostRuntime) {
     }
 }
 
-// A settling that is refused for memory prints that. The next one does what it lacks: in the end all is known.
+// A settling that is refused for memory prints that, and another one does what it lacks: in the end all is known.
 #[test]
 fn a_refused_allocation_ends_the_run_or_a_settling(rt: HostRuntime) {
     let mut printed = [0u8; 256];
     let mut errors = [0u8; 32];
-    let ended = ended(&rt, &["simulate"], SETTLED, &mut printed, &mut errors);
+    let ended = run_lean(&rt, &["simulate"], SETTLED, &mut printed, &mut errors);
     if ended.status == 0 {
         assert!(rt; ended.told == 0);
         let start_refused = printed.starts_with(b"refused");

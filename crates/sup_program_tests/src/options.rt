@@ -7,9 +7,9 @@ const SHOWN: &[u8] = b"node a boot 1\n";
 
 const MEMBERS: &[u8] = b"nodes a b\njoin a\njoin b\nsettle\nstart a y\nstart a x\nshow a\n";
 
-// The digests of a and of b for x begin with f5 and 54, for y with 27 and 88.
+// The digests of a and of b for x begin with 8b and e1, for y with f5 and 54.
 const BY_DIGEST: &[u8] =
-    b"ok (a,1)\nok (b,1)\nok settled 4\nok (a,2)\nok (a,3)\n  a start x 1.1\nnode a boot 1\nmember a (a,1) label=\nmember b (b,1) label=\nchild x (a,3) worker permanent 5000 arg= on a\nchild y (a,2) worker permanent 5000 arg= on b\nkept x 1.1\n";
+    b"ok (a,1)\nok (b,1)\nok settled 4\nok (a,2)\n  a start y 1.1\nok (a,3)\nnode a boot 1\nmember a (a,1) label=\nmember b (b,1) label=\nchild x (a,3) worker permanent 5000 arg= on b\nchild y (a,2) worker permanent 5000 arg= on a\nkept y 1.1\n";
 
 const BY_NAME: &[u8] =
     b"ok (a,1)\nok (b,1)\nok settled 4\nok (a,2)\n  a start y 1.1\nok (a,3)\n  a start x 1.2\nnode a boot 1\nmember a (a,1) label=\nmember b (b,1) label=\nchild x (a,3) worker permanent 5000 arg= on a\nchild y (a,2) worker permanent 5000 arg= on a\nkept y 1.1\nkept x 1.2\n";

@@ -46,7 +46,9 @@ pub(crate) fn expect(
     let mut told = Vec::new(rt.alloc());
     let ended = run(rt.alloc(), words, &mut reader, &mut written, &mut told);
     assert!(rt; ended == status, "{ended}");
-    assert!(rt; written.as_slice() == output && told.as_slice() == errors);
+    let text = std::str::from_utf8(written.as_slice()).unwrap_or("");
+    assert!(rt; written.as_slice() == output, "{text}");
+    assert!(rt; told.as_slice() == errors);
 }
 
 /// Expects what a simulation writes in which all members weigh alike.
@@ -65,7 +67,7 @@ pub(crate) fn expect_usage(rt: &(impl Abort + AllocGlobal), words: &[&str], inpu
     let mut written = Vec::new(rt.alloc());
     let mut told = Vec::new(rt.alloc());
     let ended = run(rt.alloc(), words, &mut reader, &mut written, &mut told);
-    assert!(rt; ended == USAGE && ended == 2);
+    assert!(rt; ended == USAGE && ended == 2, "{ended}");
     assert!(rt; reader.len() == input.len());
     assert!(rt; written.is_empty() && !told.is_empty());
 }

@@ -16,7 +16,7 @@ fn there_are_two_commands(rt: HostRuntime) {
     ] {
         expect_usage(&rt, &[word], b"nodes a\nshow a\n");
     }
-    for word in ["--help", "-h", "--version", "-V", "--weigh", "--", "-"] {
+    for word in ["--help", "-h", "--version", "-V", "--weigh", "-"] {
         expect_usage(&rt, &[word], b"nodes a\nshow a\n");
         expect_usage(&rt, &["place", word], b"members a\nx\n");
     }

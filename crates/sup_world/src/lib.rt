@@ -18,3 +18,4 @@ pub use answer::{Answer, Answers};
 pub use fault::WorldFault;
 pub use settled::Settled;
 pub use state::World;
+pub use world::has_bytes;

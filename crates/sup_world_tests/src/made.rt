@@ -6,8 +6,8 @@ use std::alloc::AllocError;
 use std::process::Abort;
 use sup_model::Step;
 use sup_placement::FlatWeigh;
-use sup_replica::{Act, Event, Refusal};
-use sup_world::{Answer, Answers, World};
+use sup_replica::Refusal;
+use sup_world::{Answer, Answers, World, has_bytes};
 
 /// Makes a step.
 pub(crate) fn made(
@@ -40,12 +40,5 @@ fn expect_none_has_bytes(rt: &impl Abort, steps: &[Step])
 fn expect_no_bytes(rt: &impl Abort, step: &Step)
     ensures { has_bytes step.now ≡ false }
 {
-    let brings = matches!(
-        step,
-        Step::Node {
-            act: Act::Event(Event::Deliver(_)),
-            ..
-        }
-    );
-    assert!(rt; !brings);
+    assert!(rt; !has_bytes(step));
 }

@@ -69,7 +69,7 @@ fn a_step_refused_for_memory_changes_nothing_and_is_made_when_asked_again(rt: Ho
 }
 
 // How many steps of a run were refused for memory.
-fn unmade(answers: &Answers) -> usize {
+fn unmade_count(answers: &Answers) -> usize {
     let refused = answers.as_slice().iter();
     refused
         .filter(|answer| answer.as_ref().err() == Some(&Refusal::OutOfMemory))
@@ -101,7 +101,7 @@ fn a_run_refused_for_memory_makes_no_step_and_is_made_when_asked_again(rt: HostR
     let steps = steps(&rt, MIXED);
     let answers = sure_run(&rt, &mut world, names.as_slice(), steps.as_slice());
     assert!(rt; answers.as_slice().len() == steps.len());
-    let unmade = unmade(&answers);
+    let unmade = unmade_count(&answers);
     assert!(rt; unmade < 2);
     let mut told = String::new(rt.alloc());
     for answer in answers.as_slice() {

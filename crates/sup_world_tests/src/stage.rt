@@ -11,12 +11,12 @@ use sup_specs::{Name, NodeName};
 use sup_world::{Answer, World};
 
 #[derive(Drop)]
-pub(crate) struct Stage {
-    pub(crate) world: World<FlatWeigh>,
-    pub(crate) told: String,
+struct Stage {
+    world: World<FlatWeigh>,
+    told: String,
 }
 
-/// The world of the script's nodes plays its lines, and tells what is wanted.
+/// Expects that the world of the script's nodes plays its lines, and tells what is wanted.
 pub(crate) fn plays(rt: &(impl Abort + AllocGlobal), text: &str, wanted: &str) {
     plays_with(rt, Config::default(), text, wanted);
 }
@@ -28,8 +28,8 @@ pub(crate) fn plays_with(
     text: &str,
     wanted: &str,
 ) {
-    let stage = played(rt, config, text);
-    assert!(rt; stage.told.as_str() == wanted, "{}", stage.told.as_str());
+    let Stage { told, .. } = played(rt, config, text);
+    assert!(rt; told.as_str() == wanted, "{told}");
 }
 
 /// The world after the lines of the script, which told what is wanted.
@@ -38,9 +38,9 @@ pub(crate) fn world_after(
     text: &str,
     wanted: &str,
 ) -> World<FlatWeigh> {
-    let stage = played(rt, Config::default(), text);
-    assert!(rt; stage.told.as_str() == wanted);
-    stage.world
+    let Stage { world, told } = played(rt, Config::default(), text);
+    assert!(rt; told.as_str() == wanted, "{told}");
+    world
 }
 
 fn played(rt: &(impl Abort + AllocGlobal), config: Config, text: &str) -> Stage {
