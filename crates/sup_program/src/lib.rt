@@ -7,6 +7,3 @@ mod play;
 pub mod run;
 mod simulate;
 pub mod words;
-
-pub use run::{Ran, USAGE, run, run_plain};
-pub use words::{run_with, words_of};

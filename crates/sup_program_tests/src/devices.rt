@@ -3,7 +3,7 @@ use crate::runs::{OUTPUT, SCRIPT, expect_run, simulate};
 use std::alloc::Global;
 use std::io::{self, ErrorKind, Read, Write};
 use std::process::Abort;
-use sup_program::run;
+use sup_program::run::run;
 
 /// A script of steps, and what it prints: answers, effects and letters.
 const STEPS: &[u8] = b"nodes a b\njoin b\nstart b web\nship b a\nsettle\nshow a\nwhere a www\n";

@@ -2,7 +2,7 @@
 //! no memory of their own.
 use crate::runs::{OUTPUT, SCRIPT};
 use std::process::Abort;
-use sup_program::run;
+use sup_program::run::run;
 
 const STEP: &[u8] = b"nodes a\nstart a x\nshow a\n";
 

@@ -1,7 +1,7 @@
 //! Runs that wait for nobody.
 use crate::runs::{OUTPUT, SCRIPT};
 use std::process::Abort;
-use sup_program::{Ran, run_plain};
+use sup_program::run::{Ran, run_plain};
 
 // Expects how a run with these words ends, and what it writes.
 fn expect_plain(

@@ -2,7 +2,7 @@
 use std::alloc::Global;
 use std::io::{Read, Write};
 use std::process::Abort;
-use sup_program::{USAGE, run};
+use sup_program::run::{USAGE, run};
 
 /// A script with skipped lines, and what it prints.
 pub(crate) const SCRIPT: &[u8] = b"# two nodes\nnodes a b\n\nshow b\nshow z\nshow a\n";

@@ -1,7 +1,7 @@
 //! Runs whose words can't be had.
 use std::io::{self, ErrorKind};
 use std::process::Abort;
-use sup_program::run_with;
+use sup_program::words::run_with;
 
 // Expects what a run tells that has this in the place of words, and its status. It reads and prints nothing.
 fn expect_wordless(rt: &(impl Abort + AllocGlobal), kind: ErrorKind, status: u8, errors: &[u8]) {

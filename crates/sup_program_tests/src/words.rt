@@ -2,7 +2,7 @@
 use std::env::{Env, FillError};
 use std::io::ErrorKind;
 use std::process::Abort;
-use sup_program::{run_with, words_of};
+use sup_program::words::{run_with, words_of};
 
 /// Arguments, the program's name first.
 #[derive(Clone, Copy)]
