@@ -74,13 +74,27 @@ complain() {
   exit 1
 }
 
-# Whether the step that was refused changed nothing, so that the run goes on as if the line stood there for the first time.
+# How many allocations come before the first step: where one of them is refused, nothing is printed, or all where the program found its room
+# in another way.
+before_first_step() {
+  local number=0
+  "$program" simulate <"$1" >"$work/unrefused"
+  while run_refused "$1" $((number + 1)); do
+    { [ "$status" = 3 ] && [ ! -s "$work/output" ]; } || cmp -s "$work/output" "$work/unrefused" || break
+    number=$((number + 1))
+  done
+  echo "$number"
+}
+
+# Whether the step that was refused changed nothing, so that the run goes on as if the line stood there for the first time. A script that is
+# longer by a line may take more allocations before its first step.
 went_on() {
   local line
   line=$(refused_line "refused 19 OutOfMemory")
   [ -n "$line" ] || return 1
   sed "${line}p" "$work/script" >"$work/repeated"
-  run_refused "$work/repeated" "$1" && [ "$status" = 0 ] && is_repeated "$line" "refused 19 OutOfMemory"
+  [ -n "${more[$line]-}" ] || more[$line]=$(($(before_first_step "$work/repeated") - $(before_first_step "$work/script")))
+  run_refused "$work/repeated" $(($1 + more[line])) && [ "$status" = 0 ] && is_repeated "$line" "refused 19 OutOfMemory"
 }
 
 refuse_each_allocation() {
@@ -114,6 +128,7 @@ fail_each_save() {
 
 for script in "$@"; do
   rm -f "$work"/before.*
+  more=()
   command=simulate
   [ "$script" = "${script%.members}" ] || command=place
   name=$(basename "$script")
