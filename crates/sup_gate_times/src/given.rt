@@ -1,0 +1,102 @@
+//! Stations, gates and acts. What lacks memory is made once more, so that one refused growth stops nothing.
+ghost use Rattle.std.specs.Prelude.{◌≡◌};
+ghost use Rattle.sup_node_gate.specs.Gates.{IsOf};
+
+use std::process::Abort;
+use sup_keeper::MemKeeper;
+use sup_local_sup::Incarnation;
+use sup_node_gate::{NodeGate, Pass};
+use sup_placement::FlatWeigh;
+use sup_replica::{Act, Config, Event};
+use sup_specs::{ChildId, ChildSpec, ExitReason, Kind, NodeName, Restart, Shutdown, Text};
+use sup_station::Station;
+
+pub(crate) type Gate = NodeGate<MemKeeper, FlatWeigh>;
+
+pub(crate) type Seat = Pass<MemKeeper, FlatWeigh>;
+
+pub(crate) const NODE: &str = "a";
+
+/// A station that allows a restart a second.
+pub(crate) fn station(rt: &(impl Abort + AllocGlobal)) -> Station<MemKeeper, FlatWeigh> {
+    let name = NodeName::parse(NODE).expect(rt, "a node's name");
+    let config = Config::new(1000, 1, 64).expect(rt, "a configuration");
+    match Station::new(rt.alloc(), name, config, MemKeeper::new(rt.alloc())) {
+        Ok(station) => station,
+        Err(refused) => match Station::new(rt.alloc(), name, config, refused.keeper) {
+            Ok(station) => station,
+            Err(_) => panic!(rt; "no room"),
+        },
+    }
+}
+
+/// A gate of the greatest bound.
+pub(crate) fn gate(
+    rt: &(impl Abort + AllocGlobal),
+    of: Station<MemKeeper, FlatWeigh>,
+) -> (Gate, Seat)
+    ensures { IsOf MemKeeper.kept result.0 result.1 }
+{
+    match NodeGate::new(rt.alloc(), of, 1_000_000) {
+        Ok(made) => made,
+        Err(of) => match NodeGate::new(rt.alloc(), of, 1_000_000) {
+            Ok(made) => made,
+            Err(_) => panic!(rt; "no room"),
+        },
+    }
+}
+
+fn child(rt: &(impl Abort + AllocGlobal), id: &str) -> ChildId {
+    match ChildId::parse(rt.alloc(), id) {
+        Ok(id) => id,
+        Err(_) => ChildId::parse(rt.alloc(), id).expect(rt, "a child's id"),
+    }
+}
+
+fn kind(rt: &(impl Abort + AllocGlobal)) -> Kind {
+    match Kind::parse(rt.alloc(), "worker") {
+        Ok(kind) => kind,
+        Err(_) => Kind::parse(rt.alloc(), "worker").expect(rt, "a kind"),
+    }
+}
+
+fn empty(rt: &(impl Abort + AllocGlobal)) -> Text {
+    match Text::parse(rt.alloc(), "") {
+        Ok(text) => text,
+        Err(_) => Text::parse(rt.alloc(), "").expect(rt, "an empty text"),
+    }
+}
+
+fn spec(rt: &(impl Abort + AllocGlobal)) -> ChildSpec {
+    ChildSpec {
+        kind: kind(rt),
+        arg: empty(rt),
+        restart: Restart::Permanent,
+        shutdown: Shutdown::Millis(5000),
+    }
+}
+
+pub(crate) fn join(rt: &(impl Abort + AllocGlobal)) -> Act {
+    Act::Event(Event::Join(empty(rt)))
+}
+
+pub(crate) fn start(rt: &(impl Abort + AllocGlobal), id: &str) -> Act {
+    Act::Event(Event::Start(child(rt, id), spec(rt)))
+}
+
+pub(crate) fn replace(rt: &(impl Abort + AllocGlobal), id: &str) -> Act {
+    Act::Event(Event::Replace(child(rt, id), spec(rt)))
+}
+
+pub(crate) fn delete(rt: &(impl Abort + AllocGlobal), id: &str) -> Act {
+    Act::Event(Event::Delete(child(rt, id)))
+}
+
+/// The k-th run in the first boot has crashed.
+pub(crate) fn crash(rt: &(impl Abort + AllocGlobal), id: &str, k: u64) -> Act {
+    Act::Event(Event::Exit {
+        id: child(rt, id),
+        inc: Incarnation { boot: 1, k },
+        reason: ExitReason::Crash,
+    })
+}

@@ -1,0 +1,40 @@
+//! Makes acts at nodes so many times, for a clock outside, and a few acts of each kind for want of memory. Words: KIND COUNT.
+//!
+//! - `step`: restarts of a child, by the station alone; `call`: the same by a gate; `gates`: so many by each of four gates, on
+//!   four threads;
+//! - `alone`, `two`, `four`: so many calls by each thread of one gate, where each thread replaces a child of its own;
+//! - `story`: eight acts, COUNT times, each made once more where memory was refused, which prints a dot.
+//!
+//! It prints how many acts were answered as they should be.
+#![tactic(auto)]
+
+mod given;
+mod restarts;
+mod sharing;
+mod story;
+
+use std::env;
+use std::io::{self, Error, ErrorKind};
+
+fn main(rt: HostRuntime) -> io::Result<()> {
+    let words: Vec<String> = env::args(&rt)?.skip(1).collect(rt.alloc())?;
+    let (kind, count) = job_of(&words).ok_or(Error::from(ErrorKind::InvalidInput))?;
+    let answered = match kind {
+        "step" => restarts::by_steps(&rt, count),
+        "call" => restarts::by_calls(&rt, count),
+        "gates" => restarts::at_four_gates(&rt, count),
+        "alone" => sharing::alone(&rt, count),
+        "two" => sharing::by_two(&rt, count),
+        "four" => sharing::by_four(&rt, count),
+        "story" => story::told(&rt, &mut rt.stdout(), count)?,
+        _ => return Err(Error::from(ErrorKind::InvalidInput)),
+    };
+    println!(rt; "{answered}")
+}
+
+fn job_of(words: &[String]) -> Option<(&str, u64)> {
+    match words {
+        [kind, count] => Some((kind.as_str(), count.parse().ok()?)),
+        _ => None,
+    }
+}

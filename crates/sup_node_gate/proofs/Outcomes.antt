@@ -1,0 +1,101 @@
+-- What the steps of a call come to.
+use Rattle.std.proofs.Common.{◌≡◌, ℕ, suc, ◌+◌, ◌≢◌, List, [], ◌∷◌, ◌++◌, append_assoc, map, length, sym, refl, ap, ◌∙◌, subst, arith, length-append, Ok, Err, Some, None}
+use mathlib.Core.Option.{Option, some}
+use mathlib.Core.List.{map-append}
+use lib.ListN.{get_elem?}
+use Rattle.std.specs.declared.option.Option as P
+use Rattle.atomic_table.specs.Table.{Me, rest}
+use Rattle.atomic_table.proofs.Lists.{at_last}
+use Rattle.sup_placement.specs.Place.{Weigher}
+use Rattle.sup_replica.specs.declared.event.Act.{Act}
+use Rattle.sup_station.specs.Stills.{Still, Goes}
+use Rattle.sup_node_gate.specs.declared.entry.Entry.{Entry}
+use Rattle.sup_node_gate.specs.Histories.{Answer, Standing, full, no_room, entered, standing_of, IsEntered, Replays, IsPrefix, entry}
+use Rattle.sup_node_gate.specs.declared.view.Holding.{Holding}
+use Rattle.sup_node_gate.specs.declared.view.Parts.{Parts}
+use Rattle.sup_node_gate.specs.declared.view.View.{View}
+use Rattle.sup_node_gate.specs.Parts.{still_in, still_at, IsLike}
+use Rattle.sup_node_gate.specs.Views.{Rises, calls_of, taking, raising, freeing, looking, joining}
+use Rattle.sup_node_gate.specs.Holdings.{Adds}
+use Rattle.sup_node_gate.specs.Rule.{IsSeenAt, IsTurnTaken}
+use Rattle.sup_node_gate.specs.Calls.{Enters, KeepsOwn, IsFull, Refuses, Acts, Joined, IsIdle}
+use Rattle.sup_node_gate.proofs.Lists.{replays_one, rises_one, entries_more}
+
+pub enters_acts : (g : Weigher) (s : Still) (bound : ℕ) (v : View) (a : Act) (now : ℕ) (r : Answer) (v' : View) → IsEntered r → Enters g s v (entry a now r) v' → Acts g s bound v a now r v'
+enters_acts g s bound v a now (Ok d) v' is e = e
+enters_acts g s bound v a now (Err r) v' is e = subst (λ (k : Standing). Refuses k g s bound v (entry a now (Err r)) v') (sym is) e
+
+calls_stay : (v : View) (xs ys : List Entry) → IsPrefix v.seen xs → Rises 0 v.own (length v.seen) → map (get_elem? (xs ++ ys)) v.own ≡ calls_of v
+calls_stay v xs ys p placed = subst (λ (l : List Entry). map (get_elem? (l ++ ys)) v.own ≡ calls_of v) (sym p.1)
+    (subst (λ (l : List Entry). map (get_elem? l) v.own ≡ calls_of v) (sym (append_assoc v.seen p.0 ys)) (entries_more v.seen (p.0 ++ ys) v.own 0 placed))
+
+pub made_enters : (g : Weigher) (start : Parts) (v : View) (h h' : Holding) (a : Act) (now : ℕ) (r : Answer) → v.opening ≡ Some start → IsSeenAt g v h → Rises 0 v.own (length v.seen)
+    → Adds g h a now r h' → Enters g (still_in start) v (entry a now r) (freeing (raising v (length h.history) h'))
+made_enters g start v h h' a now r opens seen placed made = let n : ℕ = length h.history in let e = entry a now r in
+    let more : length h'.history ≡ n + 1 = ap length made.1 ∙ length-append h.history (e ∷ []) in record {
+      before = h.history;
+      begins = seen.0;
+      ends = made.1;
+      replays = (still_at h', subst (λ (l : List Entry). Replays g (still_in start) l (still_at h')) (sym made.1) (replays_one g (still_at h) (still_at h') a now r made.2 h.history (still_in start) (seen.3 start opens)));
+      places = refl;
+      rises = subst (Rises 0 (v.own ++ n ∷ [])) (omega arith) (rises_one 0 v.own n seen.2);
+      calls = subst (λ (l : List Entry). map (get_elem? l) (v.own ++ n ∷ []) ≡ calls_of v ++ some e ∷ []) (sym made.1)
+          (map-append (get_elem? (h.history ++ e ∷ [])) v.own (n ∷ [])
+          ∙ (ap (λ l. l ++ get_elem? (h.history ++ e ∷ []) n ∷ []) (calls_stay v h.history (e ∷ []) seen.0 placed) ∙ ap (λ x. calls_of v ++ x ∷ []) (at_last h.history e n refl)));
+    }
+
+pub is_full : (g : Weigher) (start : Parts) (bound : ℕ) (v : View) (h : Holding) → v.opening ≡ Some start → IsSeenAt g v h → length h.history ≡ bound → IsFull g (still_in start) bound v (freeing (looking v h.history))
+is_full g start bound v h opens seen len = (len, record { begins = seen.0; replays = (still_at h, seen.3 start opens); places = refl; rises = seen.2 })
+
+pub looked_keeps : (g : Weigher) (start : Parts) (v : View) (h : Holding) → v.opening ≡ Some start → IsSeenAt g v h → KeepsOwn g (still_in start) v (looking v h.history)
+looked_keeps g start v h opens seen = record { begins = seen.0; replays = (still_at h, seen.3 start opens); places = refl; rises = seen.2 }
+
+pub looked_joins : (g : Weigher) (start : Parts) (v u : View) (h : Holding) → v.opening ≡ Some start → IsSeenAt g (joining v u) h → Joined g (still_in start) v u (looking (joining v u) h.history)
+looked_joins g start v u h opens seen = record { begins = seen.0; others = seen.1; replays = (still_at h, seen.3 start opens); places = refl; rises = seen.2; tries = refl }
+
+abbrev value_or : {A : Type 0} → A → List (ℕ × A) → A
+value_or d [] = d
+value_or d (x ∷ xs) = x.1
+
+-- the turn is taken, and then the slot
+pub turn_taken : {H : Type 0} (sight : H → Holding) (g : Weigher) (m m1 m2 : Me (P.Option H) View) (held : Holding) (h : H) (r : P.Option H)
+    → IsSeenAt g m.0 held → sight h ≡ held → m1 ≡ (taking m.0 held, (0, Some h) ∷ m.1) → m.1 ≡ [] → m1.1 ≡ (0, r) ∷ rest m1.1 → m2 ≡ (m1.0, (0, None) ∷ rest m1.1)
+    → (r ≡ Some h) × IsTurnTaken sight g m h m2
+turn_taken {H = H} sight g m m1 m2 held h r seen same took empty out after =
+    let none : P.Option H = None in let all = after ∙ (ap (λ (x : Me (P.Option H) View). (x.0, (0, none) ∷ rest x.1)) took ∙ ap (λ (l : List (ℕ × P.Option H)). (taking m.0 held, (0, none) ∷ l)) empty) in (
+      ap (value_or (Some h)) (sym out ∙ ap (λ (x : Me (P.Option H) View). x.1) took),
+      subst (λ (x : Holding). IsSeenAt g m.0 x × (m2 ≡ (taking m.0 x, (0, none) ∷ []))) (sym same) (seen, all),
+    )
+
+-- once the turn is given back
+pub idle_after : {H : Type 0} (m : Me (P.Option H) View) (v w : View) → m ≡ (freeing w, []) → w.told ≡ [] → Rises 0 w.own (length w.seen) → w.opening ≡ v.opening → w.tries ≡ v.tries
+    → IsIdle m × (m.0.opening ≡ v.opening) × (m.0.tries ≡ v.tries)
+idle_after {H = H} m v w is told rises opening tries = subst (λ (x : Me (P.Option H) View). IsIdle x × (x.0.opening ≡ v.opening) × (x.0.tries ≡ v.tries)) (sym is) ((refl, told, refl, rises), opening, tries)
+
+enters_same : (g : Weigher) (s : Still) (v u : View) (e : Entry) (v' : View) → v.seen ≡ u.seen → v.own ≡ u.own → Enters g s v e v' → Enters g s u e v'
+enters_same g s v u e v' seen own x = record {
+  before = x.before;
+  begins = subst (λ (l : List Entry). IsPrefix l x.before) seen x.begins;
+  ends = x.ends;
+  replays = x.replays;
+  places = x.places ∙ ap (λ o. o ++ length x.before ∷ []) own;
+  rises = x.rises;
+  calls = x.calls ∙ (λ i. map (get_elem? (seen i)) (own i) ++ some e ∷ []);
+}
+
+keeps_same : (g : Weigher) (s : Still) (v u v' : View) → v.seen ≡ u.seen → v.own ≡ u.own → KeepsOwn g s v v' → KeepsOwn g s u v'
+keeps_same g s v u v' seen own x = record {
+  begins = subst (λ (l : List Entry). IsPrefix l v'.seen) seen x.begins;
+  replays = x.replays;
+  places = x.places ∙ own;
+  rises = x.rises;
+}
+
+refuses_same : (k : Standing) (g : Weigher) (s : Still) (bound : ℕ) (v u : View) (e : Entry) (v' : View) → v.seen ≡ u.seen → v.own ≡ u.own → Refuses k g s bound v e v' → Refuses k g s bound u e v'
+refuses_same full g s bound v u e v' seen own x = (x.0, keeps_same g s v u v' seen own x.1)
+refuses_same no_room g s bound v u e v' seen own x = (x.0 ∙ seen, x.1 ∙ own)
+refuses_same entered g s bound v u e v' seen own x = enters_same g s v u e v' seen own x
+
+pub acts_same : (g : Weigher) (s : Still) (bound : ℕ) (v u : View) (a : Act) (now : ℕ) (r : Answer) (v' : View) → v.seen ≡ u.seen → v.own ≡ u.own → Acts g s bound v a now r v' → Acts g s bound u a now r v'
+acts_same g s bound v u a now (Ok d) v' seen own x = enters_same g s v u (entry a now (Ok d)) v' seen own x
+acts_same g s bound v u a now (Err r) v' seen own x = refuses_same (standing_of r) g s bound v u (entry a now (Err r)) v' seen own x

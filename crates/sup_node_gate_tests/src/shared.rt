@@ -1,0 +1,123 @@
+//! Threads that share one gate over few rows.
+ghost use Rattle.sup_node_gate.specs.Gates.{IsOf};
+
+use crate::given::{child, delete, start, station};
+use crate::told::{agree, in_order};
+use std::process::Abort;
+use std::sync::Wait;
+use std::thread::{Threads, join};
+use sup_keeper::{Keeper, MemKeeper};
+use sup_node_gate::{Entry, NodeGate, Pass};
+use sup_placement::FlatWeigh;
+
+const CALLS: u64 = 1000;
+
+const RUNS: u64 = 10;
+
+// Starts and deletes a child in turn, each at the next moment.
+fn works<K: Keeper>(
+    rt: &(impl Abort + Wait + AllocGlobal),
+    gate: &NodeGate<K, FlatWeigh>,
+    pass: Pass<K, FlatWeigh>,
+    of: &str,
+) -> Pass<K, FlatWeigh>
+    requires { IsOf K.kept gate.now pass }
+    ensures { IsOf K.kept gate.now result }
+{
+    let mut pass = pass;
+    for now in 0..CALLS {
+        let act = if now % 2 == 0 {
+            start(rt, of)
+        } else {
+            delete(rt, of)
+        };
+        let answer = gate.call(rt, &mut pass, act, now, &FlatWeigh);
+        assert!(rt; answer.is_ok());
+    }
+    pass
+}
+
+// The history, where each of these children's acts stands in it once and in its order; and it replays from a new station.
+fn judges(rt: &(impl Abort + AllocGlobal), history: &[Entry], children: &[&str]) {
+    for of in children {
+        assert!(rt; in_order(history, &child(rt, of)) == Some(CALLS));
+    }
+    assert!(rt; history.len() as u64 == CALLS.saturating_mul(children.len() as u64));
+    let mut replayed = station(rt, "a", MemKeeper::new(rt.alloc()));
+    for entry in history {
+        assert!(rt; entry.saved);
+        let act = entry.act.try_clone(rt.alloc()).expect(rt, "room");
+        let answer = replayed.step(act, entry.now, &FlatWeigh);
+        assert!(rt; agree(&answer, &entry.answer));
+    }
+}
+
+fn two_share<R: Threads + Wait + Abort + AllocGlobal + Sync>(rt: &R) {
+    let of = station(rt, "a", MemKeeper::new(rt.alloc()));
+    let Ok((gate, pass)) = NodeGate::<MemKeeper, FlatWeigh>::new(rt.alloc(), of, 1_000_000) else {
+        panic!(rt; "no room")
+    };
+    let (left, right) = gate.split(pass);
+    let (left, right) = join(
+        rt,
+        || works(rt, &gate, left, "x"),
+        || works(rt, &gate, right, "y"),
+    );
+    let pass = gate.join(left, right);
+    let Some((_station, history)) = gate.close(pass) else {
+        panic!(rt; "a turn is held")
+    };
+    judges(rt, &history, &["x", "y"]);
+}
+
+// Two threads, whose passes are joined.
+fn both_work<R: Threads + Wait + Abort + AllocGlobal + Sync>(
+    rt: &R,
+    gate: &NodeGate<MemKeeper, FlatWeigh>,
+    pass: Pass<MemKeeper, FlatWeigh>,
+    of: &str,
+    other: &str,
+) -> Pass<MemKeeper, FlatWeigh>
+    requires { IsOf MemKeeper.kept gate.now pass }
+    ensures { IsOf MemKeeper.kept gate.now result }
+{
+    let (left, right) = gate.split(pass);
+    let (left, right) = join(
+        rt,
+        || works(rt, gate, left, of),
+        || works(rt, gate, right, other),
+    );
+    gate.join(left, right)
+}
+
+fn four_share<R: Threads + Wait + Abort + AllocGlobal + Sync>(rt: &R) {
+    let of = station(rt, "a", MemKeeper::new(rt.alloc()));
+    let Ok((gate, pass)) = NodeGate::<MemKeeper, FlatWeigh>::new(rt.alloc(), of, 1_000_000) else {
+        panic!(rt; "no room")
+    };
+    let (left, right) = gate.split(pass);
+    let (left, right) = join(
+        rt,
+        || both_work(rt, &gate, left, "w", "x"),
+        || both_work(rt, &gate, right, "y", "z"),
+    );
+    let pass = gate.join(left, right);
+    let Some((_station, history)) = gate.close(pass) else {
+        panic!(rt; "a turn is held")
+    };
+    judges(rt, &history, &["w", "x", "y", "z"]);
+}
+
+#[test]
+fn the_calls_of_two_threads_make_one_history(rt: HostRuntime) {
+    for _ in 0..RUNS {
+        two_share(&rt);
+    }
+}
+
+#[test]
+fn the_calls_of_four_threads_make_one_history(rt: HostRuntime) {
+    for _ in 0..RUNS {
+        four_share(&rt);
+    }
+}
