@@ -4,9 +4,7 @@
 # - restarts at four gates on four threads, beside those at one gate by one thread; where there are four processors it fails below 3 times the work;
 # - calls of 1, 2 and 4 threads that replace a child of their own at one gate; with another program's path beside what `PROGRAM gate THREADS CALLS` says
 #   of itself: `gate: CALLS calls by THREADS threads, X us a call`. These are told without a bound.
-# Then eight acts of each kind with each allocation refused in turn: each lacks memory at most once, is entered once, and the next call goes on.
-# And the histories of threads that share a gate, a hundred times over: each call was answered well.
-# It needs a C compiler, for the few lines that refuse.
+# Then the histories of threads that share a gate, a hundred of each: the test looks that they replay, and that each call stands in them once.
 # usage: bench/gate.sh [PROGRAM [ROUNDS]]
 set -eu
 other=${1:-}
@@ -16,7 +14,7 @@ work=$(mktemp -d)
 trap 'rm -rf "$work"' EXIT
 crate=$top/crates/sup_gate_times
 own=$crate/out/sup_gate_times
-[ -x "$own" ] || (cd "$crate" && rt run -- story 1 >"$work/built")
+[ -x "$own" ] || (cd "$crate" && rt run -- two 10 >"$work/built")
 acts=20000
 calls=200
 
@@ -58,24 +56,12 @@ for kind in alone:1 two:2 four:4; do
   [ -z "$other" ] || "$other" gate "$threads" $((threads * calls))
 done
 
-for round in $(seq 100); do
-  [ "$("$own" two 100)" = 200 ]
-  [ "$("$own" four 50)" = 200 ]
+# Ten rounds of two and of four threads with 1,000 calls each are a test's; ten runs of it are a hundred.
+tests=$top/crates/sup_node_gate_tests/out/sup_node_gate_tests_tests
+[ -x "$tests" ] || (cd "$top/crates/sup_node_gate_tests" && rt test >"$work/built")
+for run in $(seq 10); do
+  for threads in two four; do
+    "$tests" "shared::the_calls_of_${threads}_threads_make_one_history" >"$work/output" 2>&1 || { cat "$work/output"; exit 1; }
+  done
 done
-echo "100 rounds of 2 and of 4 threads at one gate: each call was answered well"
-
-"${CC:-cc}" -shared -fPIC -O1 -o "$work/refuse.so" "$top/bench/refuse_allocation.c" -ldl
-number=0
-told=0
-while :; do
-  : >"$work/mark"
-  output=$(REFUSED=$((number + 1)) LD_PRELOAD=$work/refuse.so "$own" story 1 9>"$work/mark" || echo "status $?")
-  [ -s "$work/mark" ] || break
-  number=$((number + 1))
-  case $output in
-    8) ;;
-    .8) told=$((told + 1)) ;;
-    *) echo "allocation $number refused: $output"; exit 1 ;;
-  esac
-done
-echo "$number allocations, each refused in turn: $told of them told by a call, which left no entry"
+echo "a hundred histories of two threads and of four, with 1,000 calls each: each replays, and each thread's calls stand in it once and in their order"

@@ -18,6 +18,7 @@ trap 'rm -rf "$work"' EXIT
   sup_station_tests rows::a_restart_whose_save_fails_leaves_the_node_stopped \
   sup_station_tests rows::an_overwritten_interval_is_sent_whole \
   sup_station_tests rows::a_repeated_delivery_is_acknowledged_again \
+  sup_node_gate_tests refused::a_call_refused_for_memory_leaves_no_entry_and_is_made_when_asked_again \
   sup_world_tests refused::a_world_refused_for_memory_is_made_when_asked_again \
   sup_world_tests refused::a_step_refused_for_memory_changes_nothing_and_is_made_when_asked_again \
   sup_world_tests refused::a_run_refused_for_memory_makes_no_step_and_is_made_when_asked_again \

@@ -1,4 +1,4 @@
-//! Stations, gates and acts. What lacks memory is made once more, so that one refused growth stops nothing.
+//! Stations, gates and acts.
 ghost use Rattle.std.specs.Prelude.{◌≡◌};
 ghost use Rattle.sup_node_gate.specs.Gates.{IsOf};
 
@@ -23,10 +23,7 @@ pub(crate) fn station(rt: &(impl Abort + AllocGlobal)) -> Station<MemKeeper, Fla
     let config = Config::new(1000, 1, 64).expect(rt, "a configuration");
     match Station::new(rt.alloc(), name, config, MemKeeper::new(rt.alloc())) {
         Ok(station) => station,
-        Err(refused) => match Station::new(rt.alloc(), name, config, refused.keeper) {
-            Ok(station) => station,
-            Err(_) => panic!(rt; "no room"),
-        },
+        Err(_) => panic!(rt; "no room"),
     }
 }
 
@@ -39,37 +36,21 @@ pub(crate) fn gate(
 {
     match NodeGate::new(rt.alloc(), of, 1_000_000) {
         Ok(made) => made,
-        Err(of) => match NodeGate::new(rt.alloc(), of, 1_000_000) {
-            Ok(made) => made,
-            Err(_) => panic!(rt; "no room"),
-        },
+        Err(_) => panic!(rt; "no room"),
     }
 }
 
 fn child(rt: &(impl Abort + AllocGlobal), id: &str) -> ChildId {
-    match ChildId::parse(rt.alloc(), id) {
-        Ok(id) => id,
-        Err(_) => ChildId::parse(rt.alloc(), id).expect(rt, "a child's id"),
-    }
-}
-
-fn kind(rt: &(impl Abort + AllocGlobal)) -> Kind {
-    match Kind::parse(rt.alloc(), "worker") {
-        Ok(kind) => kind,
-        Err(_) => Kind::parse(rt.alloc(), "worker").expect(rt, "a kind"),
-    }
+    ChildId::parse(rt.alloc(), id).expect(rt, "a child's id")
 }
 
 fn empty(rt: &(impl Abort + AllocGlobal)) -> Text {
-    match Text::parse(rt.alloc(), "") {
-        Ok(text) => text,
-        Err(_) => Text::parse(rt.alloc(), "").expect(rt, "an empty text"),
-    }
+    Text::parse(rt.alloc(), "").expect(rt, "an empty text")
 }
 
 fn spec(rt: &(impl Abort + AllocGlobal)) -> ChildSpec {
     ChildSpec {
-        kind: kind(rt),
+        kind: Kind::parse(rt.alloc(), "worker").expect(rt, "a kind"),
         arg: empty(rt),
         restart: Restart::Permanent,
         shutdown: Shutdown::Millis(5000),
@@ -86,10 +67,6 @@ pub(crate) fn start(rt: &(impl Abort + AllocGlobal), id: &str) -> Act {
 
 pub(crate) fn replace(rt: &(impl Abort + AllocGlobal), id: &str) -> Act {
     Act::Event(Event::Replace(child(rt, id), spec(rt)))
-}
-
-pub(crate) fn delete(rt: &(impl Abort + AllocGlobal), id: &str) -> Act {
-    Act::Event(Event::Delete(child(rt, id)))
 }
 
 /// The k-th run in the first boot has crashed.

@@ -1,9 +1,8 @@
-//! Makes acts at nodes so many times, for a clock outside, and a few acts of each kind for want of memory. Words: KIND COUNT.
+//! Makes acts at nodes so many times, for a clock outside. Words: KIND COUNT.
 //!
 //! - `step`: restarts of a child, by the station alone; `call`: the same by a gate; `gates`: so many by each of four gates, on
 //!   four threads;
-//! - `alone`, `two`, `four`: so many calls by each thread of one gate, where each thread replaces a child of its own;
-//! - `story`: eight acts, COUNT times, each made once more where memory was refused, which prints a dot.
+//! - `alone`, `two`, `four`: so many calls by each thread of one gate, where each thread replaces a child of its own.
 //!
 //! It prints how many acts were answered as they should be.
 #![tactic(auto)]
@@ -11,7 +10,6 @@
 mod given;
 mod restarts;
 mod sharing;
-mod story;
 
 use std::env;
 use std::io::{self, Error, ErrorKind};
@@ -26,7 +24,6 @@ fn main(rt: HostRuntime) -> io::Result<()> {
         "alone" => sharing::alone(&rt, count),
         "two" => sharing::by_two(&rt, count),
         "four" => sharing::by_four(&rt, count),
-        "story" => story::told(&rt, &mut rt.stdout(), count)?,
         _ => return Err(Error::from(ErrorKind::InvalidInput)),
     };
     println!(rt; "{answered}")

@@ -12,9 +12,9 @@ use Rattle.sup_node.specs.Contents.{station_in, station_of}
 use Rattle.sup_station.specs.declared.station.Station.{Station}
 use Rattle.sup_station.specs.Stills.{Still, still_of, Goes}
 use Rattle.sup_node_gate.specs.declared.view.Holding.{Holding}
-use Rattle.sup_node_gate.specs.Histories.{Answer, entered, standing_of, is_entered, entry}
+use Rattle.sup_node_gate.specs.Histories.{Answer, entered, standing_of, is_entered, may_enter, IsEntered, entry}
 use Rattle.sup_node_gate.specs.Parts.{parts_of, still_in, still_at, IsLike}
-use Rattle.sup_node_gate.specs.Holdings.{Adds, AddsIfRoom}
+use Rattle.sup_node_gate.specs.Holdings.{Adds, AddsIfRoom, EntersIfMay}
 
 states : {W : Type 0} (o : Option (Node W)) → option_map station_in (option_map (λ n. n.state) o) ≡ option_map station_of o
 states None = refl
@@ -33,7 +33,23 @@ module _ (g : Weigher) (act : Act) (now : ℕ) where
   adds_like (Some answer) h k h' like x = (x.0, x.1 ∙ ap (λ (l : List _). l ++ entry act now answer ∷ []) like.0, subst (λ (s : Still). Goes g s act now answer (still_at h')) like.1 x.2)
   adds_like None h k h' like x = (x.0 ∙ like.0, x.1 ∙ like.1)
 
-pub enters : (r : Refusal) → is_entered r ≡ true → standing_of r ≡ entered
+enters : (r : Refusal) → is_entered r ≡ true → standing_of r ≡ entered
 enters HistoryFull e = absurd cc
 enters OutOfMemory e = absurd cc
 enters r e = refl
+
+is_told : (answer : Answer) → may_enter answer ≡ true → IsEntered answer
+is_told (Ok done) e = tt
+is_told (Err r) e = enters r e
+
+module _ (g : Weigher) (act : Act) (now : ℕ) where
+  -- a refused act leaves the station as it was
+  unentered : (answer : Answer) (s t : Still) → Goes g s act now answer t → may_enter answer ≡ false → t ≡ s
+  unentered (Ok done) s t goes e = absurd cc
+  unentered (Err r) s t goes e = goes.0
+
+  -- an act that was answered, once its answer was entered
+  pub adds : (answer : Answer) (result : Option Answer) (h h' : Holding) → Goes g (still_at h) act now answer (still_at h') → EntersIfMay h.history act now answer result h'.history → AddsIfRoom g h act now result h'
+  adds answer (Some told) h h' goes x =
+      subst (λ (a : Answer). Adds g h act now a h') (sym x.0) (is_told answer x.1, x.2, goes)
+  adds answer None h h' goes x = (x.1, unentered answer (still_at h) (still_at h') goes x.0)

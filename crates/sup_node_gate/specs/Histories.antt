@@ -48,6 +48,11 @@ is_entered HistoryFull = false
 is_entered OutOfMemory = false
 is_entered r = true
 
+-- whether an answer is entered
+abbrev pub may_enter : Answer → Bool
+may_enter (Ok done) = true
+may_enter (Err r) = is_entered r
+
 abbrev pub IsEntered : Answer → Type 0
 IsEntered (Ok done) = Unit {0}
 IsEntered (Err r) = standing_of r ≡ entered

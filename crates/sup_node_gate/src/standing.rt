@@ -1,19 +1,25 @@
-//! How a refusal stands in a history.
-ghost use Rattle.std.specs.Prelude.{◌≡◌, Err};
-ghost use Rattle.sup_node_gate.specs.Histories.{is_entered, is_saved};
+//! How an answer stands in a history.
+ghost use Rattle.std.specs.Prelude.{◌≡◌};
+ghost use Rattle.sup_node_gate.specs.Histories.{may_enter, is_saved};
 
-use sup_replica::Refusal;
+use sup_replica::{Done, Refusal};
 
 // Whether it is entered: all are but want of memory and a full history.
-pub(crate) fn is_entered(refusal: Refusal) -> bool
-    ensures { result ≡ is_entered refusal }
+pub(crate) fn is_entered(answer: &Result<Done, Refusal>) -> bool
+    ensures { result ≡ may_enter answer.now }
 {
-    !matches!(refusal, Refusal::OutOfMemory | Refusal::HistoryFull)
+    match answer {
+        Ok(_) => true,
+        Err(refusal) => !matches!(refusal, Refusal::OutOfMemory | Refusal::HistoryFull),
+    }
 }
 
 // Whether no call of the keeper failed.
-pub(crate) fn is_saved(refusal: Refusal) -> bool
-    ensures { result ≡ is_saved (Err refusal) }
+pub(crate) fn is_saved(answer: &Result<Done, Refusal>) -> bool
+    ensures { result ≡ is_saved answer.now }
 {
-    !matches!(refusal, Refusal::KeepFailed)
+    match answer {
+        Ok(_) => true,
+        Err(refusal) => !matches!(refusal, Refusal::KeepFailed),
+    }
 }

@@ -1,9 +1,14 @@
 //! What the tests are given.
+ghost use Rattle.std.specs.Prelude.{◌≡◌};
+ghost use Rattle.sup_node_gate.specs.Gates.{IsOf};
+
 use std::process::Abort;
-use sup_keeper::Keeper;
+use sup_keeper::{Keeper, MemKeeper};
+use sup_local_sup::Incarnation;
+use sup_node_gate::{NodeGate, Pass};
 use sup_placement::FlatWeigh;
 use sup_replica::{Act, Config, Event};
-use sup_specs::{ChildId, ChildSpec, Kind, NodeName, Restart, Shutdown, Text};
+use sup_specs::{ChildId, ChildSpec, ExitReason, Kind, NodeName, Restart, Shutdown, Text};
 use sup_station::Station;
 
 /// A station of a node that was just made. Where memory is refused it is made once more.
@@ -36,11 +41,48 @@ fn kind(rt: &(impl Abort + AllocGlobal)) -> Kind {
     }
 }
 
+fn empty(rt: &(impl Abort + AllocGlobal)) -> Text {
+    match Text::parse(rt.alloc(), "") {
+        Ok(text) => text,
+        Err(_) => Text::parse(rt.alloc(), "").expect(rt, "an empty text"),
+    }
+}
+
+/// A gate over the station, of the greatest bound. Where memory is refused it is made once more, of the station that came back.
+pub(crate) fn gate(
+    rt: &(impl Abort + AllocGlobal),
+    of: Station<MemKeeper, FlatWeigh>,
+) -> (NodeGate<MemKeeper, FlatWeigh>, Pass<MemKeeper, FlatWeigh>)
+    ensures { IsOf MemKeeper.kept result.0 result.1 }
+{
+    match NodeGate::new(rt.alloc(), of, 1_000_000) {
+        Ok(made) => made,
+        Err(of) => match NodeGate::new(rt.alloc(), of, 1_000_000) {
+            Ok(made) => made,
+            Err(_) => panic!(rt; "no room"),
+        },
+    }
+}
+
+/// The node becomes a member, without a label.
+pub(crate) fn member(rt: &(impl Abort + AllocGlobal)) -> Act {
+    Act::Event(Event::Join(empty(rt)))
+}
+
+/// The k-th run in the first boot has crashed.
+pub(crate) fn crash(rt: &(impl Abort + AllocGlobal), id: &str, k: u64) -> Act {
+    Act::Event(Event::Exit {
+        id: child(rt, id),
+        inc: Incarnation { boot: 1, k },
+        reason: ExitReason::Crash,
+    })
+}
+
 /// The start of a permanent worker that has 5000 milliseconds to end.
 pub(crate) fn start(rt: &(impl Abort + AllocGlobal), id: &str) -> Act {
     let spec = ChildSpec {
         kind: kind(rt),
-        arg: Text::parse(rt.alloc(), "").expect(rt, "an empty text"),
+        arg: empty(rt),
         restart: Restart::Permanent,
         shutdown: Shutdown::Millis(5000),
     };

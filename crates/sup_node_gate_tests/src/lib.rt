@@ -9,6 +9,8 @@ mod busy;
 #[cfg(test)]
 mod given;
 #[cfg(test)]
+mod refused;
+#[cfg(test)]
 mod shared;
 #[cfg(test)]
 mod told;

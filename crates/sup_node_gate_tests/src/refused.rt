@@ -1,12 +1,13 @@
-//! A few acts at a gate, each made once more where memory was refused: nothing is entered then, and the turn is free again.
+//! A story at a gate that goes on where a growth is refused: nothing is entered then, the turn is free again, and the call made
+//! once more does what it should have done. `bench/refused_stories.sh` runs it with each growth refused in turn.
 ghost use Rattle.std.specs.Prelude.{◌≡◌};
 ghost use Rattle.sup_node_gate.specs.Gates.{IsOf};
 
-use crate::given::{Gate, Seat, crash, delete, gate, join, start, station};
-use std::io::{self, Write};
+use crate::given::{crash, delete, gate, member, start, station};
 use std::process::Abort;
 use std::sync::Wait;
 use sup_keeper::MemKeeper;
+use sup_node_gate::{NodeGate, Pass};
 use sup_placement::FlatWeigh;
 use sup_replica::{Act, Done, Refusal};
 
@@ -14,7 +15,7 @@ const ACTS: u64 = 8;
 
 fn act(rt: &(impl Abort + AllocGlobal), place: u64) -> Act {
     match place {
-        0 => join(rt),
+        0 => member(rt),
         1 | 2 => start(rt, "x"),
         3 => crash(rt, "x", 1),
         4 => Act::Stop,
@@ -24,7 +25,7 @@ fn act(rt: &(impl Abort + AllocGlobal), place: u64) -> Act {
     }
 }
 
-// The child is there at the second start; nothing starts while the node is stopped.
+// The child is there at the second start, and nothing starts while the node is stopped.
 fn is_expected(place: u64, answer: &Result<Done, Refusal>) -> bool {
     match (place, answer) {
         (2, answer) => matches!(answer, Err(Refusal::AlreadyPresent)),
@@ -33,36 +34,31 @@ fn is_expected(place: u64, answer: &Result<Done, Refusal>) -> bool {
     }
 }
 
-// The answer at last. One that lacked memory is told by a dot, and left no entry.
-fn makes<R: Abort + AllocGlobal + Wait, O: Write>(
-    rt: &R,
-    out: &mut O,
-    at: &Gate,
-    pass: &mut Seat,
+// The answer is the expected one, at the latest when the call is made once more.
+fn makes(
+    rt: &(impl Abort + AllocGlobal + Wait),
+    at: &NodeGate<MemKeeper, FlatWeigh>,
+    pass: &mut Pass<MemKeeper, FlatWeigh>,
     place: u64,
-) -> io::Result<bool>
+) -> bool
     requires { IsOf MemKeeper.kept at.now pass.old }
     ensures { IsOf MemKeeper.kept at.now pass.new }
 {
     let before = at.seen(pass);
     let first = at.call(rt, pass, act(rt, place), place, &FlatWeigh);
     if !matches!(first, Err(Refusal::OutOfMemory)) {
-        return Ok(is_expected(place, &first));
+        return is_expected(place, &first);
     }
     assert!(rt; at.seen(pass) == before);
-    out.write_all(b".")?;
     let second = at.call(rt, pass, act(rt, place), place, &FlatWeigh);
-    Ok(is_expected(place, &second))
+    is_expected(place, &second)
 }
 
-// How many of the acts were answered as they should be, each of which stands in the history at its place.
-fn once<R: Abort + AllocGlobal + Wait, O: Write>(rt: &R, out: &mut O) -> io::Result<u64> {
-    let (at, mut pass) = gate(rt, station(rt));
-    let mut answered = 0u64;
+#[test]
+fn a_call_refused_for_memory_leaves_no_entry_and_is_made_when_asked_again(rt: HostRuntime) {
+    let (at, mut pass) = gate(&rt, station(&rt, "a", MemKeeper::new(rt.alloc())));
     for place in 0..ACTS {
-        if makes(rt, out, &at, &mut pass, place)? {
-            answered = answered.saturating_add(1);
-        }
+        assert!(rt; makes(&rt, &at, &mut pass, place));
     }
     let Some((_station, history)) = at.close(pass) else {
         panic!(rt; "a turn is held")
@@ -70,18 +66,6 @@ fn once<R: Abort + AllocGlobal + Wait, O: Write>(rt: &R, out: &mut O) -> io::Res
     assert!(rt; history.len() as u64 == ACTS);
     for place in 0..history.len() {
         assert!(rt; history[place].now == place as u64);
+        assert!(rt; history[place].saved);
     }
-    Ok(answered)
-}
-
-pub(crate) fn told<R: Abort + AllocGlobal + Wait, O: Write>(
-    rt: &R,
-    out: &mut O,
-    count: u64,
-) -> io::Result<u64> {
-    let mut answered = 0u64;
-    for _ in 0..count {
-        answered = answered.saturating_add(once(rt, out)?);
-    }
-    Ok(answered)
 }
