@@ -1,76 +1,81 @@
 -- Exchanges one after another.
-use Rattle.std.specs.Prelude.{◌≡◌, ℕ, ◌+◌, ◌<◌, List, [], ◌∷◌, ◌++◌, length, map, take, Result, Ok, Err, IsErrAnd, OnOk, slice_index_or, refl}
-use Rattle.std.proofs.Common.{sym, ap, ◌∙◌, subst}
-use Rattle.std.proofs.lemmas.List.{take_more, map-append}
-use Rattle.std.proofs.lemmas.List.Elements.{Contains-append_right}
+use Rattle.std.specs.Prelude.{◌≡◌, ℕ, ◌+◌, ◌<◌, List, [], ◌∷◌, ◌++◌, length, map, take, drop, Result, Ok, Err, IsErrAnd, slice_index_or, refl}
+use Rattle.std.proofs.Common.{sym, ap, ◌∙◌, subst, append_assoc}
+use Rattle.std.proofs.lemmas.List.{take_more, map-append, take-append-drop}
 use Rattle.std.specs.List.{AllZip}
 use mathlib.Core.Logic.{inl, inr}
 use Rattle.sup_specs.specs.Values.{Bytes}
 use Rattle.sup_placement.specs.Place.{Weigher}
 use Rattle.sup_replica.specs.declared.refusal.Refusal.{Refusal}
 use Rattle.sup_model.specs.Worlds.{World, Answer as Expected}
-use Rattle.sup_model.proofs.RunLists.{runs_append}
 use Rattle.sup_world.specs.declared.tally.Tally.{Tally}
 use Rattle.sup_world.specs.Following.{StandsFor}
 use Rattle.sup_world.specs.Seen.{Seen, FailedNoMore}
-use Rattle.sup_world.specs.Settling.{IsRefusedBy}
+use Rattle.sup_world.specs.Pairs.{AllExchanged, StopsAmong}
 use Rattle.sup_world.specs.Tallies.{Notes}
-use Rattle.sup_world.specs.Exchanges.{AllExchanged, IsNotedAll, Goes}
+use Rattle.sup_world.specs.Exchanges.{GoesTo, Goes}
 use Rattle.sup_world.proofs.Noting.{notes_none, notes_then}
 
 -- all went well
 abbrev pub done : Result (Unit {0}) Refusal
 done = Ok tt
 
-exchanged_then : (w mid after : World) (pairs more : List (Bytes × Bytes)) → AllExchanged w pairs mid → AllExchanged mid more after → AllExchanged w (pairs ++ more) after
-exchanged_then w mid after [] more h g = subst (λ (v : World). AllExchanged v more after) h g
-exchanged_then w mid after (pair ∷ pairs) more h g = (h.0, h.1, exchanged_then h.0 mid after pairs more h.2 g)
+-- with the exchanges of more pairs behind
+exchanged_then : (w mid after : World) (pairs more : List (Bytes × Bytes)) (xs ys : List (Result Expected Refusal)) → AllExchanged w pairs xs mid → AllExchanged mid more ys after → AllExchanged w (pairs ++ more) (xs ++ ys) after
+exchanged_then w mid after [] more xs ys h g =
+    subst (λ (zs : List (Result Expected Refusal)). AllExchanged w more (zs ++ ys) after) (sym h.0) (subst (λ (v : World). AllExchanged v more ys after) h.1 g)
+exchanged_then w mid after (pair ∷ pairs) more xs ys h g =
+    (h.0, h.1, h.2 ++ ys, h.3, exchanged_then h.0 mid after pairs more h.2 ys h.4 g, ap (λ (zs : List (Result Expected Refusal)). zs ++ ys) h.5 ∙ append_assoc h.1 h.2 ys)
 
-pub exchanged_split : (w : World) (pairs more : List (Bytes × Bytes)) (after : World) → AllExchanged w (pairs ++ more) after → (mid : World) × AllExchanged w pairs mid × AllExchanged mid more after
-exchanged_split w [] more after h = (w, refl, h)
-exchanged_split w (pair ∷ pairs) more after h =
-    let rest = exchanged_split h.0 pairs more after h.2 in
-    (rest.0, (h.0, h.1, rest.1), rest.2)
+-- what stops among later pairs, behind those that exchanged
+pub stops_then : (w mid after : World) (pairs more : List (Bytes × Bytes)) (xs : List (Result Expected Refusal)) (r : Refusal) → AllExchanged w pairs xs mid → StopsAmong mid more r after → StopsAmong w (pairs ++ more) r after
+stops_then w mid after [] more xs r h g = subst (λ (v : World). StopsAmong v more r after) h.1 g
+stops_then w mid after (pair ∷ pairs) more xs r h g = inr (h.0, h.3.0, stops_then h.0 mid after pairs more h.2 r h.4 g)
 
-pub refused_after : (xs ys : List (Result Expected Refusal)) (r : Refusal) → IsRefusedBy ys r → IsRefusedBy (xs ++ ys) r
-refused_after xs ys r (inl h) = inl h
-refused_after xs ys r (inr h) = inr (Contains-append_right xs ys (Err r) h.0, h.1)
+-- what stops does so whichever pairs were left
+pub stops_more : (w after : World) (pairs more : List (Bytes × Bytes)) (r : Refusal) → StopsAmong w pairs r after → StopsAmong w (pairs ++ more) r after
+stops_more w after [] more r h = absurd h
+stops_more w after (pair ∷ pairs) more r (inl h) = inl h
+stops_more w after (pair ∷ pairs) more r (inr h) = inr (h.0, h.1, stops_more h.0 after pairs more r h.2)
+
+-- a result tells why it stopped
+pub ended_as : {X : Type 0} (w after : World) (pairs : List (Bytes × Bytes)) (old new : Tally) (result : Result X Refusal) (r : Refusal) → IsErrAnd result (λ q. q ≡ r) → StopsAmong w pairs r after → GoesTo w pairs old result new after
+ended_as w after pairs old new (Ok x) r e h = absurd e
+ended_as w after pairs old new (Err q) r e h = subst (λ (p : Refusal). StopsAmong w pairs p after) (sym e) h
 
 module _ (weigher : Weigher) where
   pub goes_none : (model : World) (t : Tally) (sites : List Seen) → StandsFor weigher sites model → Goes weigher model [] t done t sites
-  goes_none model t sites h = record { steps = []; answers = []; after = model; runs = refl; noted = notes_none t; exchanged = refl; stands = h }
+  goes_none model t sites h = record { after = model; goes = ([], (refl, refl), notes_none t); stands = h }
 
   -- with what the next pairs do
-  noted_then : {X : Type 0} (xs ys : List (Result Expected Refusal)) (t u v : Tally) (result : Result X Refusal) → Notes xs t u → IsNotedAll ys u result v → IsNotedAll (xs ++ ys) t result v
-  noted_then xs ys t u v (Ok x) h g = notes_then xs ys t u v h g
-  noted_then xs ys t u v (Err r) h g = refused_after xs ys r g
-
-  all_exchanged : {X : Type 0} (w mid after : World) (pairs more : List (Bytes × Bytes)) (result : Result X Refusal) → AllExchanged w pairs mid → OnOk result (AllExchanged mid more after) → OnOk result (AllExchanged w (pairs ++ more) after)
-  all_exchanged w mid after pairs more (Ok x) h g = exchanged_then w mid after pairs more h g
-  all_exchanged w mid after pairs more (Err r) h g = tt
+  goes_then : {X : Type 0} (w mid after : World) (pairs more : List (Bytes × Bytes)) (xs : List (Result Expected Refusal)) (t u v : Tally) (result : Result X Refusal) → AllExchanged w pairs xs mid → Notes xs t u
+      → GoesTo mid more u result v after → GoesTo w (pairs ++ more) t result v after
+  goes_then w mid after pairs more xs t u v (Ok x) h n g = (xs ++ g.0, exchanged_then w mid after pairs more xs g.0 h g.1, notes_then xs g.0 t u v n g.2)
+  goes_then w mid after pairs more xs t u v (Err r) h n g = stops_then w mid after pairs more xs r h g
 
   pub goes_on : {X : Type 0} (model : World) (pairs more : List (Bytes × Bytes)) (t u v : Tally) (result : Result X Refusal) (sites new : List Seen) → Goes weigher model pairs t done u sites
       → ((mid : World) → StandsFor weigher sites mid → Goes weigher mid more u result v new) → Goes weigher model (pairs ++ more) t result v new
   goes_on model pairs more t u v result sites new h g =
       let next = g h.after h.stands in
-      record {
-        steps = h.steps ++ next.steps;
-        answers = h.answers ++ next.answers;
-        after = next.after;
-        runs = runs_append model h.after next.after h.steps next.steps h.answers next.answers h.runs next.runs;
-        noted = noted_then h.answers next.answers t u v result h.noted next.noted;
-        exchanged = all_exchanged model h.after next.after pairs more result h.exchanged next.exchanged;
-        stands = next.stands;
-      }
+      record { after = next.after; goes = goes_then model h.after next.after pairs more h.goes.0 t u v result h.goes.1 h.goes.2 next.goes; stands = next.stands }
 
-  -- a refusal is the same whichever pairs were left
-  pub goes_off : {X Y : Type 0} (model : World) (pairs others : List (Bytes × Bytes)) (t u : Tally) (sites : List Seen) (first : Result X Refusal) (result : Result Y Refusal) (r : Refusal) → first ≡ Err r → IsErrAnd result (λ q. q ≡ r)
-      → Goes weigher model pairs t first u sites → Goes weigher model others t result u sites
-  goes_off model pairs others t u sites (Ok x) result r e f h = absurd cc
-  goes_off model pairs others t u sites (Err q) (Ok y) r e f h = absurd f
-  goes_off model pairs others t u sites (Err q) (Err p) r e f h =
-      let same : q ≡ p = cc in
-      record { steps = h.steps; answers = h.answers; after = h.after; runs = h.runs; noted = subst (λ (x : Refusal). IsRefusedBy h.answers x) same h.noted; exchanged = tt; stands = h.stands }
+  stopped_more : {X Y : Type 0} (w after : World) (pairs more : List (Bytes × Bytes)) (t u : Tally) (first : Result X Refusal) (result : Result Y Refusal) (r : Refusal) → first ≡ Err r → IsErrAnd result (λ q. q ≡ r)
+      → GoesTo w pairs t first u after → GoesTo w (pairs ++ more) t result u after
+  stopped_more w after pairs more t u (Ok x) result r e f h = absurd cc
+  stopped_more w after pairs more t u (Err q) result r e f h =
+      let same : q ≡ r = cc in
+      ended_as w after (pairs ++ more) t u result r f (subst (λ (p : Refusal). StopsAmong w (pairs ++ more) p after) same (stops_more w after pairs more q h))
+
+  -- a refusal of the first of some names' pairs is one of all
+  pub goes_off : {X Y : Type 0} (model : World) (f : Bytes → Bytes × Bytes) (names : List Bytes) (n : ℕ) (t u : Tally) (sites : List Seen) (first : Result X Refusal) (result : Result Y Refusal) (r : Refusal) → first ≡ Err r → IsErrAnd result (λ q. q ≡ r)
+      → Goes weigher model (map f (take n names)) t first u sites → Goes weigher model (map f names) t result u sites
+  goes_off model f names n t u sites first result r e is h =
+      let all : map f (take n names) ++ map f (drop n names) ≡ map f names = sym (map-append f (take n names) (drop n names)) ∙ ap (map f) (take-append-drop n names) in
+      record {
+        after = h.after;
+        goes = subst (λ pairs. GoesTo model pairs t result u h.after) all (stopped_more model h.after (map f (take n names)) (map f (drop n names)) t u first result r e is h.goes);
+        stands = h.stands;
+      }
 
   -- the pairs of names, one name more
   module _ (f : Bytes → Bytes × Bytes) (names : List Bytes) (i : ℕ) (name : Bytes) (lt : i < length names) (is : name ≡ slice_index_or names i name) where
