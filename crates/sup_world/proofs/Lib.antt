@@ -23,4 +23,3 @@ pub mod Making
 pub mod UpNames
 pub mod Settles
 pub mod Running
-pub mod SettleRuns
