@@ -55,8 +55,8 @@ noted w s (Ok e) w' old number new h n = record { answer = e; is = refl; numbere
 noted w s (Err q) w' old number new h n = absurd n
 
 -- what it was answered
-told_is : (w : World) (s : Step) (x : Result Expected Refusal) (w' : World) (old : Tally) (number : Option ℕ) (new : Tally) (n : Noted w s x w' old number new) → x ≡ Ok n.makes.x.answer
-told_is w s x w' old number new n = n.is ∙ ap (λ (e : Expected). let y : Result Expected Refusal = Ok e in y) n.makes.answer
+told_is : (x : Result Expected Refusal) (e : Expected) (y : Stepped) → x ≡ Ok e → e ≡ y.answer → x ≡ Ok y.answer
+told_is x e y is answer = is ∙ ap (λ (z : Expected). let r : Result Expected Refusal = Ok z in r) answer
 
 three : (x y z p q r : Result Expected Refusal) → x ≡ p → y ≡ q → z ≡ r → x ∷ y ∷ z ∷ [] ≡ p ∷ q ∷ r ∷ []
 three x y z p q r e f g = cc
@@ -162,6 +162,7 @@ module _ (weigher : Weigher) (model : World) (a b : Bytes) (old : Tally) where
       exchange_done number new sites t =
           let third : Noted d.0.after (arrival b n) t.0.expected t.0.after brought number new = noted d.0.after (arrival b n) t.0.expected t.0.after brought number new t.0.allows t.0.noted in
           let at_told : Stepping d.0.after (arrival b n) third.answer t.0.after = third.makes in
+          let came_as = arrives (Some n) brought came d in
           let second = at_arrival (Some n) brought came d in
           let sending : Sent model a b t.0.after = record {
             ship = at_ship.x;
@@ -179,9 +180,9 @@ module _ (weigher : Weigher) (model : World) (a b : Bytes) (old : Tally) where
           let answers : List (Result Expected Refusal) = h.expected ∷ d.0.expected ∷ t.0.expected ∷ [] in
           let told : answers ≡ Ok at_ship.x.answer ∷ Ok second.x.answer ∷ Ok at_told.x.answer ∷ [] =
               three h.expected d.0.expected t.0.expected (Ok at_ship.x.answer) (Ok second.x.answer) (Ok at_told.x.answer)
-              (told_is model (ship_of a b) h.expected h.after old (Some k) sent ship)
-              (told_is h.after (arrival a k) d.0.expected d.0.after sent (Some n) brought told_arrival)
-              (told_is d.0.after (arrival b n) t.0.expected t.0.after brought number new third) in
+              (told_is h.expected ship.answer at_ship.x ship.is at_ship.answer)
+              (told_is d.0.expected came_as.answer second.x came_as.is second.answer)
+              (told_is t.0.expected third.answer at_told.x third.is at_told.answer) in
           record {
             after = t.0.after;
             goes = (answers, (t.0.after, answers, [], (inl sending, told), (refl, refl), refl), notes_then (h.expected ∷ []) (d.0.expected ∷ t.0.expected ∷ []) old sent new ship.notes (notes_then (d.0.expected ∷ []) (t.0.expected ∷ []) sent brought new told_arrival.notes third.notes));

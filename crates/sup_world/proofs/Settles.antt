@@ -19,8 +19,8 @@ use Rattle.sup_world.specs.Seen.{Seen}
 use Rattle.sup_world.specs.Settling.{effects_of, AreUpNames, IsCutShort, IsToldOf, EndsSettling, SettlesTo}
 use Rattle.sup_world.specs.Tallies.{Notes}
 use Rattle.sup_world.specs.Pairs.{AllExchanged}
-use Rattle.sup_world.specs.Exchanges.{Goes, ends, running}
-use Rattle.sup_world.proofs.Going.{done, stops_more, goes_on}
+use Rattle.sup_world.specs.Exchanges.{GoesTo, Goes, ends, running}
+use Rattle.sup_world.proofs.Going.{done, stops_more, goes_then, goes_on}
 use Rattle.sup_world.proofs.Noting.{notes_none}
 use Rattle.sup_world.proofs.UpNames.{running_up, names_differ, first_known}
 
@@ -68,17 +68,11 @@ module _ (weigher : Weigher) (model : World) where
   }
 
   module _ (first : Bytes) (others : List Bytes) (t u v : Tally) (sites mid new : List Seen) (h : StandsFor weigher sites model) (sorted : IsSorted text_cmp (first ∷ others)) (all : IsPermutation (running sites) (first ∷ others)) where
-    ins : List (Bytes × Bytes)
-    ins = map (ends In first) others
-
-    outs : List (Bytes × Bytes)
-    outs = map (ends Out first) others
-
     -- a step of the first pass is refused
     pub gather_refused : (r : Refusal) (result : Result Settled Refusal) → IsErrAnd result (λ q. q ≡ r) → Goes weigher model (map (ends In first) others) t (let x : Result (Unit {0}) Refusal = Err r in x) u new → SettlesTo weigher model result new
     gather_refused r result e g = record {
       after = g.after;
-      ends = cut_short model g.after result r e (inr (first ∷ others, names_up (first ∷ others) sites h sorted all, stops_more model g.after ins outs r g.goes));
+      ends = cut_short model g.after result r e (inr (first ∷ others, names_up (first ∷ others) sites h sorted all, stops_more model g.after (map (ends In first) others) (map (ends Out first) others) r g.goes));
       stands = g.stands;
     }
 
@@ -86,25 +80,26 @@ module _ (weigher : Weigher) (model : World) where
     pub spread_refused : (r : Refusal) (result : Result Settled Refusal) → IsErrAnd result (λ q. q ≡ r) → Goes weigher model (map (ends In first) others) t done u mid
         → ((w : World) → StandsFor weigher mid w → Goes weigher w (map (ends Out first) others) u (let x : Result (Unit {0}) Refusal = Err r in x) v new) → SettlesTo weigher model result new
     spread_refused r result e g s =
-        let both = goes_on weigher model ins outs t u v (let x : Result (Unit {0}) Refusal = Err r in x) mid new g s in
+        let both = goes_on weigher model (map (ends In first) others) (map (ends Out first) others) t u v (let x : Result (Unit {0}) Refusal = Err r in x) mid new g s in
         record { after = both.after; ends = cut_short model both.after result r e (inr (first ∷ others, names_up (first ∷ others) sites h sorted all, both.goes)); stands = both.stands }
 
     -- both are made
     pub settled : (done_by : Settled) → IsBegun t → Goes weigher model (map (ends In first) others) t done u mid → ((w : World) → StandsFor weigher mid w → Goes weigher w (map (ends Out first) others) u done v new)
         → done_by.messages ≡ length v.sent.items → done_by.effects.items ≡ v.effects.items → SettlesTo weigher model (Ok done_by) new
     settled done_by b g s m e =
-        let both = goes_on weigher model ins outs t u v done mid new g s in
-        let after = s g.after g.stands in
+        let next = s g.after g.stands in
+        let both : GoesTo model (map (ends In first) others ++ map (ends Out first) others) t done v next.after =
+            goes_then model g.after next.after (map (ends In first) others) (map (ends Out first) others) g.goes.0 t u v done g.goes.1 g.goes.2 next.goes in
         let up = names_up (first ∷ others) sites h sorted all in
         let distinct : Distinct (first ∷ others) = names_differ weigher sites model (first ∷ others) h all in
         let known = first_known model first others up.all in
-        let settling : Settles model first others both.after = (g.after, gathered model first others g.goes.0 g.after g.goes.1, spread g.after first others after.goes.0 after.after after.goes.1) in
+        let settling : Settles model first others next.after = (g.after, gathered model first others g.goes.0 g.after g.goes.1, spread g.after first others next.goes.0 next.after next.goes.1) in
         record {
-          after = both.after;
+          after = next.after;
           ends = (
-            both.goes.0,
-            record { names = first ∷ others; up = up; exchanged = both.goes.1; all_know = settling_settles model first others both.after known.0 distinct.0 distinct.1 known.1 settling },
-            tallied both.goes.0 t v done_by b both.goes.2 m e,
+            both.0,
+            record { names = first ∷ others; up = up; exchanged = both.1; all_know = settling_settles model first others next.after known.0 distinct.0 distinct.1 known.1 settling },
+            tallied both.0 t v done_by b both.2 m e,
           );
-          stands = both.stands;
+          stands = next.stands;
         }
