@@ -1,5 +1,5 @@
 -- What an exchange does, by what its three steps are answered.
-use Rattle.std.specs.Prelude.{◌≡◌, ◌≢◌, ℕ, List, [], ◌∷◌, Option, Some, None, Result, Ok, Err, IsErrAnd, refl}
+use Rattle.std.specs.Prelude.{◌≡◌, ℕ, List, [], ◌∷◌, Option, Some, None, Result, Ok, Err, IsErrAnd, refl}
 use Rattle.std.proofs.Common.{sym, ap, ◌∙◌, subst}
 use mathlib.Core.Logic.{inl, inr}
 use Rattle.sup_specs.specs.Values.{Bytes}
@@ -179,10 +179,10 @@ module _ (weigher : Weigher) (model : World) (a b : Bytes) (old : Tally) where
           } in
           let answers : List (Result Expected Refusal) = h.expected ∷ d.0.expected ∷ t.0.expected ∷ [] in
           let told : answers ≡ Ok at_ship.x.answer ∷ Ok second.x.answer ∷ Ok at_told.x.answer ∷ [] =
-              three h.expected d.0.expected t.0.expected (Ok at_ship.x.answer) (Ok second.x.answer) (Ok at_told.x.answer)
-              (told_is h.expected ship.answer at_ship.x ship.is at_ship.answer)
-              (told_is d.0.expected came_as.answer second.x came_as.is second.answer)
-              (told_is t.0.expected third.answer at_told.x third.is at_told.answer) in
+          three h.expected d.0.expected t.0.expected (Ok at_ship.x.answer) (Ok second.x.answer) (Ok at_told.x.answer)
+          (told_is h.expected ship.answer at_ship.x ship.is at_ship.answer)
+          (told_is d.0.expected came_as.answer second.x came_as.is second.answer)
+          (told_is t.0.expected third.answer at_told.x third.is at_told.answer) in
           record {
             after = t.0.after;
             goes = (answers, (t.0.after, answers, [], (inl sending, told), (refl, refl), refl), notes_then (h.expected ∷ []) (d.0.expected ∷ t.0.expected ∷ []) old sent new ship.notes (notes_then (d.0.expected ∷ []) (t.0.expected ∷ []) sent brought new told_arrival.notes third.notes));
