@@ -16,7 +16,7 @@ use Rattle.sup_world.specs.Settling.{IsSettling, IsCutShort, pairs_of}
 abbrev pub RunTo : World → World → Type 0
 RunTo w after = (steps : List Step) × (answers : List (Result Answer Refusal)) × Run w steps answers after
 
-run_then : (w mid after : World) → RunTo w mid → RunTo mid after → RunTo w after
+pub run_then : (w mid after : World) → RunTo w mid → RunTo mid after → RunTo w after
 run_then w mid after h g = (h.0 ++ g.0, h.1 ++ g.1, runs_append w mid after h.0 g.0 h.1 g.1 h.2 g.2)
 
 one : (w : World) (s : Step) (answer : Result Answer Refusal) (after : World) → Allows w s answer after → RunTo w after
