@@ -1,0 +1,3 @@
+pub mod ImageLaws
+pub mod Relays
+pub mod TextLaws

@@ -1,0 +1,5 @@
+pub mod Image
+pub mod Relay
+pub mod Texts
+pub mod Waiting
+pub mod Sent
