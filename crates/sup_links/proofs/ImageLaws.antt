@@ -9,7 +9,7 @@ use Rattle.sup_links.specs.declared.script.Verdict.TheVariants.{Pass, Lose, Twic
 use Rattle.sup_links.specs.Image.{numbers, verdict, message, copies, released, behind, image}
 
 -- functions that agree on 1 to n
-flat_map_numbers : {X : Type 0} (f g : ℕ → List X) (n : ℕ) → ((i : ℕ) → 0 < i → i ≤ n → f i ≡ g i) → flat_map f (numbers n) ≡ flat_map g (numbers n)
+pub flat_map_numbers : {X : Type 0} (f g : ℕ → List X) (n : ℕ) → ((i : ℕ) → 0 < i → i ≤ n → f i ≡ g i) → flat_map f (numbers n) ≡ flat_map g (numbers n)
 flat_map_numbers f g zero h = refl
 flat_map_numbers f g (suc n) h = flat_map-append f (numbers n) ((n + 1) ∷ [])
     ∙ (ap (λ l. l ++ (f (n + 1) ++ [])) (flat_map_numbers f g n (λ i a b. h i a (omega arith))) ∙ ap (λ l. flat_map g (numbers n) ++ (l ++ [])) (h (n + 1) (omega arith) (omega arith)))
@@ -24,10 +24,10 @@ slice_get_end : {X : Type 0} (xs : List X) (y : X) → slice_get (xs ++ y ∷ []
 slice_get_end [] y = refl
 slice_get_end (x ∷ xs) y = slice_get_end xs y
 
-message_front : {X : Type 0} (sent : List X) (m : X) (i : ℕ) → 0 < i → i ≤ length sent → message (sent ++ m ∷ []) i ≡ message sent i
+pub message_front : {X : Type 0} (sent : List X) (m : X) (i : ℕ) → 0 < i → i ≤ length sent → message (sent ++ m ∷ []) i ≡ message sent i
 message_front sent m i a b = ap option_to_list (slice_get_front sent (m ∷ []) (i - 1) (omega arith))
 
-message_end : {X : Type 0} (sent : List X) (m : X) → message (sent ++ m ∷ []) (length sent + 1) ≡ m ∷ []
+pub message_end : {X : Type 0} (sent : List X) (m : X) → message (sent ++ m ∷ []) (length sent + 1) ≡ m ∷ []
 message_end sent m = let e : length sent + 1 - 1 ≡ length sent = omega arith in ap (λ k. option_to_list (slice_get (sent ++ m ∷ []) k)) e ∙ ap option_to_list (slice_get_end sent m)
 
 not_yet : {X : Type 0} (b : Bool) (l : List X) → b ≢ true → (if b then l else []) ≡ []
@@ -44,7 +44,7 @@ later (Hold n) i j l h = not_yet (i + n == j) l (λ e. let x : i + n ≡ j = eqb
 numbers_one : (n : ℕ) → numbers (n + 1) ≡ numbers n ++ (n + 1) ∷ []
 numbers_one n = let e : n + 1 ≡ suc n = omega arith in ap numbers e
 
-flat_last : {X : Type 0} (f : ℕ → List X) (n : ℕ) → flat_map f (numbers (n + 1)) ≡ flat_map f (numbers n) ++ f (n + 1)
+pub flat_last : {X : Type 0} (f : ℕ → List X) (n : ℕ) → flat_map f (numbers (n + 1)) ≡ flat_map f (numbers n) ++ f (n + 1)
 flat_last f n = ap (flat_map f) (numbers_one n) ∙ (flat_map-append f (numbers n) ((n + 1) ∷ []) ∙ ap (λ l. flat_map f (numbers n) ++ l) (append-nil (f (n + 1))))
 
 pub behind_front : {X : Type 0} (script : List Verdict) (sent : List X) (m : X) (j : ℕ) → j ≤ length sent → behind script (sent ++ m ∷ []) (length sent + 1) j ≡ behind script sent (length sent) j

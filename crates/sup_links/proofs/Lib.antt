@@ -1,3 +1,6 @@
+pub mod FrontLaws
+pub mod HeldLaws
 pub mod ImageLaws
+pub mod LoopLaws
 pub mod Relays
 pub mod TextLaws

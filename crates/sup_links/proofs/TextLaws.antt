@@ -1,20 +1,43 @@
 -- What parcels say, of lists that are put together.
-use Rattle.std.proofs.Common.{◌≡◌, List, [], ◌∷◌, ◌++◌, Result, Ok, Err, MatchResult, refl, ap, sym, ◌∙◌, append_assoc}
-use Rattle.std.proofs.lemmas.Grind.{flat_map-append}
+use Rattle.std.proofs.Common.{◌≡◌, ℕ, List, [], ◌∷◌, ◌++◌, Option, Some, None, Result, Ok, Err, refl, ap, sym, ◌∙◌, append_assoc, append-nil}
+use Rattle.std.proofs.lemmas.List.{map-append}
 use Rattle.sup_links.specs.declared.channel.Parcel.{Parcel}
-use Rattle.sup_links.specs.Texts.{text_of, texts, Bytes}
+use Rattle.std.specs.declared.vec.Vec.{Vec}
+use Rattle.std.specs.declared.alloc.Global.{Global}
+use Rattle.sup_links.specs.declared.held.Held.{Held}
+use Rattle.sup_links.specs.Texts.{said_of, said, on_way, texts, Bytes}
+use Rattle.sup_links.specs.Waiting.{waiting}
+use Rattle.sup_links.specs.Sending.{Sends}
 
-pub texts_more : (before after : List Parcel) → texts (before ++ after) ≡ texts before ++ texts after
-texts_more before after = flat_map-append text_of before after
+pub said_more : (before after : List Parcel) → said (before ++ after) ≡ said before ++ said after
+said_more before after = map-append said_of before after
 
-pub texts_begin : (put taken rest : List Parcel) → put ≡ taken ++ rest → (more : List Bytes) × (texts put ≡ texts taken ++ more)
-texts_begin put taken rest e = (texts rest, ap texts e ∙ texts_more taken rest)
+pub on_way_more : (before after : List Bytes) → on_way (before ++ after) ≡ on_way before ++ on_way after
+on_way_more before after = map-append Some before after
 
--- Of two messages the first was sent. The second was too, or the first is what was sent of both.
-pub second_sent : {A B : Type 0} (result : Result A B) (old mid new : List Bytes) (first second : Bytes) (both : List Bytes)
-    → both ≡ first ∷ second ∷ []
-    → mid ≡ old ++ first ∷ []
-    → MatchResult result (λ _. new ≡ mid ++ second ∷ []) (λ _. new ≡ mid)
-    → MatchResult result (λ _. new ≡ old ++ both) (λ _. (sent : List Bytes) × (rest : List Bytes) × (both ≡ sent ++ rest) × (new ≡ old ++ sent))
-second_sent (Ok _) old mid new first second both is before after = after ∙ (ap (λ l. l ++ second ∷ []) before ∙ (append_assoc old (first ∷ []) (second ∷ []) ∙ ap (λ l. old ++ l) (sym is)))
-second_sent (Err _) old mid new first second both is before after = (first ∷ [], second ∷ [], is, after ∙ before)
+pub sends_nothing : {A B : Type 0} (result : Result A B) (old new : List (Option Bytes)) (all : List Bytes) → all ≡ [] → new ≡ old → Sends result old new all
+sends_nothing (Ok _) old new all none same = same ∙ (sym (append-nil old) ∙ ap (λ l. old ++ on_way l) (sym none))
+sends_nothing (Err _) old new all none same = ([], [], none, same ∙ sym (append-nil old))
+
+-- the first part went whole, and then the second, or a beginning of it
+pub sends_then : {A B : Type 0} (result : Result A B) (old mid new : List (Option Bytes)) (first second all : List Bytes) → all ≡ first ++ second
+    → mid ≡ old ++ on_way first → Sends result mid new second → Sends result old new all
+sends_then (Ok _) old mid new first second all is before after = after
+    ∙ (ap (λ l. l ++ on_way second) before ∙ (append_assoc old (on_way first) (on_way second) ∙ ap (λ l. old ++ l) (sym (on_way_more first second)) ∙ ap (λ l. old ++ on_way l) (sym is)))
+sends_then (Err _) old mid new first second all is before after = (
+  first ++ after.0,
+  after.1,
+  is ∙ (ap (λ l. first ++ l) after.2 ∙ sym (append_assoc first after.0 after.1)),
+  after.3 ∙ (ap (λ l. l ++ on_way after.0) before ∙ (append_assoc old (on_way first) (on_way after.0) ∙ ap (λ l. old ++ l) (sym (on_way_more first after.0)))),
+)
+
+-- only a beginning of the first part went
+pub sends_less : {A B C D : Type 0} (e : C) (f : D) (old new : List (Option Bytes)) (first second all : List Bytes) → all ≡ first ++ second
+    → Sends {A = A} (Err e) old new first → Sends {A = B} (Err f) old new all
+sends_less e f old new first second all is some = (some.0, some.1 ++ second, is ∙ (ap (λ l. l ++ second) some.2 ∙ append_assoc some.0 some.1 second), some.3)
+
+pub texts_more : (before after : List (Vec ℕ Global)) → texts (before ++ after) ≡ texts before ++ texts after
+texts_more before after = map-append (λ (v : Vec ℕ Global). v.items) before after
+
+pub waiting_more : (before after : List Held) → waiting (before ++ after) ≡ waiting before ++ waiting after
+waiting_more before after = map-append (λ (h : Held). (h.left, h.text.items)) before after

@@ -1,5 +1,5 @@
--- What a link lets through, of the whole list that was sent.
-use Rattle.std.specs.Prelude.{ℕ, zero, suc, ◌+◌, ◌-◌, ◌==◌, Bool, List, [], ◌∷◌, ◌++◌, length, flat_map, slice_get, unwrap_or, Option, option_to_list, if◌then◌else◌}
+-- What a link lets through, of the whole list that was sent (this project).
+use Rattle.std.specs.Prelude.{ℕ, zero, suc, ◌+◌, ◌-◌, ◌==◌, nat_lt, Bool, List, [], ◌∷◌, ◌++◌, length, map, flat_map, slice_get, unwrap_or, Option, option_to_list, if◌then◌else◌}
 use Rattle.sup_links.specs.declared.script.Verdict.{Verdict}
 use Rattle.sup_links.specs.declared.script.Verdict.TheVariants.{Pass, Lose, Twice, Hold}
 
@@ -34,3 +34,12 @@ behind script sent n j = flat_map (λ i. released (verdict script i) i j (messag
 -- for each message in order: its copies, then each held message that is released behind it
 abbrev pub image : {X : Type 0} → List Verdict → List X → List X
 image script sent = flat_map (λ j. copies (verdict script j) (message sent j) ++ behind script sent (length sent) j) (numbers (length sent))
+
+-- a message that is held still waits behind message j, where j isn't yet n past its own number: for so many messages more
+abbrev pub waits : {X : Type 0} → Verdict → ℕ → ℕ → List X → List (ℕ × X)
+waits (Hold n) i j m = if nat_lt j (i + n) then map (λ x. (i + n - j, x)) m else []
+waits _ i j m = []
+
+-- what waits behind the last message, each with the number of messages for which it still waits
+abbrev pub held_of : {X : Type 0} → List Verdict → List X → List (ℕ × X)
+held_of script sent = flat_map (λ i. waits (verdict script i) i (length sent) (message sent i)) (numbers (length sent))
