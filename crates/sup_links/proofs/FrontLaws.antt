@@ -38,5 +38,5 @@ module _ (put got rest : List Parcel) (taken all : List Bytes) (ended : Bool)
   met_front = some_front taken all ((if ended then mark else []) ++ more) (whole_is ∙ append_assoc (on_way taken) (if ended then mark else []) more)
 
   pub met_whole : ended ≡ true → taken ≡ all
-  met_whole yes = marked_whole taken all more
-      (whole_is ∙ (append_assoc (on_way taken) (if ended then mark else []) more ∙ ap (λ (b : Bool). on_way taken ++ ((if b then mark else []) ++ more)) yes))
+  met_whole over = marked_whole taken all more
+      (whole_is ∙ (append_assoc (on_way taken) (if ended then mark else []) more ∙ ap (λ (b : Bool). on_way taken ++ ((if b then mark else []) ++ more)) over))

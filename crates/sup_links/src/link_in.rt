@@ -1,5 +1,5 @@
 //! The end of a link at which messages go in.
-ghost use Rattle.std.specs.Prelude.{◌≡◌, ◌++◌, [], false, min, length};
+ghost use Rattle.std.specs.Prelude.{◌≡◌, ◌+◌, ◌++◌, [], false, min, length};
 ghost use Rattle.sup_links.specs.Image.{image, held_of};
 ghost use Rattle.sup_links.specs.Waiting.{waiting};
 ghost use Rattle.sup_links.specs.Texts.{put_said, on_way, mark, IsFront};
@@ -35,6 +35,13 @@ impl From<AllocError> for PutFault {
     fn from(_error: AllocError) -> PutFault {
         PutFault::OutOfMemory
     }
+}
+
+// One verdict more is spent, as long as there are any.
+fn spend(spent: usize, of: usize) -> usize
+    ensures { result ≡ min (spent + 1) of }
+{
+    if spent < of { spent + 1 } else { of }
 }
 
 /// Where messages go in.
@@ -116,9 +123,7 @@ impl LinkIn {
         // What may be refused comes before the first change.
         let copies = make_copies(self.alloc, &mut self.held, verdict, text)?;
         self.log = log;
-        if self.spent < self.script.0.len() {
-            self.spent += 1;
-        }
+        self.spent = spend(self.spent, self.script.0.len());
         match send_all(self.alloc, &mut self.entry, rt, copies, &mut self.held) {
             Ok(()) => Ok(()),
             Err(_) => {
