@@ -1,5 +1,5 @@
 -- What was taken, of what was put behind one another and then marked.
-use Rattle.std.proofs.Common.{◌≡◌, ℕ, Bool, true, false, List, [], ◌∷◌, ◌++◌, length, take, drop, Option, Some, None, refl, ap, ◌∙◌, sym, append_assoc, append-nil}
+use Rattle.std.proofs.Common.{◌≡◌, Bool, true, List, [], ◌∷◌, ◌++◌, length, take, drop, Option, None, refl, ap, ◌∙◌, sym, append_assoc}
 use Rattle.std.specs.Prelude.{if◌then◌else◌}
 use Rattle.std.proofs.lemmas.List.{take-append-drop, take_at}
 use Rattle.sup_links.specs.declared.channel.Parcel.{Parcel}

@@ -1,5 +1,5 @@
 -- What one message more does to those that wait, and so to the image.
-use Rattle.std.proofs.Common.{◌≡◌, ℕ, zero, suc, ◌+◌, ◌-◌, ◌<◌, ◌≤◌, Bool, true, false, List, [], ◌∷◌, ◌++◌, length, refl, ap, ◌∙◌, sym, subst, arith, append-nil, not, ◌&&◌}
+use Rattle.std.proofs.Common.{◌≡◌, ℕ, ◌+◌, ◌-◌, Bool, true, false, List, [], ◌∷◌, ◌++◌, length, refl, ap, ◌∙◌, sym, arith, append-nil, not, ◌&&◌}
 use Rattle.std.specs.Prelude.{◌==◌, nat_lt, map, flat_map, if◌then◌else◌}
 use Rattle.std.proofs.lemmas.Grind.{flat_map-append}
 use Rattle.std.proofs.lemmas.Bool.Decides.{nat_tests}
@@ -121,7 +121,7 @@ module _ {X : Type 0} where
         let out : ℕ → List X = λ i. released (verdict script i) i (count + 1) (message all i) in
         due_more (held_of script sent) (held_back last m)
         ∙ (ap (λ l. l ++ due (counted (held_back last m))) (due_flat was (numbers count)
-            ∙ flat_map_numbers (λ i. due (counted (was i))) out count (λ i a b. due_waits (verdict script i) i count (message sent i) ∙ ap (λ l. released (verdict script i) i (count + 1) l) (sym (message_front sent m i a b))))
+        ∙ flat_map_numbers (λ i. due (counted (was i))) out count (λ i a b. due_waits (verdict script i) i count (message sent i) ∙ ap (λ l. released (verdict script i) i (count + 1) l) (sym (message_front sent m i a b))))
         ∙ (ap (λ l. flat_map out (numbers count) ++ l) (due_back last (count + 1) m ∙ ap (λ l. released last (count + 1) (count + 1) l) (sym (message_end sent m)))
         ∙ sym (flat_last out count)))
 
@@ -131,7 +131,7 @@ module _ {X : Type 0} where
         let whole : ℕ → List (ℕ × X) = λ n. flat_map (λ i. waits (verdict script i) i n (message all i)) (numbers n) in
         kept_more (held_of script sent) (held_back last m)
         ∙ (ap (λ l. l ++ kept (counted (held_back last m))) (kept_flat was (numbers count)
-            ∙ flat_map_numbers (λ i. kept (counted (was i))) now count (λ i a b. kept_waits (verdict script i) i count (message sent i) ∙ ap (λ l. waits (verdict script i) i (count + 1) l) (sym (message_front sent m i a b))))
+        ∙ flat_map_numbers (λ i. kept (counted (was i))) now count (λ i a b. kept_waits (verdict script i) i count (message sent i) ∙ ap (λ l. waits (verdict script i) i (count + 1) l) (sym (message_front sent m i a b))))
         ∙ (ap (λ l. flat_map now (numbers count) ++ l) (kept_back last (count + 1) m ∙ ap (λ l. waits last (count + 1) (count + 1) l) (sym (message_end sent m)))
         ∙ (sym (flat_last now count) ∙ ap whole (sym (length_push sent m)))))
 

@@ -1,5 +1,5 @@
 -- The image of a list that is one message longer.
-use Rattle.std.proofs.Common.{◌≡◌, ◌≢◌, ℕ, zero, suc, ◌+◌, ◌-◌, ◌<◌, ◌≤◌, Bool, true, false, List, [], ◌∷◌, ◌++◌, length, Option, Some, None, refl, ap, ◌∙◌, sym, subst, arith, append-nil}
+use Rattle.std.proofs.Common.{◌≡◌, ◌≢◌, ℕ, zero, suc, ◌+◌, ◌-◌, ◌<◌, ◌≤◌, Bool, true, false, List, [], ◌∷◌, ◌++◌, length, Some, refl, ap, ◌∙◌, sym, arith, append-nil}
 use Rattle.std.specs.Prelude.{◌==◌, flat_map, slice_get, option_to_list, if◌then◌else◌}
 use Rattle.std.proofs.lemmas.Grind.{flat_map-append}
 use Rattle.std.proofs.lemmas.List.{length-append}
@@ -64,5 +64,5 @@ image_one {X} script sent m = let n : ℕ = length sent in let all : List X = se
     ap (λ k. flat_map (at k) (numbers k)) (length-append sent (m ∷ []))
     ∙ (flat_last (at (n + 1)) n
     ∙ (ap (λ l. l ++ at (n + 1) (n + 1)) (flat_map_numbers (at (n + 1)) was n
-        (λ j a b. ap (λ l. copies (verdict script j) l ++ behind script all (n + 1) j) (message_front sent m j a b) ∙ ap (λ l. copies (verdict script j) (message sent j) ++ l) (behind_front script sent m j b)))
+    (λ j a b. ap (λ l. copies (verdict script j) l ++ behind script all (n + 1) j) (message_front sent m j a b) ∙ ap (λ l. copies (verdict script j) (message sent j) ++ l) (behind_front script sent m j b)))
     ∙ ap (λ l. flat_map was (numbers n) ++ (copies (verdict script (n + 1)) l ++ behind script all (n + 1) (n + 1))) (message_end sent m)))

@@ -1,7 +1,7 @@
 -- The loops over those that wait, one step on.
-use Rattle.std.proofs.Common.{◌≡◌, ◌≢◌, ℕ, zero, suc, ◌+◌, ◌-◌, ◌<◌, ◌≤◌, Bool, true, false, List, [], ◌∷◌, ◌++◌, length, take, drop, set, get_or, refl, ap, ◌∙◌, sym, subst, arith, append-nil, append_assoc, not, eqb}
-use Rattle.std.specs.Prelude.{◌==◌, map, flat_map, filter, if◌then◌else◌}
-use Rattle.std.proofs.lemmas.List.{at_drop_more, at_drop_all, drop-set-lt, drop_all}
+use Rattle.std.proofs.Common.{◌≡◌, ◌≢◌, ℕ, zero, suc, ◌+◌, ◌-◌, ◌<◌, ◌≤◌, Bool, true, false, List, [], ◌∷◌, ◌++◌, length, take, drop, set, get_or, refl, ap, ◌∙◌, sym, subst, arith, append-nil, append_assoc, not}
+use Rattle.std.specs.Prelude.{◌==◌, filter, if◌then◌else◌}
+use Rattle.std.proofs.lemmas.List.{at_drop_more, drop-set-lt, drop_all}
 use Rattle.std.proofs.lemmas.Bool.{eq-eqb}
 use Rattle.std.proofs.lemmas.Bool.Decides.{nat_tests}
 use Rattle.sup_links.specs.declared.held.Held.{Held}

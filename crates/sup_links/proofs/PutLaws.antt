@@ -1,5 +1,5 @@
 -- What a put keeps: what was said is the image, and those that wait are those that the definition holds.
-use Rattle.std.proofs.Common.{◌≡◌, ℕ, ◌+◌, ◌-◌, ◌<◌, ◌≤◌, zero, suc, List, [], ◌∷◌, ◌++◌, length, min, take, get_or, Option, Some, None, refl, ap, ◌∙◌, sym, subst, arith, append_assoc}
+use Rattle.std.proofs.Common.{◌≡◌, ℕ, ◌+◌, ◌-◌, ◌<◌, zero, suc, List, [], ◌∷◌, ◌++◌, length, min, take, get_or, Option, refl, ap, ◌∙◌, sym, arith, append_assoc}
 use Rattle.std.specs.Prelude.{slice_get, unwrap_or, map}
 use Rattle.std.proofs.lemmas.List.{length_push, map_push, map_more, length-map, length-take-le}
 use Rattle.std.specs.declared.vec.Vec.{Vec}

@@ -1,5 +1,5 @@
 -- What a link lets through, of the whole list that was sent (this project).
-use Rattle.std.specs.Prelude.{ℕ, zero, suc, ◌+◌, ◌-◌, ◌==◌, nat_lt, Bool, List, [], ◌∷◌, ◌++◌, length, map, flat_map, slice_get, unwrap_or, Option, option_to_list, if◌then◌else◌}
+use Rattle.std.specs.Prelude.{ℕ, zero, suc, ◌+◌, ◌-◌, ◌==◌, nat_lt, List, [], ◌∷◌, ◌++◌, length, map, flat_map, slice_get, unwrap_or, option_to_list, if◌then◌else◌}
 use Rattle.sup_links.specs.declared.script.Verdict.{Verdict}
 use Rattle.sup_links.specs.declared.script.Verdict.TheVariants.{Pass, Lose, Twice, Hold}
 

@@ -3,7 +3,7 @@ use Rattle.std.specs.Prelude.{ℕ, ◌+◌, ◌-◌, ◌==◌, List, [], ◌∷�
 use Rattle.sup_links.specs.Texts.{Bytes}
 use Rattle.sup_links.specs.declared.held.Held.{Held}
 use Rattle.sup_links.specs.declared.script.Verdict.{Verdict}
-use Rattle.sup_links.specs.declared.script.Verdict.TheVariants.{Pass, Lose, Twice, Hold}
+use Rattle.sup_links.specs.declared.script.Verdict.TheVariants.{Hold}
 
 -- each with the number of puts for which it still waits
 abbrev pub waiting : List Held → List (ℕ × Bytes)

@@ -1,6 +1,6 @@
 //! What a link lets through, of the whole list that was sent.
 
-ghost use Rattle.std.specs.Prelude.{◌≡◌, ◌+◌, ◌++◌, ◌∷◌, [], List, length, IfOk, OnOk};
+ghost use Rattle.std.specs.Prelude.{◌≡◌, ℕ, ◌+◌, ◌++◌, ◌∷◌, [], List, length, IfOk, OnOk};
 ghost use Rattle.sup_links.specs.Image.{verdict, copies, behind, image as image_of};
 ghost use Rattle.sup_links.specs.Texts.{Bytes, texts};
 ghost use Rattle.sup_links.specs.Waiting.{waiting, held_back, counted, due, kept};
@@ -75,11 +75,7 @@ fn hold_back(
 }
 
 // Each message that waits no more, in the order in which they were put. It leaves its place empty.
-fn push_due(
-    alloc: Global,
-    out: &mut Vec<Vec<u8>>,
-    held: &mut Vec<Held>,
-) -> Result<(), AllocError>
+fn push_due(alloc: Global, out: &mut Vec<Vec<u8>>, held: &mut Vec<Held>) -> Result<(), AllocError>
     ensures out { OnOk result (texts out.new.items ≡ texts out.old.items ++ due (waiting held.old.items)) }
     ensures others { OnOk result (kept (waiting held.new.items) ≡ kept (waiting held.old.items)) }
 {
@@ -137,8 +133,12 @@ pub fn image(
     Ok(out)
 }
 
+// Messages 1 to 5 under the script lose, twice, hold 1.
+pub(crate) fn image_row()
+    ensures { image_of {X = ℕ} (Verdict.Lose ∷ Verdict.Twice ∷ Verdict.Hold 1 ∷ []) (1 ∷ 2 ∷ 3 ∷ 4 ∷ 5 ∷ []) ≡ 2 ∷ 2 ∷ 4 ∷ 3 ∷ 5 ∷ [] }
+{}
+
 // What one message more brings out: its own copies, and then what is released behind it.
 pub(crate) fn image_grows()
     ensures { (script : List Verdict) (sent : List Bytes) (m : Bytes) → image_of script (sent ++ m ∷ []) ≡ image_of script sent ++ (copies (verdict script (length sent + 1)) (m ∷ []) ++ behind script (sent ++ m ∷ []) (length sent + 1) (length sent + 1)) }
-{
-}
+{}

@@ -17,7 +17,7 @@ use std::alloc::{AllocError, Global};
 use std::sync::Wait;
 use thiserror::Error;
 
-/// Why a message was not taken in. It is apart from the `Closed` of the other end, which takes no memory.
+/// Why a message was not taken in. The other end has `Closed` alone, since a take needs no memory.
 #[derive(Clone, Copy, Debug, PartialEq, Eq, Error)]
 pub enum PutFault {
     #[error("the link is closed")]

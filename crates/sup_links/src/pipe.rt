@@ -6,7 +6,9 @@ ghost use Rattle.crossbeam_channel.specs.Err.{send_message};
 ghost use Rattle.sup_links.specs.Relay.{log};
 ghost use Rattle.sup_links.specs.declared.channel.Parcel.{Parcel};
 
-use crate::channel::{InOrder, Seen, Meeting, Meets, Parcel, Place, Puts, Putting, Roles, Takes, Taking};
+use crate::channel::{
+    InOrder, Meeting, Meets, Parcel, Place, Puts, Putting, Roles, Seen, Takes, Taking,
+};
 use crossbeam_channel::bounded_with;
 use std::alloc::{AllocError, Global};
 use std::sync::Wait;

@@ -1,4 +1,4 @@
-use Rattle.std.proofs.Common.{◌∙◌, ap, refl, arith}
+use Rattle.std.proofs.Common.{◌∙◌, refl, arith}
 use Rattle.sup_links.proofs.LoopLaws.{count_one}
 use Rattle.sup_links.proofs.held.count_down.Goals as goal
 

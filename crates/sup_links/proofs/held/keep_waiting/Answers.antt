@@ -1,4 +1,4 @@
-use Rattle.std.proofs.Common.{◌≡◌, ap, ◌∙◌, rules, not, eqb}
+use Rattle.std.proofs.Common.{ap, ◌∙◌, rules, not}
 use Rattle.std.specs.Prelude.{◌==◌}
 use Rattle.std.proofs.lemmas.Fn.{filter_same}
 use Rattle.sup_links.specs.Waiting.{waiting}

@@ -1,5 +1,5 @@
-use Rattle.std.proofs.Common.{◌≡◌, ◌+◌, ◌++◌, ◌∷◌, [], take, ap, sym, ◌∙◌, refl, arith, ℕ}
-use Rattle.sup_links.specs.Image.{copies, image}
+use Rattle.std.proofs.Common.{◌+◌, ◌++◌, ◌∷◌, [], take, ap, sym, ◌∙◌, refl}
+use Rattle.sup_links.specs.Image.{copies}
 use Rattle.sup_links.specs.Texts.{texts}
 use Rattle.sup_links.specs.Waiting.{waiting, held_back, counted, due}
 use Rattle.sup_links.proofs.PutLaws.{Step, text_more, text_told, brings, keeps}

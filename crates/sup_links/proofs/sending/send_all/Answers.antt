@@ -1,4 +1,4 @@
-use Rattle.std.proofs.Common.{◌++◌, ap, refl, subst, List, sym}
+use Rattle.std.proofs.Common.{◌++◌, ap, refl, sym}
 use Rattle.sup_links.specs.Waiting.{waiting, counted, due}
 use Rattle.sup_links.specs.Going.{going}
 use Rattle.sup_links.specs.Texts.{put_said}

@@ -1,4 +1,4 @@
-use Rattle.std.proofs.Common.{ap, ◌++◌, ◌∷◌, []}
+use Rattle.std.proofs.Common.{ap, ◌∷◌, []}
 use Rattle.sup_links.specs.Going.{going}
 use Rattle.sup_links.specs.Texts.{put_said}
 use Rattle.sup_links.proofs.TextLaws.{sends_then, sends_err, stops_less}

@@ -1,4 +1,4 @@
-use Rattle.std.proofs.Common.{◌≡◌, ◌+◌, min, length, arith, ◌++◌, [], ◌∷◌, ap, ◌∙◌, true≢false}
+use Rattle.std.proofs.Common.{◌≡◌, ◌+◌, min, length, arith, ◌++◌, ap, ◌∙◌, true≢false}
 use Rattle.sup_links.specs.Waiting.{waiting, held_back}
 use Rattle.sup_links.specs.Going.{going}
 use Rattle.sup_links.specs.Texts.{put_said}

@@ -1,5 +1,5 @@
 use Rattle.std.proofs.Common.{ap, ◌∙◌}
-use Rattle.sup_links.proofs.Relays.{meets, parts, totals}
+use Rattle.sup_links.proofs.Relays.{meets, parts}
 use Rattle.sup_links.proofs.pipe.Exit.meet.Goals as goal
 
 pub absorb-requires-clause-rule : goal.absorb-requires-clause-rule
