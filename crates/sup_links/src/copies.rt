@@ -16,8 +16,8 @@ pub enum Copies {
     Two(Vec<u8>, Vec<u8>),
 }
 
-#[tactic(auto, using(crate::proofs::TextLaws::waiting_more))]
 // What of this message leaves at once. A held one joins those that wait.
+#[tactic(auto, using(crate::proofs::TextLaws::waiting_more))]
 pub fn make_copies(
     alloc: Global,
     held: &mut Vec<Held>,

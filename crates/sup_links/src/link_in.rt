@@ -56,9 +56,12 @@ pub struct LinkIn {
     // What was put, accepted or first answered Closed. It takes no memory.
     log: Log<Vec<u8>, ()>,
     alloc: Global,
+    // The verdicts spent are those of the messages put, as far as there are any.
     ghost counted: { spent ≡ min (length (sent_of log)) (length script.0.items) },
+    // Until the link closes, those wait that the definition holds, and what went is the image.
     ghost waits: { closed ≡ false → waiting held.items ≡ held_of script.0.items (sent_of log) },
     ghost went: { closed ≡ false → put_said entry.pass ≡ on_way (image script.0.items (sent_of log)) },
+    // What went is a beginning of the image and the end mark behind it.
     ghost begins: { IsFront (put_said entry.pass) (on_way (image script.0.items (sent_of log)) ++ mark) },
 }
 
@@ -99,7 +102,7 @@ impl LinkIn {
     ///
     /// # Errors
     ///
-    /// `Closed` where the other end is gone, and from then on. `OutOfMemory`, which leaves all as it was.
+    /// `Closed` where a message that was to go found the other end gone, and from then on. `OutOfMemory`, which leaves all as it was.
     pub fn put<R: Wait>(&mut self, rt: &R, text: Vec<u8>) -> Result<(), PutFault>
         ensures link { SameIn self.old self.new }
         ensures script { script_of self.new ≡ script_of self.old }
