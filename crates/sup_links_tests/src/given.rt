@@ -62,11 +62,7 @@ pub(crate) fn put(rt: &(impl Abort + AllocGlobal + Wait), entry: &mut LinkIn, me
     }
 }
 
-pub(crate) fn put_all(
-    rt: &(impl Abort + AllocGlobal + Wait),
-    entry: &mut LinkIn,
-    messages: &[&str],
-)
+pub(crate) fn put_all(rt: &(impl Abort + AllocGlobal + Wait), entry: &mut LinkIn, messages: &[&str])
     ensures { SameIn entry.old entry.new }
 {
     for message in messages {

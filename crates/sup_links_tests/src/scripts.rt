@@ -5,7 +5,9 @@ use std::sync::Wait;
 use sup_links::{Closed, PutFault, Verdict};
 
 const FIVE: [&str; 5] = ["m1", "m2", "m3", "m4", "m5"];
+
 const SCRIPT: [Verdict; 3] = [Verdict::Lose, Verdict::Twice, Verdict::Hold(1)];
+
 const IMAGE: [&str; 5] = ["m2", "m2", "m4", "m3", "m5"];
 
 // The image, and a link with that script.

@@ -45,8 +45,9 @@ fn the_script_holds_between_threads(rt: HostRuntime) {
 
 #[test]
 fn a_link_of_the_greatest_capacity_takes_so_many_with_no_take(rt: HostRuntime) {
-    let (mut entry, mut exit) =
-        link(rt.alloc(), script(&rt, &[]), MAX_CAPACITY).expect(&rt, "room");
+    let (mut entry, mut exit) = link(rt.alloc(), script(&rt, &[]), MAX_CAPACITY).expect(
+        &rt, "room",
+    );
     for _ in 0..MAX_CAPACITY {
         put(&rt, &mut entry, "m");
     }
