@@ -9,6 +9,8 @@ work=$(mktemp -d)
 trap 'rm -rf "$work"' EXIT
 [ $# -gt 0 ] || set -- \
   sup_local_sup_tests refused::a_refused_growth_changes_nothing_and_the_call_can_be_made_again \
+  sup_links_tests scripts::lost_doubled_and_held_messages_come_by_the_script \
+  sup_links_tests scripts::a_message_goes_behind_the_copies_of_the_one_it_waits_for \
   sup_wire_tests refused::a_refused_text_of_a_message_is_written_or_read_when_asked_again \
   sup_wire_tests refused::a_refused_text_of_an_image_is_written_or_read_when_asked_again \
   sup_wire_tests refused::a_fault_is_told_when_asked_again \

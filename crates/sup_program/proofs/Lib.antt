@@ -1,3 +1,4 @@
+pub mod SettleRuns
 pub mod PlayedRuns
 pub mod Messages
 pub mod Counts

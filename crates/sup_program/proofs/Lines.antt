@@ -49,7 +49,7 @@ settle_speaks weigher model new (Ok settled) s = (
   record {
     said = settled_text settled.messages settled.effects.items;
     after = s.after;
-    prints = record { steps = s.steps; answers = s.answers; runs = s.runs; says = inl (rw (s.told.0, s.told.1) refl, s.settles) };
+    prints = inl (record { answers = s.ends.0; settles = s.ends.1; says = rw (s.ends.2.messages, s.ends.2.effects) refl });
     stands = s.stands;
   },
   refl,
@@ -58,7 +58,7 @@ settle_speaks weigher model new (Err refusal) s = (
   record {
     said = refusal_text refusal;
     after = s.after;
-    prints = record { steps = s.steps; answers = s.answers; runs = s.runs; says = inr (refusal, s.told, refl) };
+    prints = inr (record { refusal = refusal; stops = s.ends; says = refl });
     stands = s.stands;
   },
   refl,

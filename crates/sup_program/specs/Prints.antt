@@ -9,10 +9,10 @@ use Rattle.sup_replica.specs.declared.refusal.Refusal.TheVariants.{UnknownNode}
 use Rattle.sup_node.specs.Texts.{IsReadAs}
 use Rattle.sup_model.specs.declared.step.Step.{Step}
 use Rattle.sup_model.specs.Worlds.{World, Site, Answer as Expected, site_of}
-use Rattle.sup_model.specs.Runs.{Allows, Run}
+use Rattle.sup_model.specs.Runs.{Allows}
 use Rattle.sup_world.specs.declared.answer.Answer.{Answer}
 use Rattle.sup_world.specs.Following.{IsAsOf}
-use Rattle.sup_world.specs.Settling.{messages_of, effects_of, IsRefusedBy, IsSettling}
+use Rattle.sup_world.specs.Settling.{messages_of, effects_of, IsSettling, IsCutShort}
 use Rattle.sup_lines.specs.declared.line.Line.{Line}
 use Rattle.sup_lines.specs.declared.line.Line.TheVariants as line
 use Rattle.sup_text.specs.Answers.{answer_text, refusal_text, settled_text}
@@ -35,18 +35,20 @@ pub record PrintsStep (w : World) (step : Step) (said : List ℕ) (after : World
   pub told : IsAsOf expected answer
   pub says : said ≡ said_of answer
 
--- how many messages were sent, and what is to be done, where the running nodes settled; or why settling ended before it was done
-abbrev pub IsSettledText : World → List (Result Expected Refusal) → List ℕ → World → Type 0
-IsSettledText w answers said after =
-    ((said ≡ settled_text (messages_of answers) (effects_of answers)) × IsSettling w after)
-    ⊎ ((refusal : Refusal) × IsRefusedBy answers refusal × (said ≡ refusal_text refusal))
-
--- steps that are answered as the model allows, of them all one text, and that the nodes settled where it says so
-pub record PrintsSettled (w : World) (said : List ℕ) (after : World) : Type 0 where
-  pub steps : List Step
+-- the running nodes settled: how many messages their exchanges sent, and what is to be done
+pub record PrintsAllSettled (w : World) (said : List ℕ) (after : World) : Type 0 where
   pub answers : List (Result Expected Refusal)
-  pub runs : Run w steps answers after
-  pub says : IsSettledText w answers said after
+  pub settles : IsSettling w answers after
+  pub says : said ≡ settled_text (messages_of answers) (effects_of answers)
+
+-- settling was cut short: why
+pub record PrintsCutShort (w : World) (said : List ℕ) (after : World) : Type 0 where
+  pub refusal : Refusal
+  pub stops : IsCutShort w refusal after
+  pub says : said ≡ refusal_text refusal
+
+abbrev pub PrintsSettled : World → List ℕ → World → Type 0
+PrintsSettled w said after = PrintsAllSettled w said after ⊎ PrintsCutShort w said after
 
 -- what a node shows, nothing while it is down
 abbrev pub shown_by : Site → Option Shown

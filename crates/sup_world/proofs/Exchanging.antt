@@ -1,6 +1,6 @@
 -- What an exchange does, by what its three steps are answered.
-use Rattle.std.specs.Prelude.{◌≡◌, ◌≢◌, ℕ, List, [], ◌∷◌, Option, Some, None, Result, Ok, Err, IsErrAnd, OnOk, refl}
-use Rattle.std.proofs.Common.{sym, ap, ◌∙◌, subst, arith}
+use Rattle.std.specs.Prelude.{◌≡◌, ℕ, List, [], ◌∷◌, Option, Some, None, Result, Ok, Err, IsErrAnd, refl}
+use Rattle.std.proofs.Common.{sym, ap, ◌∙◌, subst}
 use mathlib.Core.Logic.{inl, inr}
 use Rattle.sup_specs.specs.Values.{Bytes}
 use Rattle.sup_placement.specs.Place.{Weigher}
@@ -14,11 +14,11 @@ use Rattle.sup_model.proofs.ExchangeLaws.{ship_answered}
 use Rattle.sup_world.specs.declared.tally.Tally.{Tally}
 use Rattle.sup_world.specs.Following.{StandsFor}
 use Rattle.sup_world.specs.Seen.{Seen}
-use Rattle.sup_world.specs.Settling.{IsRefusedBy}
+use Rattle.sup_world.specs.Pairs.{ship_of, arrival, Sends, Fails}
 use Rattle.sup_world.specs.Tallies.{Notes}
-use Rattle.sup_world.specs.Exchanges.{ship_of, arrival, IsNoted, Ships, Comes, IsNotedAll, Goes}
+use Rattle.sup_world.specs.Exchanges.{IsNoted, Ships, Comes, Goes}
 use Rattle.sup_world.proofs.Noting.{notes_none, notes_then}
-use Rattle.sup_world.proofs.Going.{refused_after}
+use Rattle.sup_world.proofs.Going.{ended_as}
 
 -- a step of the model that is answered well
 pub record Stepping (w : World) (s : Step) (e : Expected) (w' : World) : Type 0 where
@@ -54,19 +54,19 @@ pub noted : (w : World) (s : Step) (x : Result Expected Refusal) (w' : World) (o
 noted w s (Ok e) w' old number new h n = record { answer = e; is = refl; numbered = n.0; notes = n.1; makes = stepping w s e w' h }
 noted w s (Err q) w' old number new h n = absurd n
 
+-- what it was answered
+told_is : (x : Result Expected Refusal) (e : Expected) (y : Stepped) → x ≡ Ok e → e ≡ y.answer → x ≡ Ok y.answer
+told_is x e y is answer = is ∙ ap (λ (z : Expected). let r : Result Expected Refusal = Ok z in r) answer
+
+three : (x y z p q r : Result Expected Refusal) → x ≡ p → y ≡ q → z ≡ r → x ∷ y ∷ z ∷ [] ≡ p ∷ q ∷ r ∷ []
+three x y z p q r e f g = cc
+
 -- one that wasn't
-pub refused_one : (x : Result Expected Refusal) (old new : Tally) (r : Refusal) → IsNoted x old (Err r) new → r ≢ UpToDate → IsRefusedBy (x ∷ []) r
-refused_one (Ok e) old new r h n = inl h
-refused_one (Err q) old new r h n = inr ((0, omega arith, ap (λ (p : Refusal). let y : Result Expected Refusal = Err p in y) (sym h.0)), n)
-
--- the same refusal told by a result
-refused_as : {X : Type 0} (answers : List (Result Expected Refusal)) (old new : Tally) (result : Result X Refusal) (r : Refusal) → IsErrAnd result (λ q. q ≡ r) → IsRefusedBy answers r → IsNotedAll answers old result new
-refused_as answers old new (Ok x) r e h = absurd e
-refused_as answers old new (Err q) r e h = subst (IsRefusedBy answers) (sym e) h
-
-err_any : {X : Type 0} (P : Type 0) (result : Result X Refusal) (r : Refusal) → IsErrAnd result (λ q. q ≡ r) → OnOk result P
-err_any P (Ok x) r e = absurd e
-err_any P (Err q) r e = tt
+fails : (w : World) (s : Step) (x : Result Expected Refusal) (w' : World) (old new : Tally) (r : Refusal) → Allows w s x w' → IsNoted x old (Err r) new → Fails w s r w'
+fails w s (Ok e) w' old new r h n =
+    let m : Stepping w s e w' = stepping w s e w' h in
+    inr (record { made = m.x; steps = m.steps; memory = n; ends = m.world })
+fails w s (Err q) w' old new r h n = inl (subst (λ (p : Refusal). Allows w s (Err p) w') (sym n.0) h)
 
 some_none : (number : Option ℕ) (n : ℕ) → None ≡ number → number ≡ Some n → ⊥
 some_none number n e f = cc
@@ -75,24 +75,16 @@ module _ (weigher : Weigher) (model : World) (a b : Bytes) (old : Tally) where
   -- the ship is refused
   pub exchange_unsent : (new : Tally) (sites : List Seen) (r : Refusal) (result : Result (Unit {0}) Refusal) → IsErrAnd result (λ q. q ≡ r) → Ships weigher model a b old (Err r) new sites → Goes weigher model ((a, b) ∷ []) old result new sites
   exchange_unsent new sites r result e h = record {
-    steps = ship_of a b ∷ [];
-    answers = h.expected ∷ [];
     after = h.after;
-    runs = (h.after, h.allows, refl);
-    noted = refused_as (h.expected ∷ []) old new result r e (refused_one h.expected old new r h.noted.0 h.noted.1);
-    exchanged = err_any _ result r e;
+    goes = ended_as model h.after ((a, b) ∷ []) old new result r e (inl (h.noted.1, inl (fails model (ship_of a b) h.expected h.after old new r h.allows h.noted.0)));
     stands = h.stands;
   }
 
   -- it is passed over
   pub exchange_passed : (new : Tally) (sites : List Seen) → Ships weigher model a b old (Ok None) new sites → Goes weigher model ((a, b) ∷ []) old (let r : Result (Unit {0}) Refusal = Ok tt in r) new sites
   exchange_passed new sites h = record {
-    steps = [];
-    answers = [];
     after = model;
-    runs = refl;
-    noted = subst (λ (t : Tally). Notes [] old t) (sym h.noted.3) (notes_none old);
-    exchanged = (model, inr (h.noted.1, refl), refl);
+    goes = ([], (model, [], [], (inr (h.noted.1, refl), refl), (refl, refl), refl), subst (λ (t : Tally). Notes [] old t) (sym h.noted.3) (notes_none old));
     stands = subst (StandsFor weigher sites) h.noted.2 h.stands;
   }
 
@@ -106,23 +98,22 @@ module _ (weigher : Weigher) (model : World) (a b : Bytes) (old : Tally) where
     ship : Noted model (ship_of a b) h.expected h.after old (Some k) sent
     ship = noted model (ship_of a b) h.expected h.after old (Some k) sent h.allows h.noted
 
-    -- the delivery is refused
-    pub exchange_unbrought : (new : Tally) (sites : List Seen) (r : Refusal) (result : Result (Unit {0}) Refusal) → IsErrAnd result (λ q. q ≡ r) → Comes weigher h.after a k sent (Err r) new sites → Goes weigher model ((a, b) ∷ []) old result new sites
-    exchange_unbrought new sites r result e d = record {
-      steps = ship_of a b ∷ arrival a k ∷ [];
-      answers = h.expected ∷ d.0.expected ∷ [];
-      after = d.0.after;
-      runs = (h.after, h.allows, (d.0.after, d.0.allows, refl));
-      noted = refused_as (h.expected ∷ d.0.expected ∷ []) old new result r e (refused_after (h.expected ∷ []) (d.0.expected ∷ []) r (refused_one d.0.expected sent new r d.0.noted d.1));
-      exchanged = err_any _ result r e;
-      stands = d.0.stands;
-    }
-
     at_ship : Stepping model (ship_of a b) ship.answer h.after
     at_ship = ship.makes
 
     ship_number : at_ship.x.answer.number ≡ Some k
     ship_number = sym (ap (λ (y : Expected). y.number) at_ship.answer) ∙ sym ship.numbered
+
+    sends : Sends model (ship_of a b) k h.after
+    sends = record { made = at_ship.x; steps = at_ship.steps; numbered = ship_number; ends = at_ship.world }
+
+    -- the delivery is refused
+    pub exchange_unbrought : (new : Tally) (sites : List Seen) (r : Refusal) (result : Result (Unit {0}) Refusal) → IsErrAnd result (λ q. q ≡ r) → Comes weigher h.after a k sent (Err r) new sites → Goes weigher model ((a, b) ∷ []) old result new sites
+    exchange_unbrought new sites r result e d = record {
+      after = d.0.after;
+      goes = ended_as model d.0.after ((a, b) ∷ []) old new result r e (inl (d.1, inr (k, h.after, sends, inl (fails h.after (arrival a k) d.0.expected d.0.after sent new r d.0.allows d.0.noted))));
+      stands = d.0.stands;
+    }
 
     -- the receiver always acknowledges
     module _ (number : Option ℕ) (brought : Tally) (came : List Seen) (d : Comes weigher h.after a k sent (Ok number) brought came) where
@@ -153,15 +144,16 @@ module _ (weigher : Weigher) (model : World) (a b : Bytes) (old : Tally) where
       told_arrival : Noted h.after (arrival a k) d.0.expected d.0.after sent (Some n) brought
       told_arrival = arrives (Some n) brought came d
 
+      acknowledges : Sends h.after (arrival a k) n d.0.after
+      acknowledges =
+          let second = at_arrival (Some n) brought came d in
+          record { made = second.x; steps = second.steps; numbered = arrival_number (Some n) brought came d; ends = second.world }
+
       -- the acknowledgement is refused
       pub exchange_untold : (new : Tally) (sites : List Seen) (r : Refusal) (result : Result (Unit {0}) Refusal) → IsErrAnd result (λ q. q ≡ r) → Comes weigher d.0.after b n brought (Err r) new sites → Goes weigher model ((a, b) ∷ []) old result new sites
       exchange_untold new sites r result e t = record {
-        steps = ship_of a b ∷ arrival a k ∷ arrival b n ∷ [];
-        answers = h.expected ∷ d.0.expected ∷ t.0.expected ∷ [];
         after = t.0.after;
-        runs = (h.after, h.allows, (d.0.after, d.0.allows, (t.0.after, t.0.allows, refl)));
-        noted = refused_as (h.expected ∷ d.0.expected ∷ t.0.expected ∷ []) old new result r e (refused_after (h.expected ∷ d.0.expected ∷ []) (t.0.expected ∷ []) r (refused_one t.0.expected brought new r t.0.noted t.1));
-        exchanged = err_any _ result r e;
+        goes = ended_as model t.0.after ((a, b) ∷ []) old new result r e (inl (t.1, inr (k, h.after, sends, inr (n, d.0.after, acknowledges, fails d.0.after (arrival b n) t.0.expected t.0.after brought new r t.0.allows t.0.noted))));
         stands = t.0.stands;
       }
 
@@ -170,6 +162,7 @@ module _ (weigher : Weigher) (model : World) (a b : Bytes) (old : Tally) where
       exchange_done number new sites t =
           let third : Noted d.0.after (arrival b n) t.0.expected t.0.after brought number new = noted d.0.after (arrival b n) t.0.expected t.0.after brought number new t.0.allows t.0.noted in
           let at_told : Stepping d.0.after (arrival b n) third.answer t.0.after = third.makes in
+          let came_as = arrives (Some n) brought came d in
           let second = at_arrival (Some n) brought came d in
           let sending : Sent model a b t.0.after = record {
             ship = at_ship.x;
@@ -184,12 +177,14 @@ module _ (weigher : Weigher) (model : World) (a b : Bytes) (old : Tally) where
             tells = subst (λ (w : World). step w (arrival b n) ≡ Ok at_told.x) second.world at_told.steps;
             ends = at_told.world;
           } in
+          let answers : List (Result Expected Refusal) = h.expected ∷ d.0.expected ∷ t.0.expected ∷ [] in
+          let told : answers ≡ Ok at_ship.x.answer ∷ Ok second.x.answer ∷ Ok at_told.x.answer ∷ [] =
+          three h.expected d.0.expected t.0.expected (Ok at_ship.x.answer) (Ok second.x.answer) (Ok at_told.x.answer)
+          (told_is h.expected ship.answer at_ship.x ship.is at_ship.answer)
+          (told_is d.0.expected came_as.answer second.x came_as.is second.answer)
+          (told_is t.0.expected third.answer at_told.x third.is at_told.answer) in
           record {
-            steps = ship_of a b ∷ arrival a k ∷ arrival b n ∷ [];
-            answers = h.expected ∷ d.0.expected ∷ t.0.expected ∷ [];
             after = t.0.after;
-            runs = (h.after, h.allows, (d.0.after, d.0.allows, (t.0.after, t.0.allows, refl)));
-            noted = notes_then (h.expected ∷ []) (d.0.expected ∷ t.0.expected ∷ []) old sent new ship.notes (notes_then (d.0.expected ∷ []) (t.0.expected ∷ []) sent brought new told_arrival.notes third.notes);
-            exchanged = (t.0.after, inl sending, refl);
+            goes = (answers, (t.0.after, answers, [], (inl sending, told), (refl, refl), refl), notes_then (h.expected ∷ []) (d.0.expected ∷ t.0.expected ∷ []) old sent new ship.notes (notes_then (d.0.expected ∷ []) (t.0.expected ∷ []) sent brought new told_arrival.notes third.notes));
             stands = t.0.stands;
           }

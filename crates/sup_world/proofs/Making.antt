@@ -16,7 +16,8 @@ use Rattle.sup_world.specs.declared.tally.Tally.{Tally}
 use Rattle.sup_world.specs.Following.{IsAsOf, Follows}
 use Rattle.sup_world.specs.Seen.{Seen}
 use Rattle.sup_world.specs.Tallies.{numbers_with, effects_by}
-use Rattle.sup_world.specs.Exchanges.{ship_of, arrival, IsNoted, Makes, Ships, Comes}
+use Rattle.sup_world.specs.Pairs.{ship_of, arrival}
+use Rattle.sup_world.specs.Exchanges.{IsNoted, Makes, Ships, Comes}
 use Rattle.sup_world.proofs.Noting.{notes_one}
 use Rattle.sup_world.proofs.Exchanging.{Stepping, stepping}
 

@@ -9,6 +9,7 @@ pub mod Newness
 pub mod Coming
 pub mod Runs
 pub mod Showing
+pub mod Pairs
 pub mod Settling
 pub mod Tallies
 pub mod Exchanges

@@ -30,7 +30,7 @@ returns-in_err-exchange-in-In-clause-goes g c model h =
     let u = c.loop-other.tally in
     let v = c.exchange.new.tally in
     let new = sites_of c.exchange.new.self in
-    goes_off w model (map f (take (i + 1) names)) (map f names) t v new refused c.from_residual.result r refl c.from_residual.ensures.1
+    goes_off w model f names (i + 1) t v new refused c.from_residual.result r refl c.from_residual.ensures.1
     (goes_more w f names i name c.loop-other-test.true c.other-item.is model t u v refused (sites_of c.loop-other.self) new (c.loop-other.invariant.goes model h)
     (λ mid s. subst (λ way. Goes w mid (ends way c.args.first.now name ∷ []) u refused v new) (sym c.in-In.is) (c.in_err-exchange-in-In.ensures.goes mid s)))
 
@@ -51,7 +51,7 @@ returns-in_err-exchange-in-Out-clause-goes g c model h =
     let u = c.loop-other.tally in
     let v = c.exchange-in-Out.new.tally in
     let new = sites_of c.exchange-in-Out.new.self in
-    goes_off w model (map f (take (i + 1) names)) (map f names) t v new refused c.from_residual-in_err-exchange-in-Out.result r refl c.from_residual-in_err-exchange-in-Out.ensures.1
+    goes_off w model f names (i + 1) t v new refused c.from_residual-in_err-exchange-in-Out.result r refl c.from_residual-in_err-exchange-in-Out.ensures.1
     (goes_more w f names i name c.loop-other-test.true c.other-item.is model t u v refused (sites_of c.loop-other.self) new (c.loop-other.invariant.goes model h)
     (λ mid s. subst (λ way. Goes w mid (ends way c.args.first.now name ∷ []) u refused v new) (sym c.in-Out.is) (c.in_err-exchange-in-Out.ensures.goes mid s)))
 

@@ -1,0 +1,27 @@
+-- The messages that wait at an end of a link, and what one put more does to them (this project).
+use Rattle.std.specs.Prelude.{ℕ, ◌+◌, ◌-◌, ◌==◌, List, [], ◌∷◌, map, flat_map, if◌then◌else◌}
+use Rattle.sup_links.specs.Texts.{Bytes}
+use Rattle.sup_links.specs.declared.held.Held.{Held}
+use Rattle.sup_links.specs.declared.script.Verdict.{Verdict}
+use Rattle.sup_links.specs.declared.script.Verdict.TheVariants.{Hold}
+
+-- each with the number of puts for which it still waits
+abbrev pub waiting : List Held → List (ℕ × Bytes)
+waiting = map (λ h. (h.left, h.text.items))
+
+-- what a new message adds to these; its own put is the first of them
+abbrev pub held_back : {X : Type 0} → Verdict → X → List (ℕ × X)
+held_back (Hold n) text = (n + 1, text) ∷ []
+held_back _ text = []
+
+-- one put later
+abbrev pub counted : {X : Type 0} → List (ℕ × X) → List (ℕ × X)
+counted = map (λ w. (w.0 - 1, w.1))
+
+-- those that wait no more
+abbrev pub due : {X : Type 0} → List (ℕ × X) → List X
+due = flat_map (λ w. if w.0 == 0 then w.1 ∷ [] else [])
+
+-- those that wait on
+abbrev pub kept : {X : Type 0} → List (ℕ × X) → List (ℕ × X)
+kept = flat_map (λ w. if w.0 == 0 then [] else w ∷ [])
