@@ -6,6 +6,7 @@ use Rattle.sup_placement.specs.Place.{Weigher}
 use Rattle.sup_station.specs.Stills.{Still}
 use Rattle.atomic_table.specs.Table.{State, Seen}
 use Rattle.sup_node_gate.specs.declared.entry.Entry.{Entry}
+use Rattle.sup_node_gate.specs.declared.bound.TheConstants.{MAX_BOUND}
 use Rattle.sup_node_gate.specs.declared.gate.NodeGate.{NodeGate}
 use Rattle.sup_node_gate.specs.declared.gate.Pass.{Pass}
 use Rattle.sup_node_gate.specs.declared.held.Held.{Held}
@@ -20,7 +21,7 @@ use Rattle.sup_node_gate.specs.Rule.{IsHeldBy, Kept}
 
 -- the bounds that a history may have
 abbrev pub IsBound : ℕ → Type 0
-IsBound bound = (1 ≤ bound) × (bound ≤ 1000000)
+IsBound bound = (1 ≤ bound) × (bound ≤ MAX_BOUND)
 
 abbrev pub view_of : {K W : Type 0} {g : _} {h : _} → Pass K W g h → View
 view_of pass = pass.seat.me.0

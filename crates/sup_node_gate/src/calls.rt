@@ -21,7 +21,7 @@ use sup_replica::{Act, Done, Refusal};
 use sup_station::Station;
 
 impl<K: Keeper, W: Weigh> NodeGate<K, W> {
-    /// A gate over a station, whose history may grow to `bound` entries, from 1 to 1,000,000, and a first pass.
+    /// A gate over a station, whose history may grow to `bound` entries, from 1 to [`MAX_BOUND`](crate::MAX_BOUND), and a first pass.
     ///
     /// # Errors
     ///

@@ -5,7 +5,7 @@ ghost use Rattle.sup_node_gate.specs.Gates.{IsOf};
 use std::process::Abort;
 use sup_keeper::{Keeper, MemKeeper};
 use sup_local_sup::Incarnation;
-use sup_node_gate::{NodeGate, Pass};
+use sup_node_gate::{MAX_BOUND, NodeGate, Pass};
 use sup_placement::FlatWeigh;
 use sup_replica::{Act, Config, Event};
 use sup_specs::{ChildId, ChildSpec, ExitReason, Kind, NodeName, Restart, Shutdown, Text};
@@ -55,9 +55,9 @@ pub(crate) fn gate(
 ) -> (NodeGate<MemKeeper, FlatWeigh>, Pass<MemKeeper, FlatWeigh>)
     ensures { IsOf MemKeeper.kept result.0 result.1 }
 {
-    match NodeGate::new(rt.alloc(), of, 1_000_000) {
+    match NodeGate::new(rt.alloc(), of, MAX_BOUND) {
         Ok(made) => made,
-        Err(of) => match NodeGate::new(rt.alloc(), of, 1_000_000) {
+        Err(of) => match NodeGate::new(rt.alloc(), of, MAX_BOUND) {
             Ok(made) => made,
             Err(_) => panic!(rt; "no room"),
         },

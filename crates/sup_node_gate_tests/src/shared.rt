@@ -7,7 +7,7 @@ use std::process::Abort;
 use std::sync::Wait;
 use std::thread::{Threads, join};
 use sup_keeper::{Keeper, MemKeeper};
-use sup_node_gate::{Entry, NodeGate, Pass};
+use sup_node_gate::{Entry, MAX_BOUND, NodeGate, Pass};
 use sup_placement::FlatWeigh;
 
 const CALLS: u64 = 1000;
@@ -54,7 +54,7 @@ fn judges(rt: &(impl Abort + AllocGlobal), history: &[Entry], children: &[&str])
 
 fn two_share<R: Threads + Wait + Abort + AllocGlobal + Sync>(rt: &R) {
     let of = station(rt, "a", MemKeeper::new(rt.alloc()));
-    let Ok((gate, pass)) = NodeGate::<MemKeeper, FlatWeigh>::new(rt.alloc(), of, 1_000_000) else {
+    let Ok((gate, pass)) = NodeGate::<MemKeeper, FlatWeigh>::new(rt.alloc(), of, MAX_BOUND) else {
         panic!(rt; "no room")
     };
     let (left, right) = gate.split(pass);
@@ -92,7 +92,7 @@ fn both_work<R: Threads + Wait + Abort + AllocGlobal + Sync>(
 
 fn four_share<R: Threads + Wait + Abort + AllocGlobal + Sync>(rt: &R) {
     let of = station(rt, "a", MemKeeper::new(rt.alloc()));
-    let Ok((gate, pass)) = NodeGate::<MemKeeper, FlatWeigh>::new(rt.alloc(), of, 1_000_000) else {
+    let Ok((gate, pass)) = NodeGate::<MemKeeper, FlatWeigh>::new(rt.alloc(), of, MAX_BOUND) else {
         panic!(rt; "no room")
     };
     let (left, right) = gate.split(pass);
