@@ -92,3 +92,8 @@ pub(crate) fn start(rt: &(impl Abort + AllocGlobal), id: &str) -> Act {
 pub(crate) fn delete(rt: &(impl Abort + AllocGlobal), id: &str) -> Act {
     Act::Event(Event::Delete(child(rt, id)))
 }
+
+/// The newest own change is pushed to this node.
+pub(crate) fn push(rt: &impl Abort, to: &str) -> Act {
+    Act::Event(Event::Push(NodeName::parse(to).expect(rt, "a node's name")))
+}

@@ -1,7 +1,7 @@
 //! Threads that share one gate over few rows.
 ghost use Rattle.sup_node_gate.specs.Gates.{IsOf};
 
-use crate::given::{child, delete, start, station};
+use crate::given::{delete, push, start, station};
 use crate::told::{agree, in_order};
 use std::process::Abort;
 use std::sync::Wait;
@@ -9,12 +9,23 @@ use std::thread::{Threads, join};
 use sup_keeper::{Keeper, MemKeeper};
 use sup_node_gate::{Entry, MAX_BOUND, NodeGate, Pass};
 use sup_placement::FlatWeigh;
+use sup_replica::Act;
 
 const CALLS: u64 = 1000;
 
 const RUNS: u64 = 10;
 
-// Starts and deletes a child in turn, each at the next moment.
+// A child is started and deleted now and then, and between these the newest change is pushed to a node of the same name. Few dots are
+// made, since each costs every later call.
+fn act(rt: &(impl Abort + AllocGlobal), of: &str, now: u64) -> Act {
+    match now % 100 {
+        0 => start(rt, of),
+        1 => delete(rt, of),
+        _ => push(rt, of),
+    }
+}
+
+// Makes the calls of one thread, each at the next moment.
 fn works<K: Keeper>(
     rt: &(impl Abort + Wait + AllocGlobal),
     gate: &NodeGate<K, FlatWeigh>,
@@ -26,23 +37,18 @@ fn works<K: Keeper>(
 {
     let mut pass = pass;
     for now in 0..CALLS {
-        let act = if now % 2 == 0 {
-            start(rt, of)
-        } else {
-            delete(rt, of)
-        };
-        let answer = gate.call(rt, &mut pass, act, now, &FlatWeigh);
+        let answer = gate.call(rt, &mut pass, act(rt, of, now), now, &FlatWeigh);
         assert!(rt; answer.is_ok());
     }
     pass
 }
 
-// The history, where each of these children's acts stands in it once and in its order; and it replays from a new station.
-fn judges(rt: &(impl Abort + AllocGlobal), history: &[Entry], children: &[&str]) {
-    for of in children {
-        assert!(rt; in_order(history, &child(rt, of)) == Some(CALLS));
+// The history, where the acts of each of these names stand in it once and in its order; and it replays from a new station.
+fn judges(rt: &(impl Abort + AllocGlobal), history: &[Entry], names: &[&str]) {
+    for of in names {
+        assert!(rt; in_order(history, of) == Some(CALLS));
     }
-    assert!(rt; history.len() as u64 == CALLS.saturating_mul(children.len() as u64));
+    assert!(rt; history.len() as u64 == CALLS.saturating_mul(names.len() as u64));
     let mut replayed = station(rt, "a", MemKeeper::new(rt.alloc()));
     for entry in history {
         assert!(rt; entry.saved);
