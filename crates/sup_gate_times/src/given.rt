@@ -3,7 +3,7 @@ ghost use Rattle.std.specs.Prelude.{◌≡◌};
 ghost use Rattle.sup_node_gate.specs.Gates.{IsOf};
 
 use std::process::Abort;
-use sup_keeper::MemKeeper;
+use sup_keeper::{Keeper, MemKeeper};
 use sup_local_sup::Incarnation;
 use sup_node_gate::{MAX_BOUND, NodeGate, Pass};
 use sup_placement::FlatWeigh;
@@ -11,9 +11,9 @@ use sup_replica::{Act, Config, Event};
 use sup_specs::{ChildId, ChildSpec, ExitReason, Kind, NodeName, Restart, Shutdown, Text};
 use sup_station::Station;
 
-pub(crate) type Gate = NodeGate<MemKeeper, FlatWeigh>;
+pub(crate) type Gate<K> = NodeGate<K, FlatWeigh>;
 
-pub(crate) type Seat = Pass<MemKeeper, FlatWeigh>;
+pub(crate) type Seat<K> = Pass<K, FlatWeigh>;
 
 pub(crate) const NODE: &str = "a";
 
@@ -28,11 +28,11 @@ pub(crate) fn station(rt: &(impl Abort + AllocGlobal)) -> Station<MemKeeper, Fla
 }
 
 /// A gate of the greatest bound.
-pub(crate) fn gate(
+pub(crate) fn gate<K: Keeper>(
     rt: &(impl Abort + AllocGlobal),
-    of: Station<MemKeeper, FlatWeigh>,
-) -> (Gate, Seat)
-    ensures { IsOf MemKeeper.kept result.0 result.1 }
+    of: Station<K, FlatWeigh>,
+) -> (Gate<K>, Seat<K>)
+    ensures { IsOf K.kept result.0 result.1 }
 {
     match NodeGate::new(rt.alloc(), of, MAX_BOUND) {
         Ok(made) => made,

@@ -6,7 +6,7 @@ use crate::given::{Gate, Seat, crash, gate, join, start, station};
 use std::process::Abort;
 use std::sync::Wait;
 use std::thread::{self, Threads};
-use sup_keeper::MemKeeper;
+use sup_keeper::{Keeper, MemKeeper};
 use sup_placement::FlatWeigh;
 use sup_station::Station;
 
@@ -34,18 +34,21 @@ pub(crate) fn by_steps(rt: &(impl Abort + AllocGlobal), count: u64) -> u64 {
     answered
 }
 
-fn calls(
+fn calls<K: Keeper>(
     rt: &(impl Abort + AllocGlobal + Wait),
-    at: &Gate,
-    pass: &mut Seat,
+    at: &Gate<K>,
+    pass: &mut Seat<K>,
     count: u64,
 ) -> u64
-    requires { IsOf MemKeeper.kept at.now pass.old }
-    ensures { IsOf MemKeeper.kept at.now pass.new }
+    requires { IsOf K.kept at.now pass.old }
+    ensures { IsOf K.kept at.now pass.new }
 {
     let mut answered = 0u64;
     for k in 1..=count {
-        if at.call(rt, pass, crash(rt, "x", k), moment(k), &FlatWeigh).is_ok() {
+        if at
+            .call(rt, pass, crash(rt, "x", k), moment(k), &FlatWeigh)
+            .is_ok()
+        {
             answered = answered.saturating_add(1);
         }
     }

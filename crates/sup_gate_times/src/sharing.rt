@@ -6,50 +6,52 @@ use crate::given::{Gate, Seat, gate, join, replace, start, station};
 use std::process::Abort;
 use std::sync::Wait;
 use std::thread::{self, Threads};
-use sup_keeper::MemKeeper;
+use sup_keeper::{Keeper, MemKeeper};
 use sup_placement::FlatWeigh;
+use sup_station::Station;
 
-fn opened(rt: &(impl Abort + AllocGlobal)) -> (Gate, Seat)
-    ensures { IsOf MemKeeper.kept result.0 result.1 }
-{
+fn running(rt: &(impl Abort + AllocGlobal)) -> Station<MemKeeper, FlatWeigh> {
     let mut of = station(rt);
     assert!(rt; of.step(join(rt), 0, &FlatWeigh).is_ok());
     for id in ["w", "x", "y", "z"] {
         assert!(rt; of.step(start(rt, id), 0, &FlatWeigh).is_ok());
     }
-    gate(rt, of)
+    of
 }
 
 // The pass, and how many calls were answered well.
-fn works(
+fn works<K: Keeper>(
     rt: &(impl Abort + Wait + AllocGlobal),
-    at: &Gate,
-    pass: Seat,
+    at: &Gate<K>,
+    pass: Seat<K>,
     id: &str,
     count: u64,
-) -> (Seat, u64)
-    requires { IsOf MemKeeper.kept at.now pass }
-    ensures { IsOf MemKeeper.kept at.now result.0 }
+) -> (Seat<K>, u64)
+    requires { IsOf K.kept at.now pass }
+    ensures { IsOf K.kept at.now result.0 }
 {
     let mut pass = pass;
     let mut answered = 0u64;
     for now in 0..count {
-        if at.call(rt, &mut pass, replace(rt, id), now, &FlatWeigh).is_ok() {
+        if at
+            .call(rt, &mut pass, replace(rt, id), now, &FlatWeigh)
+            .is_ok()
+        {
             answered = answered.saturating_add(1);
         }
     }
     (pass, answered)
 }
 
-fn two_work<R: Threads + Wait + Abort + AllocGlobal + Sync>(
+fn two_work<R: Threads + Wait + Abort + AllocGlobal + Sync, K: Keeper + Send>(
     rt: &R,
-    at: &Gate,
-    pass: Seat,
+    at: &Gate<K>,
+    pass: Seat<K>,
     ids: (&str, &str),
     count: u64,
-) -> (Seat, u64)
-    requires { IsOf MemKeeper.kept at.now pass }
-    ensures { IsOf MemKeeper.kept at.now result.0 }
+) -> (Seat<K>, u64)
+    requires { IsOf K.kept at.now pass }
+    ensures { IsOf K.kept at.now result.0 }
 {
     let (left, right) = at.split(pass);
     let (one, other) = thread::join(
@@ -61,17 +63,17 @@ fn two_work<R: Threads + Wait + Abort + AllocGlobal + Sync>(
 }
 
 pub(crate) fn alone(rt: &(impl Abort + Wait + AllocGlobal), count: u64) -> u64 {
-    let (at, pass) = opened(rt);
+    let (at, pass) = gate(rt, running(rt));
     works(rt, &at, pass, "w", count).1
 }
 
 pub(crate) fn by_two<R: Threads + Wait + Abort + AllocGlobal + Sync>(rt: &R, count: u64) -> u64 {
-    let (at, pass) = opened(rt);
+    let (at, pass) = gate(rt, running(rt));
     two_work(rt, &at, pass, ("w", "x"), count).1
 }
 
 pub(crate) fn by_four<R: Threads + Wait + Abort + AllocGlobal + Sync>(rt: &R, count: u64) -> u64 {
-    let (at, pass) = opened(rt);
+    let (at, pass) = gate(rt, running(rt));
     let (left, right) = at.split(pass);
     let (one, other) = thread::join(
         rt,

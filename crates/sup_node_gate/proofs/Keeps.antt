@@ -107,8 +107,8 @@ module _ {H : Type 0} where
         (λ (z : ℕ). (w : View) × (a : T.Act (P.Option H)) × Valid s.homes me.1 a × Kept sight g start bound (stepped s 1 z id me.1 w a)
         × took sight g (step slots 1 0 1 none) me (get_or s.words 1 0) (w, carried_after me.1 a))
         (λ (z : get_or s.words 1 0 ≡ 0). let home = r.free z in let h = home.0 in let held = sight h in let like : IsLike held r.held = home.2 in let w = taking me.0 held in let two = r.two in
-            let now : get_or (set s.words 1 1) 1 0 ≡ 1 = get_or-set_same s.words 1 1 0 (omega arith) in
-            let fits : (j : ℕ) (d : View) → get_elem? s.views j ≡ some d → Fits start held.history d = λ j d there. subst (λ (l : List Entry). Fits start l d) (sym like.0) (r.each_view j d there) in (
+        let now : get_or (set s.words 1 1) 1 0 ≡ 1 = get_or-set_same s.words 1 1 0 (omega arith) in
+        let fits : (j : ℕ) (d : View) → get_elem? s.views j ≡ some d → Fits start held.history d = λ j d there. subst (λ (l : List Entry). Fits start l d) (sym like.0) (r.each_view j d there) in (
           w,
           takes 0 (Some h),
           home.1,

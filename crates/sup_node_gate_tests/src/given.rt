@@ -3,7 +3,7 @@ ghost use Rattle.std.specs.Prelude.{◌≡◌};
 ghost use Rattle.sup_node_gate.specs.Gates.{IsOf};
 
 use std::process::Abort;
-use sup_keeper::{Keeper, MemKeeper};
+use sup_keeper::Keeper;
 use sup_local_sup::Incarnation;
 use sup_node_gate::{MAX_BOUND, NodeGate, Pass};
 use sup_placement::FlatWeigh;
@@ -49,11 +49,11 @@ fn empty(rt: &(impl Abort + AllocGlobal)) -> Text {
 }
 
 /// A gate over the station, of the greatest bound. Where memory is refused it is made once more, of the station that came back.
-pub(crate) fn gate(
+pub(crate) fn gate<K: Keeper>(
     rt: &(impl Abort + AllocGlobal),
-    of: Station<MemKeeper, FlatWeigh>,
-) -> (NodeGate<MemKeeper, FlatWeigh>, Pass<MemKeeper, FlatWeigh>)
-    ensures { IsOf MemKeeper.kept result.0 result.1 }
+    of: Station<K, FlatWeigh>,
+) -> (NodeGate<K, FlatWeigh>, Pass<K, FlatWeigh>)
+    ensures { IsOf K.kept result.0 result.1 }
 {
     match NodeGate::new(rt.alloc(), of, MAX_BOUND) {
         Ok(made) => made,

@@ -6,7 +6,7 @@ ghost use Rattle.sup_node_gate.specs.Gates.{IsOf};
 use crate::given::{crash, delete, gate, member, start, station};
 use std::process::Abort;
 use std::sync::Wait;
-use sup_keeper::MemKeeper;
+use sup_keeper::{Keeper, MemKeeper};
 use sup_node_gate::{NodeGate, Pass};
 use sup_placement::FlatWeigh;
 use sup_replica::{Act, Done, Refusal};
@@ -35,14 +35,14 @@ fn is_expected(place: u64, answer: &Result<Done, Refusal>) -> bool {
 }
 
 // The answer is the expected one, at the latest when the call is made once more.
-fn makes(
+fn makes<K: Keeper>(
     rt: &(impl Abort + AllocGlobal + Wait),
-    at: &NodeGate<MemKeeper, FlatWeigh>,
-    pass: &mut Pass<MemKeeper, FlatWeigh>,
+    at: &NodeGate<K, FlatWeigh>,
+    pass: &mut Pass<K, FlatWeigh>,
     place: u64,
 ) -> bool
-    requires { IsOf MemKeeper.kept at.now pass.old }
-    ensures { IsOf MemKeeper.kept at.now pass.new }
+    requires { IsOf K.kept at.now pass.old }
+    ensures { IsOf K.kept at.now pass.new }
 {
     let before = at.seen(pass);
     let first = at.call(rt, pass, act(rt, place), place, &FlatWeigh);

@@ -77,15 +77,15 @@ fn two_share<R: Threads + Wait + Abort + AllocGlobal + Sync>(rt: &R) {
 }
 
 // Two threads, whose passes are joined.
-fn both_work<R: Threads + Wait + Abort + AllocGlobal + Sync>(
+fn both_work<R: Threads + Wait + Abort + AllocGlobal + Sync, K: Keeper + Send>(
     rt: &R,
-    gate: &NodeGate<MemKeeper, FlatWeigh>,
-    pass: Pass<MemKeeper, FlatWeigh>,
+    gate: &NodeGate<K, FlatWeigh>,
+    pass: Pass<K, FlatWeigh>,
     of: &str,
     other: &str,
-) -> Pass<MemKeeper, FlatWeigh>
-    requires { IsOf MemKeeper.kept gate.now pass }
-    ensures { IsOf MemKeeper.kept gate.now result }
+) -> Pass<K, FlatWeigh>
+    requires { IsOf K.kept gate.now pass }
+    ensures { IsOf K.kept gate.now result }
 {
     let (left, right) = gate.split(pass);
     let (left, right) = join(
