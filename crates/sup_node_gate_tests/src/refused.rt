@@ -54,18 +54,32 @@ fn makes<K: Keeper>(
     is_expected(place, &second)
 }
 
+// The acts of the story, one after another.
+fn tells<K: Keeper>(
+    rt: &(impl Abort + AllocGlobal + Wait),
+    at: &NodeGate<K, FlatWeigh>,
+    pass: Pass<K, FlatWeigh>,
+) -> Pass<K, FlatWeigh>
+    requires { IsOf K.kept at.now pass }
+    ensures { IsOf K.kept at.now result }
+{
+    let mut pass = pass;
+    for place in 0..ACTS {
+        assert!(rt; makes(rt, at, &mut pass, place));
+    }
+    pass
+}
+
 #[test]
 fn a_call_refused_for_memory_leaves_no_entry_and_is_made_when_asked_again(rt: HostRuntime) {
-    let (at, mut pass) = gate(&rt, station(&rt, "a", MemKeeper::new(rt.alloc())));
-    for place in 0..ACTS {
-        assert!(rt; makes(&rt, &at, &mut pass, place));
-    }
+    let (at, pass) = gate(&rt, station(&rt, "a", MemKeeper::new(rt.alloc())));
+    let pass = tells(&rt, &at, pass);
     let Some((_station, history)) = at.close(pass) else {
         panic!(rt; "a turn is held")
     };
     assert!(rt; history.len() as u64 == ACTS);
-    for place in 0..history.len() {
-        assert!(rt; history[place].now == place as u64);
-        assert!(rt; history[place].saved);
+    for (place, entry) in history.iter().enumerate() {
+        assert!(rt; entry.now == place as u64);
+        assert!(rt; entry.saved);
     }
 }
