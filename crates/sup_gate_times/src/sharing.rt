@@ -1,5 +1,6 @@
 //! Threads that share one gate. Each replaces a child of its own.
 ghost use Rattle.std.specs.Prelude.{◌≡◌};
+ghost use Rattle.sup_keeper.specs.declared.mem_keeper.MemKeeper.{MemKeeper as InMemory};
 ghost use Rattle.sup_node_gate.specs.Gates.{IsOf};
 
 use crate::given::{Gate, Seat, gate, join, replace, start, station};
@@ -43,15 +44,15 @@ fn works<K: Keeper>(
     (pass, answered)
 }
 
-fn two_work<R: Threads + Wait + Abort + AllocGlobal + Sync, K: Keeper + Send>(
+fn two_work<R: Threads + Wait + Abort + AllocGlobal + Sync>(
     rt: &R,
-    at: &Gate<K>,
-    pass: Seat<K>,
+    at: &Gate<MemKeeper>,
+    pass: Seat<MemKeeper>,
     ids: (&str, &str),
     count: u64,
-) -> (Seat<K>, u64)
-    requires { IsOf K.kept at.now pass }
-    ensures { IsOf K.kept at.now result.0 }
+) -> (Seat<MemKeeper>, u64)
+    requires { IsOf (λ (k : InMemory). k.bytes) at.now pass }
+    ensures { IsOf (λ (k : InMemory). k.bytes) at.now result.0 }
 {
     let (left, right) = at.split(pass);
     let (one, other) = thread::join(

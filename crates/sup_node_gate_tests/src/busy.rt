@@ -1,14 +1,57 @@
 //! A gate whose turn is held while its keeper waits: a vector of the formats.
+ghost use Rattle.std.specs.Prelude.{◌≡◌};
+ghost use Rattle.sup_node_gate.specs.Gates.{IsOf};
+
 use crate::given::{start, station};
-use crate::told::tried;
+use crate::told::added;
 use crate::waiting::{FREE, HOLDS, WAITS, Waiting, shows};
 use std::process::Abort;
 use std::sync::Arc;
 use std::sync::atomic::{AtomicU64, Ordering};
 use std::thread::join;
-use sup_keeper::MemKeeper;
-use sup_node_gate::NodeGate;
+use sup_keeper::{Keeper, MemKeeper};
+use sup_node_gate::{Busy, NodeGate, Pass};
 use sup_placement::FlatWeigh;
+
+type Tried = Result<Option<u64>, Busy>;
+
+// The pass, and what came of one try: the counter of the dot that was added, if one was.
+fn tries<K: Keeper>(
+    rt: &(impl Abort + AllocGlobal),
+    at: &NodeGate<K, FlatWeigh>,
+    pass: Pass<K, FlatWeigh>,
+    id: &str,
+) -> (Pass<K, FlatWeigh>, Tried)
+    requires { IsOf K.kept at.now pass }
+    ensures { IsOf K.kept at.now result.0 }
+{
+    let mut pass = pass;
+    let told = match at.try_call(&mut pass, start(rt, id), 0, &FlatWeigh) {
+        Ok(answer) => Ok(added(&answer)),
+        Err(busy) => Err(busy),
+    };
+    (pass, told)
+}
+
+// Whether the lamp showed that a save waits, and what came then of a try at each of two nodes; the lamp is free again.
+fn tries_both<K: Keeper, J: Keeper>(
+    rt: &(impl Abort + AllocGlobal),
+    lamp: &AtomicU64,
+    at: &NodeGate<K, FlatWeigh>,
+    pass: Pass<K, FlatWeigh>,
+    beside: &NodeGate<J, FlatWeigh>,
+    other: Pass<J, FlatWeigh>,
+) -> (Pass<K, FlatWeigh>, bool, Tried, Tried)
+    requires first { IsOf K.kept at.now pass }
+    requires second { IsOf J.kept beside.now other }
+    ensures { IsOf K.kept at.now result.0 }
+{
+    let waits = shows(lamp, WAITS);
+    let (pass, here) = tries(rt, at, pass, "y");
+    let (_other, there) = tries(rt, beside, other, "y");
+    lamp.store(FREE, Ordering::SeqCst);
+    (pass, waits, here, there)
+}
 
 #[test]
 fn a_held_turn_keeps_others_out_of_its_own_node_alone(rt: HostRuntime) {
@@ -25,33 +68,25 @@ fn a_held_turn_keeps_others_out_of_its_own_node_alone(rt: HostRuntime) {
     ) else {
         panic!(rt; "no room")
     };
-    let Ok((b, mut pass_b)) = NodeGate::<MemKeeper, FlatWeigh>::new(
+    let Ok((b, pass_b)) = NodeGate::<MemKeeper, FlatWeigh>::new(
         rt.alloc(),
         station(&rt, "b", MemKeeper::new(rt.alloc())),
         100,
     ) else {
         panic!(rt; "no room")
     };
-    let (mut left, mut right) = a.split(left);
+    let (left, right) = a.split(left);
     lamp.store(HOLDS, Ordering::SeqCst);
     let (held, others) = join(
         &rt,
-        || tried(&a.try_call(&mut left, start(&rt, "x"), 0, &FlatWeigh)),
-        || {
-            let waits = shows(&lamp, WAITS);
-            let busy = a
-                .try_call(&mut right, start(&rt, "y"), 0, &FlatWeigh)
-                .is_err();
-            let at_b = tried(&b.try_call(&mut pass_b, start(&rt, "y"), 0, &FlatWeigh));
-            lamp.store(FREE, Ordering::SeqCst);
-            (waits, busy, at_b, right)
-        },
+        || tries(&rt, &a, left, "x"),
+        || tries_both(&rt, &lamp, &a, right, &b, pass_b),
     );
-    let (waits, busy, at_b, mut right) = others;
+    let (right, waits, here, there) = others;
     assert!(rt; waits);
-    assert!(rt; held == Some(1));
-    assert!(rt; busy);
-    assert!(rt; at_b == Some(1));
-    let after = a.try_call(&mut right, start(&rt, "y"), 0, &FlatWeigh);
-    assert!(rt; tried(&after) == Some(2));
+    assert!(rt; matches!(held.1, Ok(Some(1))));
+    assert!(rt; here.is_err());
+    assert!(rt; matches!(there, Ok(Some(1))));
+    let (_right, after) = tries(&rt, &a, right, "y");
+    assert!(rt; matches!(after, Ok(Some(2))));
 }

@@ -1,4 +1,5 @@
 //! Threads that share one gate over few rows.
+ghost use Rattle.sup_keeper.specs.declared.mem_keeper.MemKeeper.{MemKeeper as InMemory};
 ghost use Rattle.sup_node_gate.specs.Gates.{IsOf};
 
 use crate::given::{delete, push, start, station};
@@ -77,15 +78,15 @@ fn two_share<R: Threads + Wait + Abort + AllocGlobal + Sync>(rt: &R) {
 }
 
 // Two threads, whose passes are joined.
-fn both_work<R: Threads + Wait + Abort + AllocGlobal + Sync, K: Keeper + Send>(
+fn both_work<R: Threads + Wait + Abort + AllocGlobal + Sync>(
     rt: &R,
-    gate: &NodeGate<K, FlatWeigh>,
-    pass: Pass<K, FlatWeigh>,
+    gate: &NodeGate<MemKeeper, FlatWeigh>,
+    pass: Pass<MemKeeper, FlatWeigh>,
     of: &str,
     other: &str,
-) -> Pass<K, FlatWeigh>
-    requires { IsOf K.kept gate.now pass }
-    ensures { IsOf K.kept gate.now result }
+) -> Pass<MemKeeper, FlatWeigh>
+    requires { IsOf (λ (k : InMemory). k.bytes) gate.now pass }
+    ensures { IsOf (λ (k : InMemory). k.bytes) gate.now result }
 {
     let (left, right) = gate.split(pass);
     let (left, right) = join(
