@@ -1,5 +1,6 @@
 //! A gate whose turn is held while its keeper waits: a vector of the formats.
 ghost use Rattle.std.specs.Prelude.{◌≡◌};
+ghost use Rattle.sup_keeper.specs.declared.mem_keeper.MemKeeper.{MemKeeper as InMemory};
 ghost use Rattle.sup_node_gate.specs.Gates.{IsOf};
 
 use crate::given::{start, station};
@@ -33,22 +34,33 @@ fn tries<K: Keeper>(
     (pass, told)
 }
 
-// Whether the lamp showed that a save waits, and what came then of a try at each of two nodes; the lamp is free again.
-fn tries_both<K: Keeper, J: Keeper>(
+// A gate of another node, with its pass.
+fn beside(
+    rt: &(impl Abort + AllocGlobal),
+) -> (NodeGate<MemKeeper, FlatWeigh>, Pass<MemKeeper, FlatWeigh>)
+    ensures { IsOf (λ (k : InMemory). k.bytes) result.0 result.1 }
+{
+    let keeper = MemKeeper::new(rt.alloc());
+    match NodeGate::new(rt.alloc(), station(rt, "b", keeper), 100) {
+        Ok(made) => made,
+        Err(_) => panic!(rt; "no room"),
+    }
+}
+
+// Whether the lamp showed that a save waits, and what came then of a try here and of one at another node; the lamp is free again.
+fn tries_both<K: Keeper>(
     rt: &(impl Abort + AllocGlobal),
     lamp: &AtomicU64,
     at: &NodeGate<K, FlatWeigh>,
     pass: Pass<K, FlatWeigh>,
-    beside: &NodeGate<J, FlatWeigh>,
-    other: Pass<J, FlatWeigh>,
 ) -> (Pass<K, FlatWeigh>, bool, Tried, Tried)
-    requires first { IsOf K.kept at.now pass }
-    requires second { IsOf J.kept beside.now other }
+    requires { IsOf K.kept at.now pass }
     ensures { IsOf K.kept at.now result.0 }
 {
     let waits = shows(lamp, WAITS);
     let (pass, here) = tries(rt, at, pass, "y");
-    let (_other, there) = tries(rt, beside, other, "y");
+    let (other, second) = beside(rt);
+    let (_second, there) = tries(rt, &other, second, "y");
     lamp.store(FREE, Ordering::SeqCst);
     (pass, waits, here, there)
 }
@@ -68,19 +80,12 @@ fn a_held_turn_keeps_others_out_of_its_own_node_alone(rt: HostRuntime) {
     ) else {
         panic!(rt; "no room")
     };
-    let Ok((b, pass_b)) = NodeGate::<MemKeeper, FlatWeigh>::new(
-        rt.alloc(),
-        station(&rt, "b", MemKeeper::new(rt.alloc())),
-        100,
-    ) else {
-        panic!(rt; "no room")
-    };
     let (left, right) = a.split(left);
     lamp.store(HOLDS, Ordering::SeqCst);
     let (held, others) = join(
         &rt,
         || tries(&rt, &a, left, "x"),
-        || tries_both(&rt, &lamp, &a, right, &b, pass_b),
+        || tries_both(&rt, &lamp, &a, right),
     );
     let (right, waits, here, there) = others;
     assert!(rt; waits);

@@ -1,5 +1,4 @@
 //! Threads that share one gate over few rows.
-ghost use Rattle.sup_keeper.specs.declared.mem_keeper.MemKeeper.{MemKeeper as InMemory};
 ghost use Rattle.sup_node_gate.specs.Gates.{IsOf};
 
 use crate::given::{delete, push, start, station};
@@ -77,54 +76,9 @@ fn two_share<R: Threads + Wait + Abort + AllocGlobal + Sync>(rt: &R) {
     judges(rt, &history, &["x", "y"]);
 }
 
-// Two threads, whose passes are joined.
-fn both_work<R: Threads + Wait + Abort + AllocGlobal + Sync>(
-    rt: &R,
-    gate: &NodeGate<MemKeeper, FlatWeigh>,
-    pass: Pass<MemKeeper, FlatWeigh>,
-    of: &str,
-    other: &str,
-) -> Pass<MemKeeper, FlatWeigh>
-    requires { IsOf (λ (k : InMemory). k.bytes) gate.now pass }
-    ensures { IsOf (λ (k : InMemory). k.bytes) gate.now result }
-{
-    let (left, right) = gate.split(pass);
-    let (left, right) = join(
-        rt,
-        || works(rt, gate, left, of),
-        || works(rt, gate, right, other),
-    );
-    gate.join(left, right)
-}
-
-fn four_share<R: Threads + Wait + Abort + AllocGlobal + Sync>(rt: &R) {
-    let of = station(rt, "a", MemKeeper::new(rt.alloc()));
-    let Ok((gate, pass)) = NodeGate::<MemKeeper, FlatWeigh>::new(rt.alloc(), of, MAX_BOUND) else {
-        panic!(rt; "no room")
-    };
-    let (left, right) = gate.split(pass);
-    let (left, right) = join(
-        rt,
-        || both_work(rt, &gate, left, "w", "x"),
-        || both_work(rt, &gate, right, "y", "z"),
-    );
-    let pass = gate.join(left, right);
-    let Some((_station, history)) = gate.close(pass) else {
-        panic!(rt; "a turn is held")
-    };
-    judges(rt, &history, &["w", "x", "y", "z"]);
-}
-
 #[test]
 fn the_calls_of_two_threads_make_one_history(rt: HostRuntime) {
     for _ in 0..RUNS {
         two_share(&rt);
-    }
-}
-
-#[test]
-fn the_calls_of_four_threads_make_one_history(rt: HostRuntime) {
-    for _ in 0..RUNS {
-        four_share(&rt);
     }
 }
