@@ -82,10 +82,11 @@ fn a_held_turn_keeps_others_out_of_its_own_node_alone(rt: HostRuntime) {
     };
     let (left, right) = a.split(left);
     lamp.store(HOLDS, Ordering::SeqCst);
+    let light: &AtomicU64 = &lamp;
     let (held, others) = join(
         &rt,
         || tries(&rt, &a, left, "x"),
-        || tries_both(&rt, &lamp, &a, right),
+        || tries_both(&rt, light, &a, right),
     );
     let (right, waits, here, there) = others;
     assert!(rt; waits);
