@@ -16,10 +16,10 @@ pub fn run_beside<
     R: Threads + Wait + Sync,
     J: Send + Drop,
     T: Send + Drop,
-    J2: Drop,
-    T2: Drop,
-    W: Work<J, T> + Work<J2, T2> + Sync,
->(rt: &R, alloc: Global, jobs: Vec<J>, own: J2, work: &W) -> Result<(Vec<T>, T2), AllocError>
+    K: Drop,
+    U: Drop,
+    W: Work<J, T> + Work<K, U> + Sync,
+>(rt: &R, alloc: Global, jobs: Vec<J>, own: K, work: &W) -> Result<(Vec<T>, U), AllocError>
     requires jobs { All (W.Work-1.takes work.now) jobs.items }
     requires own { W.Work-2.takes work.now own }
     ensures jobs { IfOk result (λ r. AllZip (W.Work-1.gives work.now) jobs.items r.0.items) }
@@ -28,12 +28,12 @@ pub fn run_beside<
     thread::scope(
         thread::scope_env(),
         rt,
-        move |scope| -> Result<(Vec<T>, T2), AllocError>
+        move |scope| -> Result<(Vec<T>, U), AllocError>
             requires { All (W.Work-1.takes work.now) jobs.items × W.Work-2.takes work.now own }
             ensures { IfOk result (λ r. AllZip (W.Work-1.gives work.entry.now) jobs.items r.0.items × W.Work-2.gives work.entry.now own r.1) }
         {
             let handles = start_all(scope, alloc, jobs, work)?;
-            let done = Work::<J2, T2>::run(work, own);
+            let done = Work::<K, U>::run(work, own);
             Ok((thread::join_promised(rt, handles)?, done))
         },
     )
