@@ -31,6 +31,9 @@ struct Team {
     places: Vec<Place>,
 }
 
+// The weights at the places of a team, and the count of all weights.
+type Found = Result<(Vec<Option<u64>>, usize), AllocError>;
+
 impl<'a, R> Work<Place, Option<u64>> for Field<'a, R> {
     ghost takes = { λ field place. ⊤ };
 
@@ -57,7 +60,7 @@ impl<'a, R: Threads + Wait + Sync> Work<Team, Result<(Vec<Option<u64>>, usize), 
 
     ghost gives = { λ field team found. IfOk found (λ r. AllZip (λ place weight. weight ≡ slice_get field.weights.now place.0) team.places.items r.0.items × (r.1 ≡ length field.weights.now)) };
 
-    fn run(&self, team: Team) -> Result<(Vec<Option<u64>>, usize), AllocError> {
+    fn run(&self, team: Team) -> Found {
         run_beside(self.rt, self.alloc, team.places, Count, self)
     }
 }
@@ -70,19 +73,26 @@ fn team_of(rt: &(impl Abort + AllocGlobal), places: &[usize]) -> Team {
     Team { places: all }
 }
 
+// The weights at the places of each team, in the order of the teams.
+fn find_all<R: Threads + Wait + Sync>(
+    rt: &R,
+    alloc: Global,
+    weights: &[u64],
+    teams: Vec<Team>,
+) -> Result<Vec<Found>, AllocError>
+    ensures { IfOk result (λ all. AllZip (λ team found. IfOk found (λ r. AllZip (λ place weight. weight ≡ slice_get weights.now place.0) team.places.items r.0.items × (r.1 ≡ length weights.now))) teams.items all.items) }
+{
+    run_all(rt, alloc, teams, &Field { rt, alloc, weights })
+}
+
 #[test]
 fn threads_start_threads_over_one_field(rt: HostRuntime) {
-    let field = Field {
-        rt: &rt,
-        alloc: rt.alloc(),
-        weights: &[10, 20, 30],
-    };
     let mut teams = Vec::new(rt.alloc());
     teams.push(team_of(&rt, &[2, 0])).expect(&rt, "room");
     teams.push(team_of(&rt, &[])).expect(&rt, "room");
     teams.push(team_of(&rt, &[3, 1, 1])).expect(&rt, "room");
     let mut found = Vec::new(rt.alloc());
-    for done in run_all(&rt, rt.alloc(), teams, &field).expect(&rt, "room") {
+    for done in find_all(&rt, rt.alloc(), &[10, 20, 30], teams).expect(&rt, "room") {
         let (weights, count) = done.expect(&rt, "room");
         assert!(rt; count == 3);
         found.push(weights).expect(&rt, "room");

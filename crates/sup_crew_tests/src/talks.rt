@@ -43,14 +43,17 @@ fn a_job_waits_for_the_one_behind_it(rt: HostRuntime) {
 #[test]
 fn a_thread_waits_for_the_own_job(rt: HostRuntime) {
     let (to, from) = unbounded(rt.alloc()).expect(&rt, "room");
+    let (further_to, further_from) = unbounded(rt.alloc()).expect(&rt, "room");
     let mut jobs = Vec::new(rt.alloc());
     jobs.push(Side::Hears(from)).expect(&rt, "room");
+    jobs.push(Side::Tells(further_to)).expect(&rt, "room");
     let own = Side::Tells(to);
     let (done, own) = run_beside(&rt, rt.alloc(), jobs, own, &Talks { rt: &rt }).expect(
         &rt, "room",
     );
-    assert!(rt; done.as_slice() == [Some(7)].as_slice());
+    assert!(rt; done.as_slice() == [Some(7), Some(7)].as_slice());
     assert!(rt; own == Some(7));
+    assert!(rt; further_from.recv(&rt) == Ok(7));
 }
 
 #[test]
