@@ -9,8 +9,11 @@ use std::sync::Wait;
 use std::thread;
 use std::thread::Threads;
 
-/// Does each job in a thread of its own, and gives the results in the order of the jobs. Refused where a thread can't be made or memory
-/// runs out: the jobs that have no thread are dropped, and then those that run are waited for.
+/// Does each job in a thread of its own, and gives the results in the order of the jobs.
+///
+/// Refused where a thread can't be made or memory runs out: then the jobs that have no thread are dropped, and after that the threads that
+/// run are waited for. So a job may wait for an end of a channel that another job has, but not for one that stands in another's result:
+/// results are kept until all threads have ended.
 pub fn run_all<R: Threads + Wait + Sync, J: Send + Drop, T: Send + Drop, W: Work<J, T> + Sync>(
     rt: &R,
     alloc: Global,

@@ -10,8 +10,11 @@ use std::thread;
 use std::thread::Threads;
 
 /// Does each job in a thread of its own, and meanwhile `own` in the calling thread. Gives the results in the order of the jobs, and that
-/// of `own`. Refused where a thread can't be made or memory runs out: then `own`, if it was not begun, and the jobs that have no thread
-/// are dropped, and then the threads that run are waited for. So a job may wait for an end of a channel that `own` has.
+/// of `own`.
+///
+/// Refused where a thread can't be made or memory runs out: then the jobs that have no thread and `own`, if it was not begun, are dropped,
+/// and after that the threads that run are waited for. So a job may wait for an end of a channel that `own` has. It must not wait for one
+/// that stands in the result of `own`, which is kept until the threads have ended.
 pub fn run_beside<
     R: Threads + Wait + Sync,
     J: Send + Drop,

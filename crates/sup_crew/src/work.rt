@@ -4,10 +4,11 @@ use std::thread::Promise;
 
 /// What threads do with their jobs. All threads of a run share one work.
 pub trait Work<J, T> {
-    /// What a job has to meet.
+    /// What a job has to meet. A work that starts threads itself asks here for `IsSync` of the types that it shares with them
+    /// (`Rattle.std.specs.Thread`): a method knows nothing of the bounds `Sync` of its `impl`.
     ghost takes: { Self → J → Type 0 };
 
-    /// What a result has to do with its job.
+    /// How a result goes with its job.
     ghost gives: { Self → J → T → Type 0 };
 
     /// Does the job.
