@@ -20,5 +20,5 @@ pub use line::Line;
 pub use numbered::{NumberedLine, number_lines};
 pub use opening::{MOST_NODES, read_distinct};
 pub use script::{Script, read_script};
-pub use values::read_child_id;
+pub use values::{read_child_id, read_node_name, read_number};
 pub use words::{plain_text, words_of};
