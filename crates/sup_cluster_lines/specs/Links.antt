@@ -1,11 +1,10 @@
 -- The lines of links (this project's script format).
-use Rattle.std.specs.Prelude.{◌&&◌, not, List, [], ◌∷◌, Option, Some, None, if◌then◌else◌}
+use Rattle.std.specs.Prelude.{◌&&◌, List, ◌∷◌, Option, Some, None, if◌then◌else◌}
 use Rattle.sup_links.specs.declared.script.Verdict.{Verdict}
-use Rattle.sup_replica.specs.Nodes.{is_named}
 use Rattle.sup_plan.specs.declared.plan.Route.{Route}
+use Rattle.sup_plan.specs.Plans.{is_among, is_peer}
 use Rattle.sup_lines.specs.Words.{Word, Name, ◌>>=◌}
 use Rattle.sup_lines.specs.Values.{node_name_of}
-use Rattle.sup_cluster_lines.specs.Nodes.{is_among}
 use Rattle.sup_cluster_lines.specs.Verdicts.{verdicts_of}
 
 -- the link from one node to another, with its script
@@ -20,7 +19,7 @@ unfoldable pub ends_of : List Name → Word → Word → Option (Name × Name)
 ends_of nodes from to = do
   sender ← node_name_of from
   receiver ← node_name_of to
-  if is_among nodes sender && is_among nodes receiver && not (is_named sender receiver) then Some (sender, receiver) else None
+  if is_among nodes sender && is_peer nodes sender receiver then Some (sender, receiver) else None
 
 -- link FROM TO VERDICT.., behind the word link
 unfoldable pub link_of : List Name → List Word → Option Link

@@ -1,8 +1,6 @@
 -- The nodes of a run of threads (this project's script format).
-use Rattle.std.specs.Prelude.{ℕ, Bool, ◌&&◌, nat_le, List, [], ◌∷◌, length, Option, Some, None, if◌then◌else◌, codes}
+use Rattle.std.specs.Prelude.{ℕ, ◌&&◌, nat_le, List, [], ◌∷◌, length, Option, None, if◌then◌else◌, codes}
 use Rattle.std.specs.Str.{bytes_eq}
-use Rattle.std.specs.List.{list_any}
-use Rattle.sup_replica.specs.Nodes.{is_named}
 use Rattle.sup_lines.specs.Words.{Word, Name}
 use Rattle.sup_lines.specs.Opening.{distinct_names_of}
 use Rattle.sup_lines.specs.Script.{is_plain, words_of}
@@ -17,7 +15,3 @@ few_nodes_of (verb ∷ words) =
 -- the nodes that the bytes of the first line say
 unfoldable pub opening_of : List ℕ → Option (List Name)
 opening_of bytes = if is_plain bytes then few_nodes_of (words_of bytes) else None
-
--- the name is one of these nodes
-abbrev pub is_among : List Name → Name → Bool
-is_among nodes name = list_any (λ node. is_named name node) nodes

@@ -2,7 +2,6 @@
 use Rattle.std.specs.Prelude.{ℕ, Bool, ◌&&◌, List, [], ◌∷◌, ◌++◌, Option, Some, None, Result, Ok, Err, if◌then◌else◌, codes}
 use Rattle.std.specs.Str.{bytes_eq}
 use Rattle.std.specs.List.{list_any}
-use Rattle.sup_replica.specs.Nodes.{is_named}
 use Rattle.sup_plan.specs.declared.plan.Command.{Command}
 use Rattle.sup_lines.specs.Words.{Word, Name, ◌>>=◌}
 use Rattle.sup_lines.specs.Script.{is_plain, words_of, line_of, numbered_lines}
@@ -44,7 +43,7 @@ Asked = List Link × List Command
 
 -- between the same two nodes, in the same direction
 abbrev pub is_same_pair : Link → Link → Bool
-is_same_pair a b = is_named a.0 b.0 && is_named a.1.0 b.1.0
+is_same_pair a b = bytes_eq a.0 b.0 && bytes_eq a.1.0 b.1.0
 
 -- what a line says, behind what was asked before: a link stands before the first command, and each pair has one at most
 abbrev pub behind : Asked → Said → Option Asked

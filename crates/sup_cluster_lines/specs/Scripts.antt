@@ -1,6 +1,5 @@
 -- Scripts as they are read, line by line (for private contracts; this project).
 use Rattle.std.specs.Prelude.{◌≡◌, ℕ, List, map, Some, None, Result, Ok, Err}
-use Rattle.std.specs.Borrow.{Bor}
 use Rattle.sup_lines.specs.Words.{Name, ◌>>=◌}
 use Rattle.sup_lines.specs.declared.fault.LineFault.{LineFault}
 use Rattle.sup_lines.specs.declared.fault.LineFault.TheVariants.{Bad, OutOfMemory}

@@ -30,11 +30,7 @@ pub enum PlanLine {
 /// - `LineFault::OutOfMemory` where memory was refused. The words are listed first, so that it may stand in place of any answer to
 ///   a plain line.
 #[tactic(auto, unfolding(crate::specs::Script::said_of))]
-pub fn read_plan_line(
-    alloc: Global,
-    nodes: &[NodeName],
-    line: &[u8],
-) -> Result<PlanLine, LineFault>
+pub fn read_plan_line(alloc: Global, nodes: &[NodeName], line: &[u8]) -> Result<PlanLine, LineFault>
     ensures { ReadsLine said_in line.now result (said_of nodes.now line.now) }
 {
     match plain_text(line) {

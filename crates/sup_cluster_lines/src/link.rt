@@ -2,7 +2,6 @@
 
 ghost use Rattle.std.specs.Prelude.{◌≡◌, IfErr};
 ghost use Rattle.sup_lines.specs.Words.{Reads, texts};
-ghost use Rattle.sup_cluster_lines.specs.Nodes.{is_among};
 ghost use Rattle.sup_cluster_lines.specs.Links.{ends_of, link_in, link_of};
 
 use crate::verdict::read_verdicts;
@@ -10,14 +9,8 @@ use std::alloc::Global;
 use sup_lines::{LineFault, read_node_name};
 use sup_links::LinkScript;
 use sup_plan::Route;
+use sup_plan::checking::{is_among, is_peer};
 use sup_specs::NodeName;
-
-/// Whether a name is that of one of these nodes.
-pub fn is_among(nodes: &[NodeName], name: &NodeName) -> bool
-    ensures { result ≡ is_among nodes.now name.now }
-{
-    nodes.iter().any(|node| *name == *node)
-}
 
 /// The script of a link, between two of these nodes.
 ///
@@ -52,7 +45,7 @@ fn read_ends(nodes: &[NodeName], from: &str, to: &str) -> Result<(NodeName, Node
 {
     let from = read_node_name(from)?;
     let to = read_node_name(to)?;
-    if is_among(nodes, &from) && is_among(nodes, &to) && from != to {
+    if is_among(nodes, &from) && is_peer(nodes, &from, &to) {
         Ok((from, to))
     } else {
         Err(LineFault::Bad)

@@ -1,6 +1,6 @@
 //! The whole script.
 
-ghost use Rattle.std.specs.Prelude.{◌≡◌, [], map};
+ghost use Rattle.std.specs.Prelude.{◌≡◌, [], IfOk, map};
 ghost use Rattle.sup_lines.specs.Script.{ReadsAll};
 ghost use Rattle.std.specs.List.{list_any};
 ghost use Rattle.sup_cluster_lines.specs.Script.{all_behind, is_same_pair, plan_script_of};
@@ -11,6 +11,7 @@ use crate::line::{PlanLine, read_plan_line};
 use crate::nodes::read_opening;
 use std::alloc::Global;
 use sup_lines::{LineFault, NumberedLine, ScriptFault, number_lines};
+use sup_plan::checking::is_same_link;
 use sup_plan::{Command, Route};
 use sup_specs::NodeName;
 
@@ -38,7 +39,10 @@ pub fn read_plan_script(alloc: Global, bytes: &[u8]) -> Result<PlanScript, Scrip
     match lines.as_slice() {
         [] => Err(ScriptFault::BadLine(0)),
         [first, others @ ..] => match read_opening(alloc, first.bytes) {
-            Ok(nodes) => read_lines(alloc, nodes, others),
+            Ok(nodes) => {
+                let script = read_lines(alloc, nodes, others)?;
+                Ok(script)
+            }
             Err(LineFault::Bad) => Err(ScriptFault::BadLine(first.number)),
             Err(LineFault::OutOfMemory) => Err(ScriptFault::OutOfMemory),
         },
@@ -51,7 +55,8 @@ fn read_lines(
     nodes: Vec<NodeName>,
     lines: &[NumberedLine],
 ) -> Result<PlanScript, ScriptFault>
-    ensures { ReadsAll asked_in result (all_behind nodes.items ([], []) (numbered lines.now)) }
+    ensures script { ReadsAll asked_in result (all_behind nodes.items ([], []) (numbered lines.now)) }
+    ensures nodes { IfOk result (λ s. s.nodes.items ≡ nodes.items) }
 {
     let mut script = PlanScript {
         nodes,
@@ -72,9 +77,7 @@ fn read_lines(
 fn is_linked(links: &[Route], route: &Route) -> bool
     ensures { result ≡ list_any (is_same_pair (link_in route.now)) (map link_in links.now) }
 {
-    links
-        .iter()
-        .any(|link| route.from == link.from && route.to == link.to)
+    links.iter().any(|link| is_same_link(route, link))
 }
 
 impl PlanScript {

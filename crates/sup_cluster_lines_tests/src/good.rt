@@ -17,7 +17,8 @@ fn name(rt: &impl Abort, text: &str) -> NodeName {
     NodeName::parse(text).expect(rt, "a name")
 }
 
-const SCRIPT: &str = "nodes a b\nlink a b lose\nlink b a twice hold:1 hold:1000 pass\njoin a label=x\nship a b @7\n\nstart b db\npush b a";
+const SCRIPT: &str =
+    "nodes a b\nlink a b lose\nlink b a twice hold:1 hold:1000 pass\njoin a label=x\nship a b @7\n\nstart b db\npush b a";
 
 #[test]
 fn nodes_and_links_are_read_as_they_stand(rt: HostRuntime) {
@@ -29,7 +30,12 @@ fn nodes_and_links_are_read_as_they_stand(rt: HostRuntime) {
     assert!(rt; first.script.0.as_slice() == [Verdict::Lose].as_slice());
     let second = &script.links[1];
     assert!(rt; second.from == name(&rt, "b") && second.to == name(&rt, "a"));
-    let verdicts = [Verdict::Twice, Verdict::Hold(1), Verdict::Hold(1000), Verdict::Pass];
+    let verdicts = [
+        Verdict::Twice,
+        Verdict::Hold(1),
+        Verdict::Hold(1000),
+        Verdict::Pass,
+    ];
     assert!(rt; second.script.0.as_slice() == verdicts.as_slice());
 }
 
