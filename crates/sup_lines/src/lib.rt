@@ -19,6 +19,7 @@ pub use fault::{LineFault, ScriptFault};
 pub use line::Line;
 pub use numbered::{NumberedLine, number_lines};
 pub use opening::{MOST_NODES, read_distinct};
+pub use options::value_after;
 pub use script::{Script, read_script};
-pub use values::read_child_id;
+pub use values::{read_child_id, read_node_name, read_number};
 pub use words::{plain_text, words_of};

@@ -25,7 +25,8 @@ pub fn option_at<'a>(words: &'a [&'a str], key: &str, default: &'a str) -> (&'a 
     }
 }
 
-fn value_after<'a>(word: &'a str, key: &str) -> Option<&'a str>
+/// What stands after the key that a word begins with; none where it doesn't.
+pub fn value_after<'a>(word: &'a str, key: &str) -> Option<&'a str>
     ensures { option_map (λ v. v.now) result ≡ value_after key.now word.entry.now }
 {
     word.strip_prefix(key)

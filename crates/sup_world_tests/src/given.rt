@@ -74,18 +74,14 @@ pub(crate) fn raw(rt: &(impl Abort + AllocGlobal), at: &str, bytes: &[u8]) -> St
     }
 }
 
-/// A world of these nodes, with its settings, in which all members weigh alike.
-pub(crate) fn world_with(
-    rt: &(impl Abort + AllocGlobal),
-    names: &[NodeName],
-    config: Config,
-) -> World<FlatWeigh> {
-    World::new(rt.alloc(), names, config, FlatWeigh)
-        .or_else(|_| World::new(rt.alloc(), names, config, FlatWeigh))
+/// A world of these nodes, each with the settings that it has by itself.
+pub(crate) fn world_of(rt: &(impl Abort + AllocGlobal), names: &[NodeName]) -> World<FlatWeigh> {
+    World::new(rt.alloc(), names, Config::default(), FlatWeigh)
+        .or_else(|_| World::new(rt.alloc(), names, Config::default(), FlatWeigh))
         .expect(rt, "a world")
 }
 
-/// The same with the settings that a world has by itself.
+/// The same of nodes of these names.
 pub(crate) fn world(rt: &(impl Abort + AllocGlobal), words: &[&str]) -> World<FlatWeigh> {
-    world_with(rt, names(rt, words).as_slice(), Config::default())
+    world_of(rt, names(rt, words).as_slice())
 }

@@ -4,8 +4,6 @@
 #![tactic(auto)]
 
 #[cfg(test)]
-mod children;
-#[cfg(test)]
 mod deliveries;
 #[cfg(test)]
 mod failing;
@@ -28,15 +26,9 @@ mod refusals;
 #[cfg(test)]
 mod refused;
 #[cfg(test)]
-mod restarts;
-#[cfg(test)]
 mod runs;
 #[cfg(test)]
-mod saves;
-#[cfg(test)]
 mod seen;
-#[cfg(test)]
-mod settling;
 #[cfg(test)]
 mod stage;
 #[cfg(test)]

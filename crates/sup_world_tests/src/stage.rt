@@ -1,12 +1,12 @@
 //! A world that plays the lines of a script, one after another. Where memory is refused a call is made once more.
-use crate::given::{script, world_with};
+use crate::given::{script, world_of};
 use crate::made::made;
 use crate::told::{answered, led, put, settled, shown};
 use std::process::Abort;
 use sup_lines::Line;
 use sup_model::Step;
 use sup_placement::FlatWeigh;
-use sup_replica::{Config, Refusal};
+use sup_replica::Refusal;
 use sup_specs::{Name, NodeName};
 use sup_world::{Answer, World};
 
@@ -18,17 +18,7 @@ struct Stage {
 
 /// Expects that the world of the script's nodes plays its lines, and tells what is wanted.
 pub(crate) fn plays(rt: &(impl Abort + AllocGlobal), text: &str, wanted: &str) {
-    plays_with(rt, Config::default(), text, wanted);
-}
-
-/// The same with these settings.
-pub(crate) fn plays_with(
-    rt: &(impl Abort + AllocGlobal),
-    config: Config,
-    text: &str,
-    wanted: &str,
-) {
-    let Stage { told, .. } = played(rt, config, text);
+    let Stage { told, .. } = played(rt, text);
     assert!(rt; told.as_str() == wanted, "{told}");
 }
 
@@ -38,15 +28,15 @@ pub(crate) fn world_after(
     text: &str,
     wanted: &str,
 ) -> World<FlatWeigh> {
-    let Stage { world, told } = played(rt, Config::default(), text);
+    let Stage { world, told } = played(rt, text);
     assert!(rt; told.as_str() == wanted, "{told}");
     world
 }
 
-fn played(rt: &(impl Abort + AllocGlobal), config: Config, text: &str) -> Stage {
+fn played(rt: &(impl Abort + AllocGlobal), text: &str) -> Stage {
     let script = script(rt, text);
     let mut stage = Stage {
-        world: world_with(rt, script.nodes.as_slice(), config),
+        world: world_of(rt, script.nodes.as_slice()),
         told: String::new(rt.alloc()),
     };
     stage.plays_lines(rt, script.lines.as_slice());
