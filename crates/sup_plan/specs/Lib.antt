@@ -1,0 +1,3 @@
+pub mod Parts
+pub mod Sublists
+pub mod Calls

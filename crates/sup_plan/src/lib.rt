@@ -1,0 +1,8 @@
+//! Plans of runs in which nodes are threads, and the histories that such runs give back.
+#![tactic(auto)]
+
+pub mod histories;
+pub mod plan;
+
+pub use histories::{Histories, History};
+pub use plan::{Command, Plan, Route};
