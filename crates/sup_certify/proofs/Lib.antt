@@ -5,3 +5,4 @@ pub mod Messages
 pub mod FollowLaws
 pub mod SumLaws
 pub mod WaitLaws
+pub mod StepLaws

@@ -1,0 +1,6 @@
+//! Scratch.
+#![tactic(auto)]
+
+pub fn one() -> u8 {
+    1
+}
