@@ -6,3 +6,5 @@ pub mod FollowLaws
 pub mod SumLaws
 pub mod WaitLaws
 pub mod StepLaws
+pub mod PlanLaws
+pub mod FaultLaws

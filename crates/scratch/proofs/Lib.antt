@@ -1,3 +1,0 @@
-pub mod OrderLaws
-pub mod SumLaws
-pub mod WaitLaws

@@ -1,6 +1,0 @@
-//! Scratch.
-#![tactic(auto)]
-
-pub fn one() -> u8 {
-    1
-}
