@@ -4,9 +4,11 @@ use Prim.Native.Nat.{zero}
 use mathlib.Core.Bool.{true≢false}
 use Rattle.std.specs.Str.{bytes_eq}
 use Rattle.std.specs.Cmp.Lexicographic.{bytes_decides}
-use Rattle.std.proofs.Common.{sym, ap, ◌∙◌, arith}
+use Rattle.std.proofs.Common.{sym, ap, ◌∙◌, subst, arith}
 use Rattle.std.proofs.lemmas.List.{map-append, take_more}
 use Rattle.sup_plan.specs.declared.histories.History.{History}
+use Rattle.sup_world.specs.Naming.{AreWorldNames}
+use Rattle.sup_certify.specs.Faults.{AreOf, CanJudge}
 use Rattle.sup_certify.specs.Progress.{IsWithin, IsWhole, entries_in, left_of, names_of, placed_after, Grows}
 use Rattle.sup_specs.specs.Values.{Bytes}
 
@@ -44,3 +46,9 @@ pub names_more : (hs : List History) (nodes : List Bytes) (i : ℕ) (h : History
 names_more hs nodes i h node r lt is within at e f inv =
     let eq : h.node ≡ node = (bytes_decides h.node node).0 (not_true (bytes_eq h.node node) (sym e ∙ f)) in
     names_taken hs i h lt is ∙ ap (λ xs. xs ++ h.node ∷ []) inv ∙ ap (λ (n : Bytes). take i nodes ++ n ∷ []) (eq ∙ at) ∙ sym (take_more nodes i node within)
+
+pub can_judge : (hs seen : List History) (nodes names : List Bytes) → seen ≡ hs → names ≡ nodes → AreOf seen names → AreWorldNames nodes → CanJudge nodes hs
+can_judge hs seen nodes names e f are named = record {
+  are_of = subst (λ (xs : List History). AreOf xs nodes) e (subst (λ (ns : List Bytes). AreOf seen ns) f are);
+  named = named;
+}

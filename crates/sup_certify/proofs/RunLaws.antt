@@ -1,8 +1,8 @@
 -- Runs with one entry more.
 use Rattle.std.specs.Prelude.{◌≡◌, ◌<◌, ◌+◌, ℕ, true, All, List, [], ◌∷◌, ◌++◌, length, slice_index, slice_index_or, slice_set, refl}
 use Rattle.std.specs.List.{AllZip}
-use Rattle.std.proofs.Common.{subst}
-use Rattle.std.proofs.lemmas.List.Elements.{All-push, All-nil, All-from_recursion}
+use Rattle.std.proofs.Common.{sym, subst}
+use Rattle.std.proofs.lemmas.List.Elements.{All-push, All-nil, All-from_recursion, recursion_from_All}
 use Rattle.sup_placement.specs.Place.{Weigher}
 use Rattle.sup_node_gate.specs.declared.entry.Entry.{Entry}
 use Rattle.sup_plan.specs.declared.histories.History.{History}
@@ -42,6 +42,11 @@ reaches_none g start hs ns z = record {
   no_other = All-nil (λ (p : Placed). is_among hs p.node ≡ true);
   is_run = refl;
 }
+
+pub reaches_start : (g : Weigher) (start : List Seen) (hs : List History) (ns : List ℕ) (steps : List Step) (sites : List Seen) → length ns ≡ length hs → All (λ (n : ℕ). n ≡ 0) ns → steps ≡ [] → sites ≡ start → Reaches g start hs ns steps sites
+reaches_start g start hs ns steps sites l z e f =
+    subst (λ (ss : List Step). Reaches g start hs ns ss sites) (sym e)
+    (subst (λ (w : List Seen). Reaches g start hs ns [] w) (sym f) (reaches_none g start hs ns (none_placed hs ns l (recursion_from_All (λ (n : ℕ). n ≡ 0) ns z))))
 
 -- all entries are placed
 pub run_made : (g : Weigher) (config : Config) (names : List Bytes) (start : List Seen) (hs : List History) (ns : List ℕ) (steps : List Step) (sites : List Seen) → IsNewWorld g config names start → AllZip IsWhole hs ns

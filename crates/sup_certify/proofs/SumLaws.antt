@@ -1,7 +1,7 @@
 -- How many entries are placed, and how many are left.
 use Rattle.std.specs.Prelude.{◌≡◌, ◌≤◌, ◌<◌, ◌+◌, ◌-◌, ℕ, suc, ◌≢◌, Bool, true, false, List, [], ◌∷◌, ◌++◌, length, take, slice_index, slice_index_or, slice_set, sum, sum_by}
 use Prim.Native.Nat.{zero}
-use Rattle.std.specs.List.{AllZip}
+use Rattle.std.specs.List.{AllZip, AllByRecursion}
 use Rattle.std.proofs.Common.{sym, ap, ◌∙◌, subst, arith}
 use Rattle.std.proofs.lemmas.List.{take_more}
 use Rattle.std.proofs.lemmas.Slice.Zip.{all_zipped_more}
@@ -61,3 +61,9 @@ grows_after ns at new lt e = omega (arith, sum_more ns at lt, ap sum e)
 pub grows_more : (a b c : List ℕ) (goes : Bool) → Grows a b goes → sum b < sum c → sum a < sum c
 grows_more a b c true g lt = omega (arith, g, lt)
 grows_more a b c false g lt = subst (λ (x : List ℕ). sum x < sum c) g lt
+
+pub none_within : (hs : List History) (ns : List ℕ) → length ns ≡ length hs → AllByRecursion (λ (n : ℕ). n ≡ 0) ns → AllZip IsWithin hs ns
+none_within [] [] e z = tt
+none_within [] (n ∷ ns) e z = absurd (omega (arith, e))
+none_within (h ∷ hs) [] e z = absurd (omega (arith, e))
+none_within (h ∷ hs) (n ∷ ns) e z = (omega (arith, z.0), none_within hs ns (omega (arith, e)) z.1)

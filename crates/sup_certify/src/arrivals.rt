@@ -27,7 +27,7 @@ pub(crate) fn step_of<W: Weigh>(
     node: NodeName,
     entry: &Entry,
 ) -> Result<Option<Step>, CertifyFault>
-    ensures is_step { IfOk result (λ step. IsNow (sites_of world.now) (placed_at node entry.now) step) }
+    ensures is_step { IfOk result (λ step. IsNow (sites_of world.now) (placed_at node entry.entry.now) step) }
     ensures fault { IfErr result (λ fault. fault ≡ CertifyFault.OutOfMemory) }
 {
     match text_in(&entry.act) {
@@ -71,7 +71,7 @@ fn arrival<W: Weigh>(
     text: &MessageText,
 ) -> Result<Option<Step>, CertifyFault>
     requires { entry.now.act ≡ Of (Brings text.now) }
-    ensures is_step { IfOk result (λ step. IsNow (sites_of world.now) (placed_at node entry.now) step) }
+    ensures is_step { IfOk result (λ step. IsNow (sites_of world.now) (placed_at node entry.entry.now) step) }
     ensures fault { IfErr result (λ fault. fault ≡ CertifyFault.OutOfMemory) }
 {
     if let Some(origin) = sent_from(world, sent, text.as_slice()) {

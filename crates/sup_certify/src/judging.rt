@@ -61,7 +61,7 @@ fn in_order(alloc: Global, names: &[NodeName]) -> Result<Vec<NodeName>, AllocErr
 }
 
 // A world in which nothing of so many histories was placed.
-fn replay_in<W: Weigh>(
+fn replay_in<W: Weigh + Drop>(
     alloc: Global,
     world: World<W>,
     histories: usize,

@@ -70,16 +70,14 @@ impl<W: Weigh> Replay<W> {
         place: u64,
     ) -> Result<(), CertifyFault>
         requires { IsStepOf (sites_of self.old.world) (placed_at node entry.now) step }
-        ensures made { OnOk result (MakesEntry W.weight_of (sites_of self.old.world) (placed_at node entry.now) step (sites_of self.new.world)) }
+        ensures made { OnOk result (MakesEntry W.weight_of (sites_of self.old.world) (placed_at node entry.entry.now) step (sites_of self.new.world)) }
         ensures steps { OnOk result (self.new.steps.items ≡ self.old.steps.items ++ step ∷ []) }
         ensures placed { self.new.placed ≡ self.old.placed }
-        ensures fault { IfErr result (λ fault. IsMiss W.weight_of (sites_of self.old.world) (placed_at node entry.now) place fault) }
+        ensures fault { IfErr result (λ fault. IsMiss W.weight_of (sites_of self.old.world) (placed_at node entry.entry.now) place fault) }
     {
         let told = self.world.step(&step);
         check_answer(&told, &entry.answer, node, place)?;
-        if let Ok(answer) = told {
-            self.sent.note(&answer)?;
-        }
+        self.sent.note(&told)?;
         push_step(&mut self.steps, step)?;
         Ok(())
     }

@@ -1,7 +1,7 @@
 //! The texts that were sent so far.
 use std::alloc::{AllocError, Global};
 use std::collections::HashMap;
-use sup_replica::Letter;
+use sup_replica::{Letter, Refusal};
 use sup_specs::NodeName;
 use sup_world::Answer;
 
@@ -33,7 +33,14 @@ impl Sent {
     }
 
     /// Notes the letter of an answer, if there is one.
-    pub(crate) fn note(&mut self, answer: &Answer) -> Result<(), AllocError> {
+    pub(crate) fn note(&mut self, told: &Result<Answer, Refusal>) -> Result<(), AllocError> {
+        match told {
+            Ok(answer) => self.note_letter(answer),
+            Err(_) => Ok(()),
+        }
+    }
+
+    fn note_letter(&mut self, answer: &Answer) -> Result<(), AllocError> {
         let Some(letter) = &answer.done.out else {
             return Ok(());
         };
