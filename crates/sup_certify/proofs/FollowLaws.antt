@@ -67,5 +67,5 @@ module _ (g : Weigher) where
       → IsRunOf g (new (setting_in g config) is_message names) hs steps sites
   run_followed config names hs steps sites is_message r le k =
       let f : Followed g (new (setting_in g config) is_message names) r.order steps sites =
-        followed (new (setting_in g config) is_message names) 0 r.start r.order steps sites (r.is_new.stands is_message) (unfailed r.start r.is_new.unfailed) (omega (arith, le)) (recursion_from_All (Knows is_message) steps k) r.is_run in
+      followed (new (setting_in g config) is_message names) 0 r.start r.order steps sites (r.is_new.stands is_message) (unfailed r.start r.is_new.unfailed) (omega (arith, le)) (recursion_from_All (Knows is_message) steps k) r.is_run in
       record { order = r.order; keeps = r.keeps; answers = f.answers; after = f.after; is_run = f.is_run; said = f.said; stands = f.stands }

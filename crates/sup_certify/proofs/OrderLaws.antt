@@ -27,11 +27,10 @@ pub of_node_more : (name : Bytes) (order : List Placed) (p : Placed) → of_node
 of_node_more name [] p = refl
 of_node_more name (q ∷ order) p =
     elim (is_named name q.node) as (λ b. map (λ (r : Placed). r.entry) (cond b (q ∷ filter (λ (r : Placed). is_named name r.node) (order ++ p ∷ [])) (filter (λ (r : Placed). is_named name r.node) (order ++ p ∷ [])))
-      ≡ map (λ (r : Placed). r.entry) (cond b (q ∷ filter (λ (r : Placed). is_named name r.node) order) (filter (λ (r : Placed). is_named name r.node) order)) ++ of_node name (p ∷ [])) [
+    ≡ map (λ (r : Placed). r.entry) (cond b (q ∷ filter (λ (r : Placed). is_named name r.node) order) (filter (λ (r : Placed). is_named name r.node) order)) ++ of_node name (p ∷ [])) [
       | true ↦ ap (λ es. q.entry ∷ es) (of_node_more name order p)
       | false ↦ of_node_more name order p
     ]
-
 
 pub of_node_own : (name : Bytes) (order : List Placed) (p : Placed) → is_named name p.node ≡ true → of_node name (order ++ p ∷ []) ≡ of_node name order ++ p.entry ∷ []
 of_node_own name order p e = of_node_more name order p ∙ ap (λ b. of_node name order ++ map (λ (r : Placed). r.entry) (cond b (p ∷ []) [])) e
@@ -66,13 +65,15 @@ one_placed order [] ns i h e d lt is within next z = absurd (none_below i lt)
 one_placed order (x ∷ hs) [] i h e d lt is within next z = absurd z
 one_placed order (x ∷ hs) (n ∷ ns) zero h e d lt is within next z =
     let p : Placed = record { node = h.node; entry = e } in
-    let own : of_node h.node (order ++ p ∷ []) ≡ take (n + 1) h.entries.items = of_node_own h.node order p (named_itself h.node) ∙ ap (λ es. es ++ e ∷ []) (ap (λ (y : History). of_node y.node order) is ∙ z.0 ∙ ap (λ (y : History). take n y.entries.items) (sym is)) ∙ ap (λ (y : Entry). take n h.entries.items ++ y ∷ []) next ∙ sym (take_more h.entries.items n e within) in
-    (subst (λ (y : History). of_node y.node (order ++ p ∷ []) ≡ take (n + 1) y.entries.items) is own,
-     others_same order p hs ns (subst (λ (y : History). Apart y.node (map (λ (k : History). k.node) hs)) (sym is) d.0) z.1)
+    let own : of_node h.node (order ++ p ∷ []) ≡ take (n + 1) h.entries.items = of_node_own h.node order p (named_itself h.node) ∙ ap (λ es. es ++ e ∷ []) (ap (λ (y : History). of_node y.node order) is ∙ z.0 ∙ ap (λ (y : History). take n y.entries.items) (sym is)) ∙ ap (λ (y : Entry). take n h.entries.items ++ y ∷ []) next ∙ sym (take_more h.entries.items n e within) in (
+      subst (λ (y : History). of_node y.node (order ++ p ∷ []) ≡ take (n + 1) y.entries.items) is own,
+      others_same order p hs ns (subst (λ (y : History). Apart y.node (map (λ (k : History). k.node) hs)) (sym is) d.0) z.1,
+    )
 one_placed order (x ∷ hs) (n ∷ ns) (suc i) h e d lt is within next z =
-    let p : Placed = record { node = h.node; entry = e } in
-    (of_node_other x.node order p (apart_at x.node hs i h d.0 (omega (arith, lt)) is) ∙ z.0,
-     one_placed order hs ns i h e d.1 (omega (arith, lt)) is within next z.1)
+    let p : Placed = record { node = h.node; entry = e } in (
+      of_node_other x.node order p (apart_at x.node hs i h d.0 (omega (arith, lt)) is) ∙ z.0,
+      one_placed order hs ns i h e d.1 (omega (arith, lt)) is within next z.1,
+    )
 
 -- one of the histories is this node's
 pub among_at : (hs : List History) (i : ℕ) (h : History) → i < length hs → h ≡ slice_index_or hs i h → is_among hs h.node ≡ true

@@ -32,11 +32,7 @@ pub struct Replay<W: Weigh> {
 
 impl<W: Weigh> Replay<W> {
     // Makes the next entry of this history, if there is one that can be made now.
-    pub(crate) fn place(
-        &mut self,
-        histories: &[History],
-        at: usize,
-    ) -> Result<bool, CertifyFault>
+    pub(crate) fn place(&mut self, histories: &[History], at: usize) -> Result<bool, CertifyFault>
         requires within { at < length histories.now }
         requires apart { Distinct (names_of histories.now) }
         requires fits { AllZip IsWithin histories.now self.old.placed.items }

@@ -32,7 +32,13 @@ fn an_answer_that_the_world_gives_otherwise_is_named(rt: HostRuntime) {
     let a = with_another_answer(&rt, a);
     let both = histories(&rt, ("a", a), ("b", b));
     let fault = fault(&rt, &plan(&rt, "a", "b"), &both);
-    assert!(rt; fault == Some(CertifyFault::Differs { node: node(&rt, "a"), place: 1 }));
+    assert!(rt;
+        fault
+            == Some(CertifyFault::Differs {
+                node: node(&rt, "a"),
+                place: 1
+            })
+    );
 }
 
 #[test]
@@ -54,5 +60,11 @@ fn an_entry_that_was_left_out_is_missed(rt: HostRuntime) {
     drop(b.remove(0));
     let both = histories(&rt, ("a", a), ("b", b));
     let fault = fault(&rt, &plan(&rt, "a", "b"), &both);
-    assert!(rt; fault == Some(CertifyFault::Differs { node: node(&rt, "b"), place: 1 }));
+    assert!(rt;
+        fault
+            == Some(CertifyFault::Differs {
+                node: node(&rt, "b"),
+                place: 1
+            })
+    );
 }

@@ -22,7 +22,11 @@ fn done(rt: &(impl Abort + AllocGlobal), at: &Gate, pass: &mut Caller, act: Act)
 // The bytes of an answer's letter.
 fn letter(rt: &(impl Abort + AllocGlobal), done: Done) -> Vec<u8> {
     match done.out {
-        Some(letter) => letter.bytes.as_slice().to_vec(rt.alloc()).expect(rt, "room"),
+        Some(letter) => letter
+            .bytes
+            .as_slice()
+            .to_vec(rt.alloc())
+            .expect(rt, "room"),
         None => panic!(rt; "no letter left"),
     }
 }

@@ -7,7 +7,11 @@ use sup_model::Step;
 use sup_placement::FlatWeigh;
 use sup_plan::{Histories, Plan};
 
-fn certified(rt: &(impl Abort + AllocGlobal), plan: &Plan, histories: &Histories) -> Run<FlatWeigh> {
+fn certified(
+    rt: &(impl Abort + AllocGlobal),
+    plan: &Plan,
+    histories: &Histories,
+) -> Run<FlatWeigh> {
     match certify(rt.alloc(), plan, histories, FlatWeigh) {
         Ok(run) => run,
         Err(_) => panic!(rt; "no run"),
@@ -16,8 +20,14 @@ fn certified(rt: &(impl Abort + AllocGlobal), plan: &Plan, histories: &Histories
 
 // How many of the steps are deliveries, and how many are raw bytes.
 fn arrivals(steps: &[Step]) -> (usize, usize) {
-    let deliveries = steps.iter().filter(|step| matches!(step, Step::Deliver { .. })).count();
-    let raw = steps.iter().filter(|step| matches!(step, Step::Raw { .. })).count();
+    let deliveries = steps
+        .iter()
+        .filter(|step| matches!(step, Step::Deliver { .. }))
+        .count();
+    let raw = steps
+        .iter()
+        .filter(|step| matches!(step, Step::Raw { .. }))
+        .count();
     (deliveries, raw)
 }
 

@@ -28,7 +28,7 @@ returns-in_err-play-clause-fault g c =
     let replay = c.in_ok-replay.replay in
     let can : CanJudge nodes hs = can_judge hs hs nodes c.as_slice.result.now refl c.as_slice.ensures.value (c.are_of.ensures.0 c.if-not-are_of.false) c.in_ok-world.ensures.named in
     let reaches : Reaches w start hs replay.placed.items replay.steps.items (sites_of replay.world) =
-      reaches_start w start hs replay.placed.items replay.steps.items (sites_of replay.world) c.in_ok-replay.ensures.count c.in_ok-replay.ensures.placed c.in_ok-replay.ensures.steps c.in_ok-replay.ensures.world in
+    reaches_start w start hs replay.placed.items replay.steps.items (sites_of replay.world) c.in_ok-replay.ensures.count c.in_ok-replay.ensures.placed c.in_ok-replay.ensures.steps c.in_ok-replay.ensures.world in
     err_as c.from_residual-in_err-play.result c.in_err-play.field-0.0 (IsFaultOf w config nodes c.args.histories.now) c.from_residual-in_err-play.ensures.1
     (subst (λ (xs : List History). IsFaultOf w config nodes xs c.in_err-play.field-0.0) c.as_slice-histories.ensures (inr (can, inr (start, c.in_ok-world.ensures.made, c.in_err-play.ensures.fault start reaches))))
 
@@ -42,7 +42,7 @@ returns-clause-runs g c =
     let replay = c.in_ok-replay.replay in
     let ended = c.play.new.self in
     let reaches : Reaches w start hs replay.placed.items replay.steps.items (sites_of replay.world) =
-      reaches_start w start hs replay.placed.items replay.steps.items (sites_of replay.world) c.in_ok-replay.ensures.count c.in_ok-replay.ensures.placed c.in_ok-replay.ensures.steps c.in_ok-replay.ensures.world in
+    reaches_start w start hs replay.placed.items replay.steps.items (sites_of replay.world) c.in_ok-replay.ensures.count c.in_ok-replay.ensures.placed c.in_ok-replay.ensures.steps c.in_ok-replay.ensures.world in
     subst (λ (xs : List History). MakeRun w config nodes xs ended.steps.items (sites_of ended.world)) c.as_slice-histories.ensures
     (run_made w config nodes start hs ended.placed.items ended.steps.items (sites_of ended.world) c.in_ok-world.ensures.made c.in_ok-play.ensures.whole (c.in_ok-play.ensures.reaches start reaches))
 

@@ -47,7 +47,7 @@ returns-in_err-make-clause-fault g c start r =
     let h = c.index-histories-at.result in
     let within : c.index-next.result.now < length h.entries.items = subst (λ (xs : List Entry). c.index-next.result.now < length xs) c.deref.ensures.value (ltb-true c.index-next.result.now (length c.deref.result.now) (sym c.in-Some.ensures.lookup.0)) in
     let next : slice_get h.entries.items c.index-next.result.now ≡ Some c.in-Some.entry.now =
-      got h.entries.items c.index-next.result.now c.in-Some.entry.now within (subst (λ (xs : List Entry). c.in-Some.entry.now ≡ slice_index_or xs c.index-next.result.now c.in-Some.entry.now) c.deref.ensures.value c.in-Some.ensures.lookup.1) in
+    got h.entries.items c.index-next.result.now c.in-Some.entry.now within (subst (λ (xs : List Entry). c.in-Some.entry.now ≡ slice_index_or xs c.index-next.result.now c.in-Some.entry.now) c.deref.ensures.value c.in-Some.ensures.lookup.1) in
     fault_from g.W.Weigh.weight_of start hs ns c.args.self.now.steps.items (sites_of c.args.self.now.world) c.args.at h c.in-Some.entry.now c.in_err-make.field-0.0 r (got hs c.args.at h c.requires.within c.index-histories-at.is)
     (subst (λ m. slice_get h.entries.items m ≡ Some c.in-Some.entry.now) n next)
     (subst (λ m. IsMiss g.W.Weigh.weight_of (sites_of c.args.self.now.world) (placed_at h.node c.in-Some.entry.now) (m + 1) c.in_err-make.field-0.0) n c.in_err-make.ensures.fault))
@@ -59,7 +59,7 @@ returns-clause-fits g c =
     let lt : c.args.at < length ns = omega (arith, within_length hs ns c.requires.fits, c.requires.within) in
     let n : c.index-next.result.now ≡ slice_index ns c.args.at = get_or_read ns c.args.at c.index-next.result.now lt c.index-next.ensures 0 in
     let more : slice_index ns c.args.at < length c.index-histories-at.result.entries.items =
-      subst (λ (m : ℕ). m < length c.index-histories-at.result.entries.items) n (subst (λ (xs : List Entry). c.index-next.result.now < length xs) c.deref.ensures.value (ltb-true c.index-next.result.now (length c.deref.result.now) (sym c.in-Some.ensures.lookup.0))) in
+    subst (λ (m : ℕ). m < length c.index-histories-at.result.entries.items) n (subst (λ (xs : List Entry). c.index-next.result.now < length xs) c.deref.ensures.value (ltb-true c.index-next.result.now (length c.deref.result.now) (sym c.in-Some.ensures.lookup.0))) in
     subst (λ xs. AllZip IsWithin hs (slice_set xs c.args.at (c.index-next.result.now + 1))) (sym (ap (λ v. v.items) c.make.ensures.placed))
     (subst (λ (m : ℕ). AllZip IsWithin hs (slice_set ns c.args.at (m + 1))) (sym n) (within_more hs ns c.args.at c.index-histories-at.result c.requires.within c.index-histories-at.is more c.requires.fits))
 
@@ -76,8 +76,8 @@ returns-clause-reaches g c start r =
     let within : c.index-next.result.now < length h.entries.items = subst (λ (xs : List Entry). c.index-next.result.now < length xs) c.deref.ensures.value (ltb-true c.index-next.result.now (length c.deref.result.now) (sym c.in-Some.ensures.lookup.0)) in
     let next : e ≡ slice_index_or h.entries.items c.index-next.result.now e = subst (λ (xs : List Entry). e ≡ slice_index_or xs c.index-next.result.now e) c.deref.ensures.value c.in-Some.ensures.lookup.1 in
     let more : Reaches w start hs (slice_set ns c.args.at (slice_index ns c.args.at + 1)) (c.args.self.now.steps.items ++ c.in-Some-2.step ∷ []) sites =
-      reaches_more w start hs ns c.args.self.now.steps.items (sites_of c.args.self.now.world) sites c.args.at h e c.in-Some-2.step c.requires.apart c.requires.within c.index-histories-at.is (subst (λ m. m < length h.entries.items) n within)
-      (subst (λ m. e ≡ slice_index_or h.entries.items m e) n next) c.in_ok-make.ensures.made r in
+    reaches_more w start hs ns c.args.self.now.steps.items (sites_of c.args.self.now.world) sites c.args.at h e c.in-Some-2.step c.requires.apart c.requires.within c.index-histories-at.is (subst (λ m. m < length h.entries.items) n within)
+    (subst (λ m. e ≡ slice_index_or h.entries.items m e) n next) c.in_ok-make.ensures.made r in
     subst (λ xs. Reaches w start hs (slice_set xs c.args.at (c.index-next.result.now + 1)) c.make.new.self.steps.items sites) (sym (ap (λ v. v.items) c.make.ensures.placed))
     (subst (λ ss. Reaches w start hs (slice_set ns c.args.at (c.index-next.result.now + 1)) ss sites) (sym c.in_ok-make.ensures.steps)
     (subst (λ (m : ℕ). Reaches w start hs (slice_set ns c.args.at (m + 1)) (c.args.self.now.steps.items ++ c.in-Some-2.step ∷ []) sites) (sym n) more))

@@ -28,7 +28,7 @@ returns-then-not-branch-clause-fault g c start r =
     let same : new ≡ old = subst (λ b. Grows old new b) c.if-not-branch.true c.in_ok-round.ensures.grows in
     let all = c.round.ensures.waits (c.in_ok-round.was ∙ ap Ok c.if-not-branch.true) in
     let each : All (λ (name : Bytes). AllZip (WaitsNamed name) hs new) (names_of hs) =
-      All-permutation (λ (name : Bytes). AllZip (WaitsNamed name) hs new) c.args.names.now (names_of hs) (IsPermutation-sym (names_of hs) c.args.names.now c.requires.all) all in
+    All-permutation (λ (name : Bytes). AllZip (WaitsNamed name) hs new) c.args.names.now (names_of hs) (IsPermutation-sym (names_of hs) c.args.names.now c.requires.all) all in
     record {
       placed = new;
       steps = c.round.new.self.steps.items;
