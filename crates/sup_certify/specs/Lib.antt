@@ -1,0 +1,5 @@
+pub mod Orders
+pub mod Certified
+pub mod Follows
+pub mod Faults
+pub mod Progress

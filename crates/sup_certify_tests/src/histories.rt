@@ -1,0 +1,75 @@
+//! Histories that gates made on one thread.
+ghost use Rattle.std.specs.Prelude.{◌≡◌};
+ghost use Rattle.sup_node_gate.specs.Gates.{IsOf};
+
+use crate::given::{Caller, Gate, comes, gate, join, ship, start};
+use std::process::Abort;
+use sup_node_gate::Entry;
+use sup_placement::FlatWeigh;
+use sup_replica::{Act, Done};
+
+// What the node answers, which doesn't refuse.
+fn done(rt: &(impl Abort + AllocGlobal), at: &Gate, pass: &mut Caller, act: Act) -> Done
+    requires { IsOf (λ k. k.bytes) at.now pass.old }
+    ensures { IsOf (λ k. k.bytes) at.now pass.new }
+{
+    match at.try_call(pass, act, 0, &FlatWeigh) {
+        Ok(Ok(done)) => done,
+        _ => panic!(rt; "it is refused"),
+    }
+}
+
+// The bytes of an answer's letter.
+fn letter(rt: &(impl Abort + AllocGlobal), done: Done) -> Vec<u8> {
+    match done.out {
+        Some(letter) => letter
+            .bytes
+            .as_slice()
+            .to_vec(rt.alloc())
+            .expect(rt, "room"),
+        None => panic!(rt; "no letter left"),
+    }
+}
+
+fn closed(rt: &impl Abort, at: Gate, pass: Caller) -> Vec<Entry>
+    requires { IsOf (λ k. k.bytes) at pass }
+{
+    match at.close(pass) {
+        Some((_station, history)) => history,
+        None => panic!(rt; "a turn is held"),
+    }
+}
+
+/// Node a joins and ships to b, which is lost; node b starts db and ships to a, where that comes twice; and what a acknowledges
+/// comes to b.
+pub(crate) fn lost_and_doubled(rt: &(impl Abort + AllocGlobal)) -> (Vec<Entry>, Vec<Entry>) {
+    let (a, mut at_a) = gate(rt, "a");
+    let (b, mut at_b) = gate(rt, "b");
+    done(rt, &a, &mut at_a, join(rt));
+    done(rt, &a, &mut at_a, ship(rt, "b"));
+    done(rt, &b, &mut at_b, start(rt, "db"));
+    let delta = letter(rt, done(rt, &b, &mut at_b, ship(rt, "a")));
+    let first = letter(rt, done(rt, &a, &mut at_a, comes(rt, delta.as_slice())));
+    let second = letter(rt, done(rt, &a, &mut at_a, comes(rt, delta.as_slice())));
+    done(rt, &b, &mut at_b, comes(rt, first.as_slice()));
+    done(rt, &b, &mut at_b, comes(rt, second.as_slice()));
+    (closed(rt, a, at_a), closed(rt, b, at_b))
+}
+
+/// The history of a node that joins.
+pub(crate) fn joined(rt: &(impl Abort + AllocGlobal), name: &str) -> Vec<Entry> {
+    let (at, mut pass) = gate(rt, name);
+    done(rt, &at, &mut pass, join(rt));
+    closed(rt, at, pass)
+}
+
+/// The history of a node to which bytes come that are no message.
+pub(crate) fn disturbed(rt: &(impl Abort + AllocGlobal), name: &str) -> Vec<Entry> {
+    let (at, mut pass) = gate(rt, name);
+    match at.try_call(&mut pass, comes(rt, b"noise"), 0, &FlatWeigh) {
+        Ok(Err(_)) => {}
+        _ => panic!(rt; "it is no message"),
+    }
+    done(rt, &at, &mut pass, join(rt));
+    closed(rt, at, pass)
+}
