@@ -11,6 +11,39 @@ use std::alloc::AllocError;
 use std::io::Write;
 use thiserror::Error;
 
+/// Why an input is no image, the first of these that applies.
+#[derive(Clone, Copy, Debug, PartialEq, Eq, Error)]
+pub enum ImageFault {
+    /// It is no JSON value.
+    #[error("NotJson")]
+    NotJson,
+    /// The value is none of the forms of an image.
+    #[error("NotMessage")]
+    NotMessage,
+    /// Its version is none that is read.
+    #[error("BadVersion")]
+    BadVersion,
+    /// Rows or cloud break their order, the cloud's distance or the cover of the context.
+    #[error("NotCanonical")]
+    NotCanonical,
+}
+
+impl ImageFault {
+    ghost use Rattle.sup_jobs.specs.Faults.{image_fault_name};
+
+    /// Its name.
+    pub fn name(self) -> &'static str
+        ensures { result.now ≡ image_fault_name self }
+    {
+        match self {
+            ImageFault::NotJson => "NotJson",
+            ImageFault::NotMessage => "NotMessage",
+            ImageFault::BadVersion => "BadVersion",
+            ImageFault::NotCanonical => "NotCanonical",
+        }
+    }
+}
+
 /// Why a run ended before its time.
 #[derive(Clone, Copy, Debug, PartialEq, Eq, Error)]
 pub enum Fault {
@@ -20,6 +53,9 @@ pub enum Fault {
     /// The input is too long.
     #[error("bad input")]
     BadInput,
+    /// The input is no image.
+    #[error("bad image {0}")]
+    BadImage(ImageFault),
     /// The reader or the writer failed.
     #[error("device")]
     Device,
@@ -66,7 +102,7 @@ impl Fault {
         ensures { result ≡ status_of self }
     {
         match self {
-            Fault::BadLine(_) | Fault::BadInput => 1,
+            Fault::BadLine(_) | Fault::BadInput | Fault::BadImage(_) => 1,
             Fault::Device | Fault::OutOfMemory => 3,
         }
     }
@@ -105,6 +141,7 @@ pub fn report<E: Write>(errors: &mut E, fault: Fault) -> Result<(), DeviceFault>
     match fault {
         Fault::BadLine(number) => report_line(errors, number),
         Fault::BadInput => put_all(errors, b"bad input\n"),
+        Fault::BadImage(fault) => report_image(errors, fault),
         Fault::Device => put_all(errors, b"device\n"),
         Fault::OutOfMemory => put_all(errors, b"out of memory\n"),
     }
@@ -118,5 +155,15 @@ fn report_line<E: Write>(errors: &mut E, number: u64) -> Result<(), DeviceFault>
     let mut digits = Buffer::new();
     put_all(errors, b"bad line ")?;
     put_all(errors, digits.format(number).as_bytes())?;
+    put_all(errors, b"\n")
+}
+
+// Writes `bad image NAME`.
+fn report_image<E: Write>(errors: &mut E, fault: ImageFault) -> Result<(), DeviceFault>
+    ensures { Tells result (E.contents errors.old) (E.contents errors.new)
+        (fault_text (Fault.BadImage fault)) }
+{
+    put_all(errors, b"bad image ")?;
+    put_all(errors, fault.name().as_bytes())?;
     put_all(errors, b"\n")
 }
