@@ -1,6 +1,6 @@
 //! The faults that end a job, and how they are told.
 
-ghost use Rattle.std.specs.Prelude.{◌≡◌};
+ghost use Rattle.std.specs.Prelude.{◌≡◌, ◌++◌, codes};
 ghost use Rattle.sup_jobs.specs.Faults.{fault_line_at, fault_text, of_input, status_at, status_of};
 ghost use Rattle.sup_jobs.specs.Tells.{Tells};
 
@@ -153,9 +153,7 @@ fn report_line<E: Write>(errors: &mut E, number: u64) -> Result<(), DeviceFault>
         (fault_text (Fault.BadLine number)) }
 {
     let mut digits = Buffer::new();
-    put_all(errors, b"bad line ")?;
-    put_all(errors, digits.format(number).as_bytes())?;
-    put_all(errors, b"\n")
+    report_as(errors, b"bad line ", digits.format(number).as_bytes())
 }
 
 // Writes `bad image NAME`.
@@ -163,7 +161,15 @@ fn report_image<E: Write>(errors: &mut E, fault: ImageFault) -> Result<(), Devic
     ensures { Tells result (E.contents errors.old) (E.contents errors.new)
         (fault_text (Fault.BadImage fault)) }
 {
-    put_all(errors, b"bad image ")?;
-    put_all(errors, fault.name().as_bytes())?;
+    report_as(errors, b"bad image ", fault.name().as_bytes())
+}
+
+// Writes a line of two parts.
+fn report_as<E: Write>(errors: &mut E, front: &[u8], rest: &[u8]) -> Result<(), DeviceFault>
+    ensures { Tells result (E.contents errors.old) (E.contents errors.new)
+        (front.now ++ (rest.now ++ codes "\n")) }
+{
+    put_all(errors, front)?;
+    put_all(errors, rest)?;
     put_all(errors, b"\n")
 }
