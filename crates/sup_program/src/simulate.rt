@@ -1,8 +1,8 @@
 //! The command `simulate`: a script is run from the world of its nodes.
 
-ghost use Rattle.std.specs.Prelude.{◌≤◌, ◌+◌, length, IfOk, IfSome};
+ghost use Rattle.std.specs.Prelude.{◌≤◌, ◌+◌, length, IfOk, IfSome, IsPermutation, IsSorted};
+ghost use Rattle.sup_specs.specs.Values.{text_cmp};
 ghost use Rattle.sup_jobs.specs.Ends.{EndsAt, TakesAtMost, TakesFor};
-ghost use Rattle.sup_program.specs.Plays.{AreInOrder};
 ghost use Rattle.sup_program.specs.Simulating.{Simulates, simulation};
 
 use crate::play::play;
@@ -80,7 +80,8 @@ fn run_bytes<G: Weigh + Copy + Drop, W: Write>(
 
 // The names in their order.
 fn by_name(alloc: Global, names: &[NodeName]) -> Result<Vec<NodeName>, AllocError>
-    ensures { IfOk result (λ ordered. AreInOrder names.now ordered.items) }
+    ensures sorted { IfOk result (λ ordered. IsSorted text_cmp ordered.items) }
+    ensures all { IfOk result (λ ordered. IsPermutation names.now ordered.items) }
 {
     let mut ordered = Vec::from_slice(alloc, names)?;
     ordered.sort()?;
