@@ -12,7 +12,7 @@ use Rattle.sup_node.specs.declared.node.Node.{Node}
 use Rattle.sup_node.specs.Contents.{station_of}
 use Rattle.sup_text.specs.Words.{text}
 use Rattle.sup_node_text.specs.Cuts.{IsCutText}
-use Rattle.sup_node_text.specs.Shown.{shown_of, show_text, down_text}
+use Rattle.sup_node_text.specs.Shown.{shown_of, show_text, tables_text, down_text}
 
 -- count C
 abbrev pub count_line : ℕ → List ℕ
@@ -44,9 +44,12 @@ abbrev pub node_at : {W : Type 0} → Option (Bor (Node W)) → Option (Station 
 node_at None = None
 node_at (Some n) = Some (station_of n.now)
 
--- the lines of a stored image: its boot is the one in which it was stored, and nothing is kept of it
+-- node N boot B, of the boot in which an image was stored, then the lines of its tables, its count and those of its context
+abbrev pub stored_text : Bytes → ℕ → ℕ → List ℕ → List ℕ → List ℕ
+stored_text node boot count tables cut = text (codes "node " ∷ node ∷ codes " boot " ∷ decimal boot ∷ codes "\n" ∷ tables ∷ codes "count " ∷ decimal count ∷ codes "\n" ∷ cut ∷ [])
+
+-- the lines of a stored image
 pub record IsStillText (weigher : Weigher) (image : Image) (said : List ℕ) : Type 0 where
   pub cut : List ℕ
   pub is_cut : IsCutText image.state.context cut
-  pub says : said ≡ text (
-    show_text weigher image.node (Some (record { boot = image.boot; rows = image.state.rows; kept = [] })) ∷ count_line image.count ∷ cut ∷ [])
+  pub says : said ≡ stored_text image.node image.boot image.count (tables_text weigher image.state.rows) cut

@@ -3,7 +3,7 @@
 ghost use Rattle.std.specs.Prelude.{◌≡◌, IfOk, string_bytes};
 ghost use Rattle.std.specs.List.{flat_map};
 ghost use Rattle.sup_node.specs.Contents.{station_of};
-ghost use Rattle.sup_node_text.specs.Inspected.{IsInspectText, IsInspected, IsStillText, acked_line, node_at};
+ghost use Rattle.sup_node_text.specs.Inspected.{IsInspectText, IsInspected, IsStillText, acked_line, node_at, stored_text};
 
 use crate::cut::cut_text;
 use crate::show::{down_text, show_text};
@@ -92,12 +92,23 @@ fn acked_line_text(alloc: Global, peer: &NodeName, number: u64) -> Result<String
 pub fn still_text<W: Weigh>(alloc: Global, still: &Still, weigher: &W) -> Result<String, AllocError>
     ensures { IfOk result (λ s. IsStillText W.weight_of still.now (string_bytes s)) }
 {
-    let node = still.node().as_str();
-    let boot = still.boot();
-    let count = still.count();
     let tables = tables_text(alloc, still.tables(), weigher)?;
-    let tables = tables.as_str();
     let cut = cut_text(alloc, still.tables().context())?;
-    let cut = cut.as_str();
+    let (node, boot, count) = (still.node(), still.boot(), still.count());
+    stored_text(alloc, node, boot, count, tables.as_str(), cut.as_str())
+}
+
+// The lines of an image, with these of its tables and of its context.
+fn stored_text(
+    alloc: Global,
+    node: &NodeName,
+    boot: u64,
+    count: u64,
+    tables: &str,
+    cut: &str,
+) -> Result<String, AllocError>
+    ensures { IfOk result (λ s. string_bytes s ≡ stored_text node.now boot count tables.now cut.now) }
+{
+    let node = node.as_str();
     format!(in alloc; "node {node} boot {boot}\n{tables}count {count}\n{cut}")
 }

@@ -93,6 +93,15 @@ pub spoken : {X E : Type 0} (view : X → List ℕ) (result : Result X E) (weigh
 spoken view (Ok x) weigher peers s line new speaks text e h = (speaks, h ∙ sym e)
 spoken view (Err error) weigher peers s line new speaks text e h = inl speaks
 
+-- a text that is said in other words
+pub said_as : {X E : Type 0} (view : X → List ℕ) (result : Result X E) (text said : List ℕ) → text ≡ said → IfOk result (λ x. view x ≡ text) → IfOk result (λ x. view x ≡ said)
+said_as view (Ok x) text said e h = h ∙ e
+said_as view (Err error) text said e h = h
+
+pub told_as : {X E : Type 0} (view : X → List ℕ) (result : Result X E) (Told Said : List ℕ → Type 0) → ((said : List ℕ) → Told said → Said said) → IfOk result (λ x. Told (view x)) → IfOk result (λ x. Said (view x))
+told_as view (Ok x) Told Said e h = e (view x) h
+told_as view (Err error) Told Said e h = h
+
 -- to look is no step
 pub looks : {X E : Type 0} (view : X → List ℕ) (result : Result X E) (weigher : Weigher) (peers : List Bytes) (model : World) (sites : List Seen) (line : Line) (Told : List ℕ → Type 0) → StandsFor weigher sites model → ((said : List ℕ) → Told said → Does weigher peers (record { model = model; sites = sites }) line said (record { model = model; sites = sites })) → IfOk result (λ x. Told (view x)) → MaySpeak view weigher peers (record { model = model; sites = sites }) line sites result
 looks view (Ok x) weigher peers model sites line Told h does told = (record { said = view x; after = model; prints = record { does = does (view x) told; stands = h } }, refl)
