@@ -58,10 +58,10 @@ module _ (weigher : Weigher) (peers : List Bytes) (old : Scene) (lines : List Li
   all : take (i + 1) lines ≡ take i lines ++ line ∷ []
   all = take_more lines i line lt ∙ ap (λ (l : Line). take i lines ++ l ∷ []) (sym is)
 
-  from : Scene
+  abbrev from : Scene
   from = record { model = h.reached; sites = mid }
 
-  to : Scene
+  abbrev to : Scene
   to = record { model = speaks.after; sites = new }
 
   more : Plays weigher peers old (take (i + 1) lines) (h.printed ++ speaks.said) to

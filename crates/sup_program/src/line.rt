@@ -158,12 +158,12 @@ fn message_text<G: Weigh>(
 ) -> Result<Vec<u8>, AllocError>
     ensures { IfOk result (λ text. text.items ≡ message_text (seen_at (sites_of world.now) from.now) k) }
 {
-    if world.station(from).is_none() {
-        return unknown_text(alloc);
-    }
-    match world.message(from, k) {
-        Some(bytes) => bytes_line(alloc, bytes),
-        None => bytes_of(refusal_text(alloc, Refusal::NoSuchMessage)),
+    match world.station(from) {
+        Some(_) => match world.message(from, k) {
+            Some(bytes) => bytes_line(alloc, bytes),
+            None => bytes_of(refusal_text(alloc, Refusal::NoSuchMessage)),
+        },
+        None => unknown_text(alloc),
     }
 }
 
