@@ -24,8 +24,7 @@ use Rattle.sup_world.specs.Telling.{Shows}
 use Rattle.sup_lines.specs.declared.line.Line.{Line}
 use Rattle.sup_lines.specs.declared.line.Line.TheVariants as line
 use Rattle.sup_text.specs.Answers.{refusal_text, settled_text}
-use Rattle.sup_node_text.specs.Inspected.{IsInspected}
-use Rattle.sup_program.specs.Prints.{Scene, Does, TellsMessages, TellsNode, said_of, image_text, letter_text, message_text}
+use Rattle.sup_program.specs.Prints.{Scene, Does, TellsMessages, said_of, image_text, letter_text, message_text}
 use Rattle.sup_program.specs.Playing.{CanFail, MaySpeak, Speaks}
 use Rattle.sup_program.proofs.Counts.{carried_same}
 
@@ -98,38 +97,18 @@ pub said_as : {X E : Type 0} (view : X → List ℕ) (result : Result X E) (text
 said_as view (Ok x) text said e h = h ∙ e
 said_as view (Err error) text said e h = h
 
-pub told_as : {X E : Type 0} (view : X → List ℕ) (result : Result X E) (Told Said : List ℕ → Type 0) → ((said : List ℕ) → Told said → Said said) → IfOk result (λ x. Told (view x)) → IfOk result (λ x. Said (view x))
-told_as view (Ok x) Told Said e h = e (view x) h
-told_as view (Err error) Told Said e h = h
-
 -- to look is no step
 pub looks : {X E : Type 0} (view : X → List ℕ) (result : Result X E) (weigher : Weigher) (peers : List Bytes) (model : World) (sites : List Seen) (line : Line) (Told : List ℕ → Type 0) → StandsFor weigher sites model → ((said : List ℕ) → Told said → Does weigher peers (record { model = model; sites = sites }) line said (record { model = model; sites = sites })) → IfOk result (λ x. Told (view x)) → MaySpeak view weigher peers (record { model = model; sites = sites }) line sites result
 looks view (Ok x) weigher peers model sites line Told h does told = (record { said = view x; after = model; prints = record { does = does (view x) told; stands = h } }, refl)
 looks view (Err error) weigher peers model sites line Told h does told = inr refl
 
--- what is told of a node that is there
-pub tells_there : (weigher : Weigher) (peers : List Bytes) (name : Bytes) (still : Still) (seen : Option Seen) (said : List ℕ) → Some still ≡ option_map (λ s. s.still) seen → IsInspected weigher name still.node peers said → TellsNode weigher peers name seen said
-tells_there weigher peers name still None said e h = cc
-tells_there weigher peers name still (Some seen) said e h = subst (λ (o : Still). IsInspected weigher name o.node peers said) (some_is e) h
-  where
-    some_is : Some still ≡ Some seen.still → still ≡ seen.still
-    some_is p = cc
-
--- what is told of a node that isn't there
-pub tells_none : (weigher : Weigher) (peers : List Bytes) (name : Bytes) (seen : Option Seen) (said : List ℕ) → None ≡ option_map (λ (s : Seen). s.still) seen → said ≡ refusal_text UnknownNode → TellsNode weigher peers name seen said
-tells_none weigher peers name None said e h = h
-tells_none weigher peers name (Some seen) said e h = cc
-
+-- the image of a node that is there
 pub image_there : (still : Still) (seen : Option Seen) → Some still ≡ option_map (λ s. s.still) seen → image_text seen ≡ still.kept ++ codes "\n"
 image_there still None e = cc
 image_there still (Some seen) e = ap (λ (o : Still). o.kept ++ codes "\n") (some_is e)
   where
     some_is : Some still ≡ Some seen.still → seen.still ≡ still
     some_is p = cc
-
-pub image_none : (seen : Option Seen) → None ≡ option_map (λ (s : Seen). s.still) seen → image_text seen ≡ refusal_text UnknownNode
-image_none None e = refl
-image_none (Some seen) e = cc
 
 -- a message that is there, one that isn't, and one of a node that isn't
 pub message_there : (bytes : List ℕ) (seen : Option Seen) (k : ℕ) → Some bytes ≡ option_map (λ (l : Letter). l.bytes) (option_and_then (λ s. letter_of s k) seen) → message_text seen k ≡ bytes ++ codes "\n"

@@ -9,7 +9,7 @@ use Rattle.sup_replica.specs.Configs.{Config}
 use Rattle.sup_replica.specs.Stations.{Codec}
 use Rattle.sup_jobs.specs.Ends.{Bytes as Known}
 use Rattle.sup_model.specs.Posts.{real_new}
-use Rattle.sup_model.specs.Worlds.{Setting, World, new}
+use Rattle.sup_model.specs.Worlds.{Setting, new}
 use Rattle.sup_model.specs.Headline.{Headline}
 use Rattle.sup_world.specs.Newness.{setting_in}
 use Rattle.sup_world.specs.Seen.{Seen}

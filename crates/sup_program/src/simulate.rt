@@ -72,7 +72,14 @@ fn run_bytes<G: Weigh + Copy + Drop, W: Write>(
         return Err(Fault::OutOfMemory);
     };
     let peers = by_name(alloc, nodes.as_slice())?;
-    match play(alloc, weigher, &mut world, peers.as_slice(), lines.as_slice(), writer) {
+    match play(
+        alloc,
+        weigher,
+        &mut world,
+        peers.as_slice(),
+        lines.as_slice(),
+        writer,
+    ) {
         Ok(()) => Ok(()),
         Err(fault) => Err(fault),
     }

@@ -1,4 +1,4 @@
-use Rattle.std.specs.Prelude.{◌≡◌, List, ℕ, vec_items, refl}
+use Rattle.std.specs.Prelude.{◌≡◌, vec_items, refl}
 use Rattle.sup_lines.specs.declared.line.Line.TheVariants as line
 use Rattle.sup_world.specs.Carrying.{seen_at}
 use Rattle.sup_world.specs.Seen.{sites_of}

@@ -1,6 +1,5 @@
 use Rattle.std.specs.Prelude.{vec_items}
 use Rattle.std.proofs.Common.{◌∙◌, ap}
-use Rattle.sup_model.specs.Posts.{reads}
 use Rattle.sup_program.specs.Prints.{said_of}
 use Rattle.sup_program.proofs.Lines.{knows, spoken, step_speaks}
 use Rattle.sup_program.proofs.line.step_text.Goals as goal
