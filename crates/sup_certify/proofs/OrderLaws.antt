@@ -1,11 +1,10 @@
 -- Orders with one entry more.
-use Rattle.std.specs.Prelude.{◌≡◌, ◌≤◌, ◌<◌, ℕ, ◌+◌, suc, Bool, true, false, cond, not, ◌||◌, All, List, [], ◌∷◌, ◌++◌, map, filter, length, take, slice_index, slice_index_or, slice_set, refl}
+use Rattle.std.specs.Prelude.{◌≡◌, ◌<◌, ℕ, ◌+◌, suc, Bool, true, false, cond, ◌||◌, List, [], ◌∷◌, ◌++◌, map, filter, length, take, slice_index, slice_index_or, slice_set, refl}
 use Prim.Native.Nat.{zero}
-use Rattle.std.specs.List.{list_any, AllZip}
+use Rattle.std.specs.List.{AllZip}
 use Rattle.std.specs.Cmp.{Equal-is, tied_itself}
 use Rattle.std.proofs.Common.{sym, ap, ◌∙◌, subst, arith}
-use Rattle.std.proofs.lemmas.List.{map-append, take_more, take_all}
-use Rattle.std.proofs.lemmas.List.Elements.{filter-append, All-from_recursion}
+use Rattle.std.proofs.lemmas.List.{take_more, take_all}
 use Rattle.std.specs.List.{AllByRecursion}
 use Rattle.sup_specs.specs.Values.{Bytes}
 use Rattle.sup_specs.specs.OrderLaws.{text_total, text_tie}
@@ -14,7 +13,7 @@ use Rattle.sup_node_gate.specs.declared.entry.Entry.{Entry}
 use Rattle.sup_plan.specs.declared.histories.History.{History}
 use Rattle.sup_model.specs.Follows.{Apart, Distinct}
 use Rattle.sup_certify.specs.Orders.{Placed, of_node, is_among}
-use Rattle.sup_certify.specs.Progress.{IsPlaced, IsWithin, IsWhole}
+use Rattle.sup_certify.specs.Progress.{IsPlaced, IsWhole}
 
 pub named_itself : (x : Bytes) → is_named x x ≡ true
 named_itself x = (Equal-is _).1 (tied_itself text_total x)

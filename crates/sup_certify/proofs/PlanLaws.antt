@@ -9,7 +9,7 @@ use Rattle.std.proofs.lemmas.List.{map-append, take_more}
 use Rattle.sup_plan.specs.declared.histories.History.{History}
 use Rattle.sup_world.specs.Naming.{AreWorldNames}
 use Rattle.sup_certify.specs.Faults.{AreOf, CanJudge}
-use Rattle.sup_certify.specs.Progress.{IsWithin, IsWhole, entries_in, left_of, names_of, placed_after, Grows}
+use Rattle.sup_certify.specs.Progress.{names_of}
 use Rattle.sup_specs.specs.Values.{Bytes}
 
 -- one history more

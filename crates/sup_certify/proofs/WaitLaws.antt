@@ -1,5 +1,5 @@
 -- Which nodes wait, and what it comes to that an entry isn't placed.
-use Rattle.std.specs.Prelude.{◌≡◌, ◌<◌, ◌+◌, ℕ, suc, Bool, true, false, cond, not, All, List, [], ◌∷◌, length, slice_get, slice_index, slice_index_or, Option, Some, None, IfSome, IfNone, ◌≤◌, refl}
+use Rattle.std.specs.Prelude.{◌≡◌, ◌<◌, ◌+◌, ℕ, suc, true, false, cond, not, List, [], ◌∷◌, length, slice_get, slice_index, slice_index_or, Option, Some, None, IfSome, IfNone, ◌≤◌, refl}
 use Prim.Native.Nat.{zero}
 use Rattle.std.specs.List.{AllZip, AllByRecursion, position_or_len}
 use Rattle.std.specs.Str.{bytes_eq}

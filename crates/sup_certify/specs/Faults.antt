@@ -1,5 +1,5 @@
 -- Why histories aren't certified (this project).
-use Rattle.std.specs.Prelude.{◌≡◌, ◌≢◌, ◌+◌, ℕ, Bool, true, false, List, slice_get, slice_index, Option, Some, None, Result, Err}
+use Rattle.std.specs.Prelude.{◌≡◌, ◌≢◌, ◌+◌, ℕ, Bool, true, false, List, slice_get, slice_index, Option, Some, None, Result}
 use Rattle.std.specs.List.{AllZip}
 use mathlib.Core.Logic.{◌⊎◌}
 use Rattle.sup_specs.specs.Values.{Bytes}

@@ -26,6 +26,14 @@ fn with_another_answer(rt: &impl Abort, entries: Vec<Entry>) -> Vec<Entry> {
     entries
 }
 
+// The entries without the one in this place.
+fn without(rt: &impl Abort, entries: Vec<Entry>, place: usize) -> Vec<Entry> {
+    let mut entries = entries;
+    assert!(rt; place < entries.len(), "no such entry");
+    drop(entries.remove(place));
+    entries
+}
+
 #[test]
 fn an_answer_that_the_world_gives_otherwise_is_named(rt: HostRuntime) {
     let (a, b) = lost_and_doubled(&rt);
@@ -44,9 +52,8 @@ fn an_answer_that_the_world_gives_otherwise_is_named(rt: HostRuntime) {
 #[test]
 fn a_delivery_of_a_message_that_nobody_sent_is_waited_for(rt: HostRuntime) {
     let (a, b) = lost_and_doubled(&rt);
-    let mut b = b;
     // Its ship; what it does then it does all the same.
-    drop(b.remove(1));
+    let b = without(&rt, b, 1);
     let both = histories(&rt, ("a", a), ("b", b));
     let fault = fault(&rt, &plan(&rt, "a", "b"), &both);
     assert!(rt; fault == Some(CertifyFault::Stuck));
@@ -55,9 +62,8 @@ fn a_delivery_of_a_message_that_nobody_sent_is_waited_for(rt: HostRuntime) {
 #[test]
 fn an_entry_that_was_left_out_is_missed(rt: HostRuntime) {
     let (a, b) = lost_and_doubled(&rt);
-    let mut b = b;
     // The start of the child, which the ship brings.
-    drop(b.remove(0));
+    let b = without(&rt, b, 0);
     let both = histories(&rt, ("a", a), ("b", b));
     let fault = fault(&rt, &plan(&rt, "a", "b"), &both);
     assert!(rt;

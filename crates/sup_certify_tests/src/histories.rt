@@ -20,8 +20,8 @@ fn done(rt: &(impl Abort + AllocGlobal), at: &Gate, pass: &mut Caller, act: Act)
 }
 
 // The bytes of an answer's letter.
-fn letter(rt: &(impl Abort + AllocGlobal), done: Done) -> Vec<u8> {
-    match done.out {
+fn letter(rt: &(impl Abort + AllocGlobal), done: &Done) -> Vec<u8> {
+    match &done.out {
         Some(letter) => letter
             .bytes
             .as_slice()
@@ -48,9 +48,9 @@ pub(crate) fn lost_and_doubled(rt: &(impl Abort + AllocGlobal)) -> (Vec<Entry>, 
     done(rt, &a, &mut at_a, join(rt));
     done(rt, &a, &mut at_a, ship(rt, "b"));
     done(rt, &b, &mut at_b, start(rt, "db"));
-    let delta = letter(rt, done(rt, &b, &mut at_b, ship(rt, "a")));
-    let first = letter(rt, done(rt, &a, &mut at_a, comes(rt, delta.as_slice())));
-    let second = letter(rt, done(rt, &a, &mut at_a, comes(rt, delta.as_slice())));
+    let delta = letter(rt, &done(rt, &b, &mut at_b, ship(rt, "a")));
+    let first = letter(rt, &done(rt, &a, &mut at_a, comes(rt, delta.as_slice())));
+    let second = letter(rt, &done(rt, &a, &mut at_a, comes(rt, delta.as_slice())));
     done(rt, &b, &mut at_b, comes(rt, first.as_slice()));
     done(rt, &b, &mut at_b, comes(rt, second.as_slice()));
     (closed(rt, a, at_a), closed(rt, b, at_b))

@@ -1,11 +1,9 @@
-use Rattle.std.proofs.Common.{◌≡◌, sym, subst, rules}
 use Rattle.sup_world.specs.Seen.{sites_of}
 use Rattle.sup_world.specs.Runs.{StepGoes}
 use Rattle.sup_certify.specs.Orders.{placed_at}
 use Rattle.sup_certify.specs.Faults.{IsMiss}
 use Rattle.sup_certify.proofs.StepLaws.{step_dry, miss_from}
 use Rattle.sup_certify.proofs.FaultLaws.{err_as}
-use Rattle.sup_certify.specs.Certified.{MakesEntry}
 use Rattle.sup_certify.proofs.replay.Replay.make.Goals as goal
 
 pub step-told-requires : goal.step-told-requires

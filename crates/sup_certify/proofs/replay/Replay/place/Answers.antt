@@ -1,10 +1,10 @@
-use Rattle.std.proofs.Common.{◌≡◌, ◌<◌, ◌+◌, ◌++◌, ◌∷◌, [], ℕ, length, slice_index, slice_set, sym, ap, ◌∙◌, subst, arith, rules}
+use Rattle.std.proofs.Common.{◌≡◌, ◌<◌, ◌+◌, ◌++◌, ◌∷◌, [], ℕ, length, slice_index, slice_set, sym, ap, subst, arith}
 use Rattle.std.specs.Prelude.{List, slice_get, slice_index_or, Some}
 use Rattle.std.specs.List.{AllZip}
 use Rattle.std.proofs.lemmas.List.{get_or_read}
 use Rattle.std.proofs.lemmas.Bool.{ltb-true}
 use Rattle.sup_node_gate.specs.declared.entry.Entry.{Entry}
-use Rattle.sup_world.specs.Seen.{Seen, sites_of}
+use Rattle.sup_world.specs.Seen.{sites_of}
 use Rattle.sup_certify.specs.Orders.{placed_at}
 use Rattle.sup_certify.specs.Faults.{IsNow, IsMiss, IsFaultFrom}
 use Rattle.sup_certify.specs.Progress.{IsWithin, Reaches}
