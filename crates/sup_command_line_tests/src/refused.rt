@@ -27,10 +27,7 @@ fn words_that_no_command_takes_are_refused(rt: HostRuntime) {
         (&["place", "--help"], ErrorKind::DisplayHelp),
         (&["inspect", "--help"], ErrorKind::DisplayHelp),
         (&["inspect", "a"], ErrorKind::UnknownArgument),
-        (
-            &["inspect", "--intensity", "3"],
-            ErrorKind::UnknownArgument,
-        ),
+        (&["inspect", "--intensity", "3"], ErrorKind::UnknownArgument),
         (&["inspect", "--period", "3"], ErrorKind::UnknownArgument),
         (&["inspect", "--buffer", "3"], ErrorKind::UnknownArgument),
         (
@@ -113,11 +110,26 @@ fn check_told(rt: &impl Abort, alloc: Global, words: &[&str], wanted: &str) -> R
 #[test]
 fn what_is_wrong_with_words_is_told_by_its_name(rt: HostRuntime) -> Result<(), Fail> {
     let cases: [(&[&str], &str); 7] = [
-        (&["simulate", "--weigh", "x"], "invalid value 'x' for '--weigh <sha256|flat>'"),
-        (&["place", "--weigh", "x"], "invalid value 'x' for '--weigh <sha256|flat>'"),
-        (&["simulate", "--intensity", "1001"], "invalid value '1001' for '--intensity <0 to 1000>'"),
-        (&["simulate", "--period", "0"], "invalid value '0' for '--period <1 to 1000000>'"),
-        (&["simulate", "--buffer", "0"], "invalid value '0' for '--buffer <1 to 1024>'"),
+        (
+            &["simulate", "--weigh", "x"],
+            "invalid value 'x' for '--weigh <sha256|flat>'",
+        ),
+        (
+            &["place", "--weigh", "x"],
+            "invalid value 'x' for '--weigh <sha256|flat>'",
+        ),
+        (
+            &["simulate", "--intensity", "1001"],
+            "invalid value '1001' for '--intensity <0 to 1000>'",
+        ),
+        (
+            &["simulate", "--period", "0"],
+            "invalid value '0' for '--period <1 to 1000000>'",
+        ),
+        (
+            &["simulate", "--buffer", "0"],
+            "invalid value '0' for '--buffer <1 to 1024>'",
+        ),
         (&["place", "--buffer", "4"], "'--buffer'"),
         (&["simulated"], "'simulated'"),
     ];

@@ -32,7 +32,7 @@ pub record IsInspectText (weigher : Weigher) (at : Bytes) (s : Station State) (p
   pub cut : List ℕ
   pub is_cut : IsCutText s.node.known.context cut
   pub says : said ≡ text (
-    show_text weigher at (Some (shown_of s)) ∷ count_line s.node.count ∷ buffer_line (length s.held) ∷ cut ∷ flat_map (acked_line s.acked) peers ∷ [])
+      show_text weigher at (Some (shown_of s)) ∷ count_line s.node.count ∷ buffer_line (length s.held) ∷ cut ∷ flat_map (acked_line s.acked) peers ∷ [])
 
 -- the lines of a node, with none where it's stopped
 abbrev pub IsInspected : Weigher → Bytes → Option (Station State) → List Bytes → List ℕ → Type 0

@@ -13,7 +13,14 @@ fn rows_of_refused_words(rt: HostRuntime) {
 #[test]
 fn there_are_three_commands(rt: HostRuntime) {
     for word in [
-        "cluster", "inspected", "help", "supctl", "Simulate", "", "simulat", "show",
+        "cluster",
+        "inspected",
+        "help",
+        "supctl",
+        "Simulate",
+        "",
+        "simulat",
+        "show",
     ] {
         expect_usage(&rt, &[word], b"nodes a\nshow a\n");
     }
