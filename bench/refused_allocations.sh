@@ -1,6 +1,6 @@
 #!/usr/bin/env bash
-# Runs `supctl simulate` on scripts, and `supctl place` on files that end in .members, with each allocation refused in turn, and with each save
-# failing in turn, and looks at what comes of it:
+# Runs `supctl simulate` on scripts, `supctl place` on files that end in .members and `supctl inspect` on those that end in .image, with each
+# allocation refused in turn, and with each save failing in turn, and looks at what comes of it:
 # - status 3: `out of memory` on standard error, and a front of the run's output;
 # - status 0 and one step answered `refused 19 OutOfMemory`: where its line is repeated, all else is as without that answer (of `settle`,
 #   whose steps before stand, what is shown at the end);
@@ -13,9 +13,10 @@ top=$(cd "$(dirname "$0")/.." && pwd)
 work=$(mktemp -d)
 trap 'rm -rf "$work"' EXIT
 rows=$top/crates/sup_rows/data
-[ $# -gt 0 ] || set -- "$top/crates/supctl/stdin" "$top"/examples/*.script "$top"/examples/*.members \
+[ $# -gt 0 ] || set -- "$top/crates/supctl/stdin" "$top"/examples/*.script "$top"/examples/*.{members,image} \
   "$rows"/{cut-and-misdirected-messages,delivery-at-a-stopped-node,interval-after-restart-without-its-text,member-leaves-rejoins-and-restarts}/stdin \
-  "$rows"/{least-dot-wins,finish-removes-the-one-dot-that-ran,restart-keeps-its-place,each-refusal-in-order,names-follow-their-child}/stdin
+  "$rows"/{least-dot-wins,finish-removes-the-one-dot-that-ran,restart-keeps-its-place,each-refusal-in-order,names-follow-their-child}/stdin \
+  "$rows"/{interval-after-restart-version-1,image-printed-version-1,inspected-node-tells-what-its-peers-acknowledged,removal-overtakes-its-add}/stdin
 "${CC:-cc}" -shared -fPIC -O1 -o "$work/refuse.so" "$top/bench/refuse_allocation.c" -ldl
 "$top/supctl" simulate <<<'nodes a' >"$work/output"
 program=$top/crates/supctl/out/supctl
@@ -27,7 +28,7 @@ play_fronts() {
   for line in $(seq 2 $((count + 1))); do
     head -n $((line - 1)) "$work/script" | "$program" simulate >"$work/before.$line"
   done
-  first_show=$(awk '/^(show|where) / { if (!first) first = NR; next } { first = 0 } END { print first ? first : NR + 1 }' "$work/script")
+  first_show=$(awk '/^(show|inspect|image|where|message) / { if (!first) first = NR; next } { first = 0 } END { print first ? first : NR + 1 }' "$work/script")
   shows=$(($(wc -c <"$work/whole") - $(wc -c <"$work/before.$first_show")))
 }
 
@@ -131,6 +132,7 @@ for script in "$@"; do
   more=()
   command=simulate
   [ "$script" = "${script%.members}" ] || command=place
+  [ "$script" = "${script%.image}" ] || command=inspect
   name=$(basename "$script")
   [ "$name" != stdin ] || name=$(basename "$(dirname "$script")")
   # Skipped lines aren't steps.

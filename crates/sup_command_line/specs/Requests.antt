@@ -10,7 +10,7 @@ use Rattle.sup_command_line.specs.Words.{supctl_app}
 use Rattle.sup_command_line.specs.Numbers.{number_of}
 use Rattle.sup_command_line.specs.Weighings.{weighing_of}
 use Rattle.sup_command_line.specs.declared.request.Request.{Request}
-use Rattle.sup_command_line.specs.declared.request.Request.TheVariants.{Simulate, Place}
+use Rattle.sup_command_line.specs.declared.request.Request.TheVariants.{Simulate, Place, Inspect}
 use Rattle.sup_command_line.specs.declared.request.Weighing.{Weighing}
 
 -- first one reading, then what depends on it
@@ -44,12 +44,18 @@ placing_in options = do
   weighing ← weighing_in options
   Some (Place weighing)
 
+unfoldable pub inspection_in : List Row → Option Request
+inspection_in options = do
+  weighing ← weighing_in options
+  Some (Inspect weighing)
+
 -- what a command asks for, by its name and its options
 unfoldable pub request_in : Option (Text × List Row) → Option Request
 request_in None = None
 request_in (Some command) =
     if bytes_eq command.0 (codes "simulate") then simulation_in command.1 else
-    (if bytes_eq command.0 (codes "place") then placing_in command.1 else None)
+    (if bytes_eq command.0 (codes "place") then placing_in command.1 else
+    (if bytes_eq command.0 (codes "inspect") then inspection_in command.1 else None))
 
 -- nothing is asked for by words in which `clap` finds a fault
 abbrev pub unless_faulty : Kinds → Option Request → Option Request

@@ -34,10 +34,13 @@ simulate_command = with_settings (weighing_command (codes "simulate"))
 unfoldable pub place_command : App
 place_command = weighing_command (codes "place")
 
+unfoldable pub inspect_command : App
+inspect_command = weighing_command (codes "inspect")
+
 -- the first word is no program's name, and a command has to stand there
 abbrev pub with_commands : App → App
 with_commands a = record a { top = record a.top { subcommand_required = true; no_binary_name = true } }
 
--- supctl simulate|place
+-- supctl simulate|place|inspect
 unfoldable pub supctl_app : App
-supctl_app = with_subcommand (with_subcommand (with_commands (new_app (codes "supctl"))) simulate_command.top) place_command.top
+supctl_app = with_subcommand (with_subcommand (with_subcommand (with_commands (new_app (codes "supctl"))) simulate_command.top) place_command.top) inspect_command.top

@@ -3,7 +3,7 @@
 ghost use Rattle.std.specs.Prelude.{◌≡◌, IfOk, codes, false};
 ghost use Rattle.clap.specs.Words.{app_of, new_app, rule_of, with_rule, with_subcommand};
 ghost use Rattle.clap.specs.declared.builder.command.Command.TheViews.{out-Command as fields_of};
-ghost use Rattle.sup_command_line.specs.Words.{buffer_rule, intensity_rule, option_rule, period_rule, place_command, simulate_command, supctl_app, weigh_rule, weighing_command, with_commands, with_settings};
+ghost use Rattle.sup_command_line.specs.Words.{buffer_rule, inspect_command, intensity_rule, option_rule, period_rule, place_command, simulate_command, supctl_app, weigh_rule, weighing_command, with_commands, with_settings};
 
 use clap::{Arg, ArgAction, Command};
 use std::alloc::{AllocError, Global};
@@ -14,17 +14,23 @@ pub fn supctl<'a>(alloc: Global) -> Result<Command<'a>, AllocError>
     ensures app { IfOk result (λ c. app_of c ≡ supctl_app) }
     ensures local { IfOk result (λ c. (fields_of c).has_globals ≡ false) }
 {
-    let command = with_command(top_command(alloc), simulate_command(alloc)?)?;
-    with_command(command, place_command(alloc)?)
+    let command = with_command(top_command(alloc)?, simulate_command(alloc)?)?;
+    let command = with_command(command, place_command(alloc)?)?;
+    with_command(command, inspect_command(alloc)?)
 }
 
-fn top_command<'a>(alloc: Global) -> Command<'a>
-    ensures app { app_of result ≡ with_commands (new_app (codes "supctl")) }
-    ensures local { (fields_of result).has_globals ≡ false }
+// Its name stands before each command's in what is told of usage.
+fn top_command<'a>(alloc: Global) -> Result<Command<'a>, AllocError>
+    ensures app { IfOk result (λ c. app_of c ≡ with_commands (new_app (codes "supctl"))) }
+    ensures local { IfOk result (λ c. (fields_of c).has_globals ≡ false) }
 {
     Command::new(alloc, "supctl")
+        .about(
+            "A replicated supervisor: scripts over a cluster of nodes, placement, and stored images",
+        )
         .no_binary_name(true)
         .subcommand_required(true)
+        .bin_name("supctl")
 }
 
 #[tactic(auto, unfolding(crate::specs::Words::simulate_command))]
@@ -32,7 +38,8 @@ fn simulate_command<'a>(alloc: Global) -> Result<Command<'a>, AllocError>
     ensures app { IfOk result (λ c. app_of c ≡ simulate_command) }
     ensures local { IfOk result (λ c. (fields_of c).has_globals ≡ false) }
 {
-    with_settings(alloc, weighing_command(alloc, "simulate")?)
+    let about = "Runs the script on standard input, and prints what each of its lines is answered";
+    with_settings(alloc, weighing_command(alloc, "simulate", about)?)
 }
 
 #[tactic(auto, unfolding(crate::specs::Words::place_command))]
@@ -40,14 +47,28 @@ fn place_command<'a>(alloc: Global) -> Result<Command<'a>, AllocError>
     ensures app { IfOk result (λ c. app_of c ≡ place_command) }
     ensures local { IfOk result (λ c. (fields_of c).has_globals ≡ false) }
 {
-    weighing_command(alloc, "place")
+    let about = "Prints the member on which each child that standard input names is placed";
+    weighing_command(alloc, "place", about)
 }
 
-fn weighing_command<'a>(alloc: Global, name: &'a str) -> Result<Command<'a>, AllocError>
+#[tactic(auto, unfolding(crate::specs::Words::inspect_command))]
+fn inspect_command<'a>(alloc: Global) -> Result<Command<'a>, AllocError>
+    ensures app { IfOk result (λ c. app_of c ≡ inspect_command) }
+    ensures local { IfOk result (λ c. (fields_of c).has_globals ≡ false) }
+{
+    let about = "Prints what the image of a node on standard input tells, and begins no boot";
+    weighing_command(alloc, "inspect", about)
+}
+
+fn weighing_command<'a>(
+    alloc: Global,
+    name: &'a str,
+    about: &'a str,
+) -> Result<Command<'a>, AllocError>
     ensures app { IfOk result (λ c. app_of c ≡ weighing_command name.entry.now) }
     ensures local { IfOk result (λ c. (fields_of c).has_globals ≡ false) }
 {
-    with_option(Command::new(alloc, name), weigh_option(alloc))
+    with_option(Command::new(alloc, name).about(about), weigh_option(alloc))
 }
 
 fn with_settings<'a>(alloc: Global, command: Command<'a>) -> Result<Command<'a>, AllocError>
@@ -64,28 +85,32 @@ fn weigh_option<'a>(alloc: Global) -> Arg<'a>
     ensures rule { rule_of result ≡ weigh_rule }
     ensures local { result.global ≡ false }
 {
-    option_of(alloc, "weigh", "sha256|flat", "sha256")
+    let help = "How members are weighed for children: sha256 or flat";
+    option_of(alloc, "weigh", "sha256|flat", "sha256").help(help)
 }
 
 fn intensity_option<'a>(alloc: Global) -> Arg<'a>
     ensures rule { rule_of result ≡ intensity_rule }
     ensures local { result.global ≡ false }
 {
-    option_of(alloc, "intensity", "0 to 1000", "1")
+    let help = "How many restarts within a period a node bears, 0 to 1000";
+    option_of(alloc, "intensity", "0 to 1000", "1").help(help)
 }
 
 fn period_option<'a>(alloc: Global) -> Arg<'a>
     ensures rule { rule_of result ≡ period_rule }
     ensures local { result.global ≡ false }
 {
-    option_of(alloc, "period", "1 to 1000000", "5")
+    let help = "How many seconds a restart counts, 1 to 1000000";
+    option_of(alloc, "period", "1 to 1000000", "5").help(help)
 }
 
 fn buffer_option<'a>(alloc: Global) -> Arg<'a>
     ensures rule { rule_of result ≡ buffer_rule }
     ensures local { result.global ≡ false }
 {
-    option_of(alloc, "buffer", "1 to 1024", "64")
+    let help = "How many of its newest changes a node keeps to send, 1 to 1024";
+    option_of(alloc, "buffer", "1 to 1024", "64").help(help)
 }
 
 // The value's name is what values there are.

@@ -61,3 +61,42 @@ fn weighing_of(word: &str) -> Option<Weighing>
         _ => None,
     }
 }
+
+// An option with a word that is no value of it.
+#[derive(Clone, Copy)]
+pub(crate) struct BadOption<'a> {
+    pub(crate) name: &'static str,
+    // Which values it takes.
+    pub(crate) values: &'static str,
+    pub(crate) word: &'a str,
+}
+
+// The first option with a word that is no value of it.
+pub(crate) fn bad_option_in<'a>(options: &ArgMatches<'a>) -> Option<BadOption<'a>> {
+    if weighing_in(options).is_none() {
+        return option_at(options, "weigh", "sha256|flat");
+    }
+    if !is_within(options, "intensity", 0, 1000) {
+        return option_at(options, "intensity", "0 to 1000");
+    }
+    if !is_within(options, "period", 1, 1_000_000) {
+        return option_at(options, "period", "1 to 1000000");
+    }
+    option_at(options, "buffer", "1 to 1024")
+}
+
+fn is_within(options: &ArgMatches<'_>, name: &str, least: u32, most: u32) -> bool {
+    match number_in(options, name) {
+        Some(number) => least <= number && number <= most,
+        None => false,
+    }
+}
+
+fn option_at<'a>(
+    options: &ArgMatches<'a>,
+    name: &'static str,
+    values: &'static str,
+) -> Option<BadOption<'a>> {
+    let word = word_in(options, name)?;
+    Some(BadOption { name, values, word })
+}

@@ -2,11 +2,11 @@
 
 ghost use Rattle.std.specs.Prelude.{◌≡◌, ◌≢◌, ◌↔◌, [], IfOk, IfErr, IsTrue, OnOk, map, option_map, codes};
 ghost use Rattle.clap.specs.Words.{fault_of, found_of, kind_of, rows_of, subcommand_of, subcommand_rows_of};
-ghost use Rattle.sup_command_line.specs.Requests.{ReadsTo, placing_in, request_in, request_of, simulation_in};
+ghost use Rattle.sup_command_line.specs.Requests.{ReadsTo, inspection_in, placing_in, request_in, request_of, simulation_in};
 ghost use Rattle.sup_command_line.specs.Words.{supctl_app};
 
 use crate::commands::supctl;
-use crate::options::{config_in, weighing_in};
+use crate::options::{BadOption, bad_option_in, config_in, weighing_in};
 use crate::request::Request;
 use clap::error::ErrorKind;
 use clap::{ArgMatches, Error};
@@ -23,7 +23,7 @@ pub fn read_words<S: AsStr>(alloc: Global, words: &[S]) -> Result<Request, Error
     let matches = matches_of(alloc, words)?;
     match request_in(&matches) {
         Some(request) => Ok(request),
-        None => Err(bad_value(alloc)?),
+        None => Err(bad_value(alloc, &matches)?),
     }
 }
 
@@ -34,7 +34,7 @@ pub fn is_want_of_memory(error: &Error) -> bool
     error.kind() == ErrorKind::OutOfMemory
 }
 
-#[tactic(auto, unfolding(crate::specs::Words::supctl_app, crate::specs::Words::simulate_command, crate::specs::Words::place_command))]
+#[tactic(auto, unfolding(crate::specs::Words::supctl_app, crate::specs::Words::simulate_command, crate::specs::Words::place_command, crate::specs::Words::inspect_command))]
 fn matches_of<'a, S: AsStr>(alloc: Global, words: &'a [S]) -> Result<ArgMatches<'a>, Error>
     ensures found { IfOk result (λ m. subcommand_rows_of m
         ≡ subcommand_of supctl_app (map S.text words.entry.now)) }
@@ -46,14 +46,28 @@ fn matches_of<'a, S: AsStr>(alloc: Global, words: &'a [S]) -> Result<ArgMatches<
 }
 
 // `clap` takes any text for a value, so that this is told apart.
-fn bad_value(alloc: Global) -> Result<Error, AllocError>
+fn bad_value(alloc: Global, matches: &ArgMatches<'_>) -> Result<Error, AllocError>
     ensures { IfOk result (λ e. kind_of e ≡ ErrorKind.InvalidValue) }
 {
     let mut command = supctl(alloc)?;
-    command.error(
-        ErrorKind::InvalidValue,
-        "invalid value for an option\n  [values: --weigh sha256|flat, --intensity 0 to 1000, --period 1 to 1000000, --buffer 1 to 1024]",
-    )
+    let message = bad_value_text(alloc, matches)?;
+    command.error(ErrorKind::InvalidValue, message.as_str())
+}
+
+// Which option has a value that it doesn't take, and which it takes.
+fn bad_value_text(alloc: Global, matches: &ArgMatches<'_>) -> Result<String, AllocError> {
+    match bad_option_of(matches) {
+        Some(bad) => {
+            let BadOption { name, values, word } = bad;
+            format!(in alloc; "invalid value '{word}' for '--{name} <{values}>'")
+        }
+        None => String::from_str(alloc, "invalid value for an option"),
+    }
+}
+
+fn bad_option_of<'a>(matches: &ArgMatches<'a>) -> Option<BadOption<'a>> {
+    let (_, options) = command_in(matches)?;
+    bad_option_in(options)
 }
 
 // None where an option has a value that it doesn't take.
@@ -65,6 +79,7 @@ fn request_in(matches: &ArgMatches<'_>) -> Option<Request>
     match name {
         "simulate" => simulation_in(options),
         "place" => placing_in(options),
+        "inspect" => inspection_in(options),
         _ => None,
     }
 }
@@ -91,4 +106,12 @@ fn placing_in(options: &ArgMatches<'_>) -> Option<Request>
 {
     let weighing = weighing_in(options)?;
     Some(Request::Place { weighing })
+}
+
+#[tactic(auto, unfolding(crate::specs::Requests::inspection_in))]
+fn inspection_in(options: &ArgMatches<'_>) -> Option<Request>
+    ensures { result ≡ inspection_in (rows_of (found_of options.now)) }
+{
+    let weighing = weighing_in(options)?;
+    Some(Request::Inspect { weighing })
 }

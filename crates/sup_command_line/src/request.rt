@@ -26,4 +26,9 @@ pub enum Request {
         /// How the members are weighed.
         weighing: Weighing,
     },
+    /// To look into a stored image.
+    Inspect {
+        /// How its members are weighed.
+        weighing: Weighing,
+    },
 }

@@ -117,3 +117,16 @@ fn place_has_both_weighers(rt: HostRuntime) {
         check_asks(&rt, rt.alloc(), words, Request::Place { weighing });
     }
 }
+
+#[test]
+fn inspect_has_both_weighers(rt: HostRuntime) {
+    let cases: [(&[&str], Weighing); 4] = [
+        (&["inspect"], Weighing::Sha256),
+        (&["inspect", "--weigh", "sha256"], Weighing::Sha256),
+        (&["inspect", "--weigh", "flat"], Weighing::Flat),
+        (&["inspect", "--weigh=flat"], Weighing::Flat),
+    ];
+    for (words, weighing) in cases {
+        check_asks(&rt, rt.alloc(), words, Request::Inspect { weighing });
+    }
+}

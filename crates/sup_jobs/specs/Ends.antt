@@ -5,7 +5,7 @@ use Rattle.sup_jobs.specs.Faults.{status_at, fault_line_at}
 use Rattle.sup_jobs.specs.Tells.{Tells}
 use Rattle.sup_jobs.specs.declared.fault.Ended.{Ended}
 use Rattle.sup_jobs.specs.declared.fault.Fault.{Fault}
-use Rattle.sup_jobs.specs.declared.fault.Fault.TheVariants.{BadLine, BadInput, Device, OutOfMemory}
+use Rattle.sup_jobs.specs.declared.fault.Fault.TheVariants.{BadLine, BadInput, BadImage, Device, OutOfMemory}
 
 -- the bytes of a reader or a writer, where these are known
 abbrev pub Bytes : Type 0
@@ -31,6 +31,7 @@ EndsAt {A} {X} job input before written (Ok x) = (length input ≤ 1048576)
     × ((asked : A) × (job.read input ≡ Ok asked) × job.PrintsAll asked before written)
 EndsAt {A} {X} job input before written (Err (BadLine number)) = (length input ≤ 1048576) × (job.read input ≡ Err number) × Keeps before written
 EndsAt {A} {X} job input before written (Err BadInput) = (1048576 < length input) × Keeps before written
+EndsAt {A} {X} job input before written (Err (BadImage fault)) = ⊥
 EndsAt {A} {X} job input before written (Err Device) = StopsAt job input before written
 EndsAt {A} {X} job input before written (Err OutOfMemory) = StopsAt job input before written
 
@@ -39,6 +40,7 @@ abbrev pub IsTaken : {X : Type 0} → Result X Fault → List ℕ → Type 0
 IsTaken (Ok x) taken = length taken ≤ 1048576
 IsTaken (Err (BadLine number)) taken = length taken ≤ 1048576
 IsTaken (Err BadInput) taken = length taken ≡ 1048577
+IsTaken (Err (BadImage fault)) taken = length taken ≤ 1048576
 IsTaken (Err Device) taken = length taken ≤ 1048576
 IsTaken (Err OutOfMemory) taken = length taken ≤ 1048576
 
@@ -46,14 +48,18 @@ IsTaken (Err OutOfMemory) taken = length taken ≤ 1048576
 abbrev pub TakesFor : {X : Type 0} → Result X Fault → Bytes → Bytes → Type 0
 TakesFor end before after = (taken : List ℕ) × IsTaken end taken × Consumes before after taken
 
--- The status tells how the run ended, and the error writer was told of that end.
-abbrev pub Does : {A : Type 0} → Job A → Bytes → Bytes → Bytes → Bytes → Bytes → Bytes → Ended → Type 0
-Does job input left before written errors_before errors_written ended =
+-- The status tells how the run ended, and the error writer was told of that end, which is one that the input may have.
+abbrev pub EndsBy : (List ℕ → Bytes → Bytes → Result (Unit {0}) Fault → Type 0) → Bytes → Bytes → Bytes → Bytes → Bytes → Bytes → Ended → Type 0
+EndsBy MayEnd input left before written errors_before errors_written ended =
     (end : Result (Unit {0}) Fault)
     × (ended.status ≡ status_at end)
     × Tells ended.told errors_before errors_written (fault_line_at end)
     × TakesFor end input left
-    × IfSome input (λ bytes. EndsAt job bytes before written end)
+    × IfSome input (λ bytes. MayEnd bytes before written end)
+
+abbrev pub Does : {A : Type 0} → Job A → Bytes → Bytes → Bytes → Bytes → Bytes → Bytes → Ended → Type 0
+Does job input left before written errors_before errors_written ended =
+    EndsBy (λ bytes before' written' end. EndsAt job bytes before' written' end) input left before written errors_before errors_written ended
 
 -- At most so many bytes were taken from a reader.
 abbrev pub TakesAtMost : ℕ → Bytes → Bytes → Type 0

@@ -1,14 +1,23 @@
 -- The faults that end a job, their lines and their statuses (this project's output format).
 use Rattle.std.specs.Prelude.{ℕ, List, [], ◌++◌, Result, Ok, Err, codes, decimal}
 use Rattle.sup_jobs.specs.declared.fault.Fault.{Fault}
-use Rattle.sup_jobs.specs.declared.fault.Fault.TheVariants.{BadLine, BadInput, Device, OutOfMemory}
+use Rattle.sup_jobs.specs.declared.fault.Fault.TheVariants.{BadLine, BadInput, BadImage, Device, OutOfMemory}
+use Rattle.sup_jobs.specs.declared.fault.ImageFault.{ImageFault}
+use Rattle.sup_jobs.specs.declared.fault.ImageFault.TheVariants.{NotJson, NotMessage, BadVersion, NotCanonical}
 use Rattle.sup_jobs.specs.declared.input.InputFault.{InputFault}
 use Rattle.sup_jobs.specs.declared.input.InputFault.TheVariants as input
+
+abbrev pub image_fault_name : ImageFault → List ℕ
+image_fault_name NotJson = codes "NotJson"
+image_fault_name NotMessage = codes "NotMessage"
+image_fault_name BadVersion = codes "BadVersion"
+image_fault_name NotCanonical = codes "NotCanonical"
 
 -- the line on standard error
 abbrev pub fault_text : Fault → List ℕ
 fault_text (BadLine number) = codes "bad line " ++ decimal number ++ codes "\n"
 fault_text BadInput = codes "bad input\n"
+fault_text (BadImage fault) = codes "bad image " ++ image_fault_name fault ++ codes "\n"
 fault_text Device = codes "device\n"
 fault_text OutOfMemory = codes "out of memory\n"
 
@@ -16,6 +25,7 @@ fault_text OutOfMemory = codes "out of memory\n"
 abbrev pub status_of : Fault → ℕ
 status_of (BadLine number) = 1
 status_of BadInput = 1
+status_of (BadImage fault) = 1
 status_of Device = 3
 status_of OutOfMemory = 3
 
@@ -32,6 +42,7 @@ fault_line_at (Err fault) = fault_text fault
 abbrev pub IsOutside : Fault → Type 0
 IsOutside (BadLine number) = ⊥
 IsOutside BadInput = ⊥
+IsOutside (BadImage fault) = ⊥
 IsOutside Device = Unit {0}
 IsOutside OutOfMemory = Unit {0}
 

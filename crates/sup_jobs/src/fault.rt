@@ -1,6 +1,6 @@
 //! The faults that end a job, and how they are told.
 
-ghost use Rattle.std.specs.Prelude.{◌≡◌};
+ghost use Rattle.std.specs.Prelude.{◌≡◌, ◌++◌, codes};
 ghost use Rattle.sup_jobs.specs.Faults.{fault_line_at, fault_text, of_input, status_at, status_of};
 ghost use Rattle.sup_jobs.specs.Tells.{Tells};
 
@@ -11,6 +11,39 @@ use std::alloc::AllocError;
 use std::io::Write;
 use thiserror::Error;
 
+/// Why an input is no image, the first of these that applies.
+#[derive(Clone, Copy, Debug, PartialEq, Eq, Error)]
+pub enum ImageFault {
+    /// It is no JSON value.
+    #[error("NotJson")]
+    NotJson,
+    /// The value is none of the forms of an image.
+    #[error("NotMessage")]
+    NotMessage,
+    /// Its version is none that is read.
+    #[error("BadVersion")]
+    BadVersion,
+    /// Rows or cloud break their order, the cloud's distance or the cover of the context.
+    #[error("NotCanonical")]
+    NotCanonical,
+}
+
+impl ImageFault {
+    ghost use Rattle.sup_jobs.specs.Faults.{image_fault_name};
+
+    /// Its name.
+    pub fn name(self) -> &'static str
+        ensures { result.now ≡ image_fault_name self }
+    {
+        match self {
+            ImageFault::NotJson => "NotJson",
+            ImageFault::NotMessage => "NotMessage",
+            ImageFault::BadVersion => "BadVersion",
+            ImageFault::NotCanonical => "NotCanonical",
+        }
+    }
+}
+
 /// Why a run ended before its time.
 #[derive(Clone, Copy, Debug, PartialEq, Eq, Error)]
 pub enum Fault {
@@ -20,6 +53,9 @@ pub enum Fault {
     /// The input is too long.
     #[error("bad input")]
     BadInput,
+    /// The input is no image.
+    #[error("bad image {0}")]
+    BadImage(ImageFault),
     /// The reader or the writer failed.
     #[error("device")]
     Device,
@@ -66,7 +102,7 @@ impl Fault {
         ensures { result ≡ status_of self }
     {
         match self {
-            Fault::BadLine(_) | Fault::BadInput => 1,
+            Fault::BadLine(_) | Fault::BadInput | Fault::BadImage(_) => 1,
             Fault::Device | Fault::OutOfMemory => 3,
         }
     }
@@ -105,6 +141,7 @@ pub fn report<E: Write>(errors: &mut E, fault: Fault) -> Result<(), DeviceFault>
     match fault {
         Fault::BadLine(number) => report_line(errors, number),
         Fault::BadInput => put_all(errors, b"bad input\n"),
+        Fault::BadImage(fault) => report_image(errors, fault),
         Fault::Device => put_all(errors, b"device\n"),
         Fault::OutOfMemory => put_all(errors, b"out of memory\n"),
     }
@@ -116,7 +153,23 @@ fn report_line<E: Write>(errors: &mut E, number: u64) -> Result<(), DeviceFault>
         (fault_text (Fault.BadLine number)) }
 {
     let mut digits = Buffer::new();
-    put_all(errors, b"bad line ")?;
-    put_all(errors, digits.format(number).as_bytes())?;
+    report_as(errors, b"bad line ", digits.format(number).as_bytes())
+}
+
+// Writes `bad image NAME`.
+fn report_image<E: Write>(errors: &mut E, fault: ImageFault) -> Result<(), DeviceFault>
+    ensures { Tells result (E.contents errors.old) (E.contents errors.new)
+        (fault_text (Fault.BadImage fault)) }
+{
+    report_as(errors, b"bad image ", fault.name().as_bytes())
+}
+
+// Writes a line of two parts.
+fn report_as<E: Write>(errors: &mut E, front: &[u8], rest: &[u8]) -> Result<(), DeviceFault>
+    ensures { Tells result (E.contents errors.old) (E.contents errors.new)
+        (front.now ++ (rest.now ++ codes "\n")) }
+{
+    put_all(errors, front)?;
+    put_all(errors, rest)?;
     put_all(errors, b"\n")
 }

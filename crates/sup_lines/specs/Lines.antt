@@ -1,11 +1,12 @@
 -- The lines behind the one of the nodes: each is a step, or asks for something else (this project's script format). A further form without endings is a further case of `form_of`.
 use Rattle.std.specs.Prelude.{◌≡◌, ◌≢◌, ◌==◌, List, [], ◌∷◌, length, Option, Some, None, if◌then◌else◌, codes}
 use Rattle.std.specs.Str.{bytes_eq}
+use Rattle.sup_specs.specs.declared.limits.TheConstants.{MAX}
 use Rattle.sup_model.specs.declared.step.Step.TheVariants.{Raw}
 use Rattle.sup_lines.specs.declared.line.Line.{Line}
-use Rattle.sup_lines.specs.declared.line.Line.TheVariants.{Step, Settle, Show, Where}
+use Rattle.sup_lines.specs.declared.line.Line.TheVariants.{Step, Settle, Show, Inspect, Image, Where, Message}
 use Rattle.sup_lines.specs.Words.{Word, ◌>>=◌}
-use Rattle.sup_lines.specs.Values.{node_name_of, registered_name_of}
+use Rattle.sup_lines.specs.Values.{node_name_of, registered_name_of, number_of}
 use Rattle.sup_lines.specs.Forms.{deed_of}
 use Rattle.sup_lines.specs.Endings.{ended}
 
@@ -35,6 +36,20 @@ show_of (node ∷ []) = do
   Some (Show name)
 show_of _ = None
 
+-- inspect N
+unfoldable pub inspect_of : List Word → Option Line
+inspect_of (node ∷ []) = do
+  name ← node_name_of node
+  Some (Inspect name)
+inspect_of _ = None
+
+-- image N
+unfoldable pub image_of : List Word → Option Line
+image_of (node ∷ []) = do
+  name ← node_name_of node
+  Some (Image name)
+image_of _ = None
+
 -- where N NAME
 unfoldable pub where_of : List Word → Option Line
 where_of (node ∷ registered ∷ []) = do
@@ -43,6 +58,14 @@ where_of (node ∷ registered ∷ []) = do
   Some (Where name sought)
 where_of _ = None
 
+-- message FROM K
+unfoldable pub message_of : List Word → Option Line
+message_of (sender ∷ number ∷ []) = do
+  name ← node_name_of sender
+  k ← number_of MAX number
+  Some (Message name k)
+message_of _ = None
+
 -- a line after the first
 unfoldable pub form_of : List Word → Option Line
 form_of [] = None
@@ -50,7 +73,10 @@ form_of (verb ∷ words) =
     if bytes_eq verb (codes "raw") then raw_of words else
     (if bytes_eq verb (codes "settle") then settle_of words else
     (if bytes_eq verb (codes "show") then show_of words else
-    (if bytes_eq verb (codes "where") then where_of words else step_of (verb ∷ words))))
+    (if bytes_eq verb (codes "inspect") then inspect_of words else
+    (if bytes_eq verb (codes "image") then image_of words else
+    (if bytes_eq verb (codes "where") then where_of words else
+    (if bytes_eq verb (codes "message") then message_of words else step_of (verb ∷ words)))))))
 
 -- has a form, or has one but for its endings
 abbrev pub IsBegun : List Word → Type 0

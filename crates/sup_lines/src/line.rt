@@ -3,18 +3,18 @@
 ghost use Rattle.std.specs.Prelude.{◌≡◌, ◌≢◌, IfErr, None};
 ghost use Rattle.sup_lines.specs.Words.{Reads, ReadsWhere, texts};
 ghost use Rattle.sup_lines.specs.Forms.{deed_of};
-ghost use Rattle.sup_lines.specs.Lines.{IsBegun, form_of, raw_of, settle_of, show_of, step_of, where_of};
+ghost use Rattle.sup_lines.specs.Lines.{IsBegun, form_of, image_of, inspect_of, message_of, raw_of, settle_of, show_of, step_of, where_of};
 ghost use Rattle.sup_lines.specs.Script.{ReadsLine, line_of};
 
 use crate::endings::read_ended;
 use crate::fault::LineFault;
 use crate::forms::read_deed;
-use crate::values::{read_node_name, read_registered_name};
+use crate::values::{read_node_name, read_number, read_registered_name};
 use crate::words::{plain_text, words_of};
 use std::alloc::Global;
 use sup_model::Step;
 use sup_replica::MessageText;
-use sup_specs::{Name, NodeName};
+use sup_specs::{MAX, Name, NodeName};
 
 /// A line after `nodes`.
 #[derive(Drop)]
@@ -25,8 +25,14 @@ pub enum Line {
     Settle,
     /// What this node holds is printed, and no step is made.
     Show(NodeName),
+    /// What this node holds is printed, and how far it and its peers are; and no step is made.
+    Inspect(NodeName),
+    /// The image that this node kept last is printed, and no step is made.
+    Image(NodeName),
     /// The place of the child that a name stands for at this node is printed, and no step is made.
     Where { node: NodeName, name: Name },
+    /// The k-th message that a node sent is printed, and no step is made.
+    Message { from: NodeName, k: u64 },
 }
 
 /// What a line asks for.
@@ -61,7 +67,10 @@ fn read_form(alloc: Global, words: &[&str]) -> Result<Line, LineFault>
         "raw" => read_raw(alloc, others),
         "settle" => read_settle(others),
         "show" => read_show(others),
+        "inspect" => read_inspect(others),
+        "image" => read_image(others),
         "where" => read_where(alloc, others),
+        "message" => read_message(others),
         _ => read_step(alloc, words),
     }
 }
@@ -117,6 +126,34 @@ fn read_show(words: &[&str]) -> Result<Line, LineFault>
     }
 }
 
+#[tactic(auto, unfolding(crate::specs::Lines::inspect_of))]
+fn read_inspect(words: &[&str]) -> Result<Line, LineFault>
+    ensures line { Reads (λ line. line) result (inspect_of (texts words.now)) }
+    ensures bad { IfErr result (λ e. e ≡ LineFault.Bad) }
+{
+    match words {
+        [node] => {
+            let node = read_node_name(node)?;
+            Ok(Line::Inspect(node))
+        }
+        _ => Err(LineFault::Bad),
+    }
+}
+
+#[tactic(auto, unfolding(crate::specs::Lines::image_of))]
+fn read_image(words: &[&str]) -> Result<Line, LineFault>
+    ensures line { Reads (λ line. line) result (image_of (texts words.now)) }
+    ensures bad { IfErr result (λ e. e ≡ LineFault.Bad) }
+{
+    match words {
+        [node] => {
+            let node = read_node_name(node)?;
+            Ok(Line::Image(node))
+        }
+        _ => Err(LineFault::Bad),
+    }
+}
+
 #[tactic(auto, unfolding(crate::specs::Lines::where_of))]
 fn read_where(alloc: Global, words: &[&str]) -> Result<Line, LineFault>
     ensures { Reads (λ line. line) result (where_of (texts words.now)) }
@@ -126,6 +163,21 @@ fn read_where(alloc: Global, words: &[&str]) -> Result<Line, LineFault>
             let node = read_node_name(node)?;
             let name = read_registered_name(alloc, name)?;
             Ok(Line::Where { node, name })
+        }
+        _ => Err(LineFault::Bad),
+    }
+}
+
+#[tactic(auto, unfolding(crate::specs::Lines::message_of))]
+fn read_message(words: &[&str]) -> Result<Line, LineFault>
+    ensures line { Reads (λ line. line) result (message_of (texts words.now)) }
+    ensures bad { IfErr result (λ e. e ≡ LineFault.Bad) }
+{
+    match words {
+        [node, number] => {
+            let from = read_node_name(node)?;
+            let k = read_number(number, MAX)?;
+            Ok(Line::Message { from, k })
         }
         _ => Err(LineFault::Bad),
     }

@@ -112,8 +112,16 @@ const OTHERS: &[(&str, &str)] = &[
     ("raw z {\"v\":9}", "z: bytes {\"v\":9}"),
     ("settle", "settle"),
     ("show a", "show a"),
+    ("inspect a", "inspect a"),
+    ("image z", "image of z"),
     ("where a www", "where a www"),
     ("where a @1", "where a @1"),
+    ("message a 1", "message 1 of a"),
+    ("message z 0", "message 0 of z"),
+    (
+        "message a 9007199254740991",
+        "message 9007199254740991 of a",
+    ),
 ];
 
 fn check_lines(rt: &impl Abort, alloc: Global, cases: &[(&str, &str)]) -> Result<(), Fail> {

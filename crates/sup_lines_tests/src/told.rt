@@ -11,7 +11,10 @@ pub(crate) fn told(alloc: Global, line: &Line) -> Result<String, AllocError> {
         Line::Step(step) => told_step(alloc, step),
         Line::Settle => format!(in alloc; "settle"),
         Line::Show(node) => format!(in alloc; "show {node}"),
+        Line::Inspect(node) => format!(in alloc; "inspect {node}"),
+        Line::Image(node) => format!(in alloc; "image of {node}"),
         Line::Where { node, name } => format!(in alloc; "where {node} {name}"),
+        Line::Message { from, k } => format!(in alloc; "message {k} of {from}"),
     }
 }
 

@@ -1,1 +1,2 @@
 pub mod LoserLaws
+pub mod Inspections

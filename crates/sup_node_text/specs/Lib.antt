@@ -1,2 +1,4 @@
 pub mod Lines
 pub mod Shown
+pub mod Cuts
+pub mod Inspected

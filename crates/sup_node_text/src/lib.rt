@@ -1,6 +1,8 @@
 //! What is printed of a node: what it shows, and where a name leads.
 #![tactic(auto)]
 
+mod cut;
+pub mod inspect;
 pub mod kept;
 pub mod line;
 pub mod losers;
@@ -9,6 +11,7 @@ pub mod show;
 pub mod tables;
 pub mod whereis;
 
+pub use inspect::{inspect_text, still_text};
 pub use show::show_text;
 pub use tables::tables_text;
 pub use whereis::where_text;

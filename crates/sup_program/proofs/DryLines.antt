@@ -15,7 +15,7 @@ use Rattle.sup_lines.specs.Values.{node_name_of, child_id_of, registered_name_of
 use Rattle.sup_lines.specs.Options.{label_of, spec_of, word_behind, if_there, option_at}
 use Rattle.sup_lines.specs.Endings.{step_at, saves_of, ended}
 use Rattle.sup_lines.specs.Forms.{join_of, leave_of, start_of, replace_of, delete_of, register_of, unregister_of, exit_of, ship_of, push_of, deliver_of, stop_of, reboot_of, deed_of}
-use Rattle.sup_lines.specs.Lines.{step_of, raw_of, settle_of, show_of, where_of, form_of}
+use Rattle.sup_lines.specs.Lines.{step_of, raw_of, settle_of, show_of, inspect_of, image_of, where_of, message_of, form_of}
 use Rattle.sup_lines.specs.Script.{ScriptText, is_plain, words_of, line_of, opening_of, in_front, each_of, behind, numbered_lines, opened, script_of}
 use Rattle.sup_program.specs.Playing.{BringsNoBytes}
 
@@ -178,12 +178,31 @@ show_dry [] = tt
 show_dry (node ∷ []) = next BringsNoBytes (node_name_of node) _ (λ name. tt)
 show_dry (node ∷ word ∷ words) = tt
 
+inspect_dry : (words : List Word) → IfSome (inspect_of words) BringsNoBytes
+unfolding inspect_of
+inspect_dry [] = tt
+inspect_dry (node ∷ []) = next BringsNoBytes (node_name_of node) _ (λ name. tt)
+inspect_dry (node ∷ word ∷ words) = tt
+
+image_dry : (words : List Word) → IfSome (image_of words) BringsNoBytes
+unfolding image_of
+image_dry [] = tt
+image_dry (node ∷ []) = next BringsNoBytes (node_name_of node) _ (λ name. tt)
+image_dry (node ∷ word ∷ words) = tt
+
 where_dry : (words : List Word) → IfSome (where_of words) BringsNoBytes
 unfolding where_of
 where_dry [] = tt
 where_dry (node ∷ []) = tt
 where_dry (node ∷ registered ∷ []) = next BringsNoBytes (node_name_of node) _ (λ name. next BringsNoBytes (registered_name_of registered) _ (λ sought. tt))
 where_dry (node ∷ registered ∷ word ∷ words) = tt
+
+message_dry : (words : List Word) → IfSome (message_of words) BringsNoBytes
+unfolding message_of
+message_dry [] = tt
+message_dry (sender ∷ []) = tt
+message_dry (sender ∷ number ∷ []) = next BringsNoBytes (node_name_of sender) _ (λ name. next BringsNoBytes (number_of MAX number) _ (λ k. tt))
+message_dry (sender ∷ number ∷ word ∷ words) = tt
 
 form_dry : (words : List Word) → IfSome (form_of words) BringsNoBytes
 unfolding form_of
@@ -192,7 +211,10 @@ form_dry (verb ∷ words) =
     either BringsNoBytes (bytes_eq verb (codes "raw")) (raw_of words) _ (raw_dry words)
     (either BringsNoBytes (bytes_eq verb (codes "settle")) (settle_of words) _ (settle_dry words)
     (either BringsNoBytes (bytes_eq verb (codes "show")) (show_of words) _ (show_dry words)
-    (either BringsNoBytes (bytes_eq verb (codes "where")) (where_of words) (step_of (verb ∷ words)) (where_dry words) (step_line_dry (verb ∷ words)))))
+    (either BringsNoBytes (bytes_eq verb (codes "inspect")) (inspect_of words) _ (inspect_dry words)
+    (either BringsNoBytes (bytes_eq verb (codes "image")) (image_of words) _ (image_dry words)
+    (either BringsNoBytes (bytes_eq verb (codes "where")) (where_of words) _ (where_dry words)
+    (either BringsNoBytes (bytes_eq verb (codes "message")) (message_of words) (step_of (verb ∷ words)) (message_dry words) (step_line_dry (verb ∷ words))))))))
 
 line_dry : (bytes : List ℕ) → IfSome (line_of bytes) BringsNoBytes
 unfolding line_of

@@ -1,23 +1,31 @@
 -- What each line prints, by what the world's calls promise.
-use Rattle.std.specs.Prelude.{◌≡◌, ℕ, Bool, List, Result, Ok, Err, IfOk, refl}
-use Rattle.std.proofs.Common.{◌∙◌, sym, subst}
+use Rattle.std.specs.Prelude.{◌≡◌, ◌++◌, ℕ, Bool, List, Option, Some, None, Result, Ok, Err, IfOk, codes, refl}
+use Rattle.std.specs.Option.{option_map, option_and_then}
+use Rattle.std.proofs.Common.{◌∙◌, ap, sym, subst}
 use mathlib.Core.Logic.{inl, inr}
 use Rattle.sup_specs.specs.Values.{Bytes}
 use Rattle.sup_placement.specs.Place.{Weigher}
+use Rattle.sup_tables.specs.States.{State}
 use Rattle.sup_replica.specs.declared.refusal.Refusal.{Refusal}
+use Rattle.sup_replica.specs.declared.refusal.Refusal.TheVariants.{UnknownNode, NoSuchMessage}
+use Rattle.sup_replica.specs.declared.letter.Letter.{Letter}
 use Rattle.sup_model.specs.declared.step.Step.{Step}
 use Rattle.sup_model.specs.declared.step.Step.TheVariants.{Node as AtNode, Deliver as Delivery, Raw}
+use Rattle.sup_model.specs.Posts.{Real, reads}
 use Rattle.sup_model.specs.Worlds.{World}
+use Rattle.sup_station.specs.Stills.{Still}
 use Rattle.sup_world.specs.declared.answer.Answer.{Answer}
 use Rattle.sup_world.specs.declared.settled.Settled.{Settled}
-use Rattle.sup_world.specs.Carrying.{carried, Knows}
-use Rattle.sup_world.specs.Following.{StandsFor, Follows}
+use Rattle.sup_world.specs.Carrying.{carried, letter_of, Knows}
+use Rattle.sup_world.specs.Following.{StandsFor, Follows, Steps}
 use Rattle.sup_world.specs.Seen.{Seen}
 use Rattle.sup_world.specs.Settling.{SettlesTo}
+use Rattle.sup_world.specs.Telling.{Shows}
+use Rattle.sup_lines.specs.declared.line.Line.{Line}
 use Rattle.sup_lines.specs.declared.line.Line.TheVariants as line
 use Rattle.sup_text.specs.Answers.{refusal_text, settled_text}
-use Rattle.sup_program.specs.Prints.{TellsMessages, said_of, node_text, lead_text}
-use Rattle.sup_program.specs.Playing.{CanFail, Speaks}
+use Rattle.sup_program.specs.Prints.{Scene, Does, TellsMessages, said_of, image_text, letter_text, message_text}
+use Rattle.sup_program.specs.Playing.{CanFail, MaySpeak, Speaks}
 use Rattle.sup_program.proofs.Counts.{carried_same}
 
 -- what is told of all bytes is told of a step's
@@ -27,14 +35,25 @@ knows is_message (Delivery from k at drop now saves) tells = tt
 knows is_message (Raw at bytes) tells = λ mail read. tells bytes mail read
 
 -- a step does as it is told, whatever its save is to do
-pub step_speaks : (weigher : Weigher) (model : World) (step : Step) (sites new : List Seen) (result : Result Answer Refusal) → CanFail sites → Follows weigher model (carried sites step) result new → (speaks : Speaks weigher model (line.Step step) new) × (speaks.said ≡ said_of result)
-step_speaks weigher model step sites new result can f =
+pub step_speaks : (weigher : Weigher) (peers : List Bytes) (model : World) (step : Step) (sites new : List Seen) (result : Result Answer Refusal) → CanFail sites → Follows weigher model (carried sites step) result new
+    → ((real : Real State) → Shows weigher sites real → Knows (reads real.codec) step → Steps weigher real (carried sites step) result new)
+    → (speaks : Speaks weigher peers (record { model = model; sites = sites }) (line.Step step) new) × (speaks.said ≡ said_of result)
+step_speaks weigher peers model step sites new result can f steps =
     let g : Follows weigher model step result new = subst (λ s. Follows weigher model s result new) (carried_same sites step can) f in (
       record {
         said = said_of result;
         after = g.after;
-        prints = record { expected = g.expected; answer = result; allows = g.allows; told = g.told; says = refl };
-        stands = g.stands;
+        prints = record {
+          does = record {
+            expected = g.expected;
+            answer = result;
+            allows = g.allows;
+            told = g.told;
+            steps = λ real shows tells. subst (λ s. Steps weigher real s result new) (carried_same sites step can) (steps real shows (knows (reads real.codec) step tells));
+            says = refl;
+          };
+          stands = g.stands;
+        };
       },
       refl,
     )
@@ -44,34 +63,73 @@ abbrev pub settled_said : Result Settled Refusal → List ℕ
 settled_said (Ok settled) = settled_text settled.messages settled.effects.items
 settled_said (Err refusal) = refusal_text refusal
 
-pub settle_speaks : (weigher : Weigher) (model : World) (new : List Seen) (result : Result Settled Refusal) → SettlesTo weigher model result new → (speaks : Speaks weigher model line.Settle new) × (speaks.said ≡ settled_said result)
-settle_speaks weigher model new (Ok settled) s = (
+pub settle_speaks : (weigher : Weigher) (peers : List Bytes) (model : World) (sites new : List Seen) (result : Result Settled Refusal) → SettlesTo weigher model result new → (speaks : Speaks weigher peers (record { model = model; sites = sites }) line.Settle new) × (speaks.said ≡ settled_said result)
+settle_speaks weigher peers model sites new (Ok settled) s = (
   record {
     said = settled_text settled.messages settled.effects.items;
     after = s.after;
-    prints = inl (record { answers = s.ends.0; settles = s.ends.1; says = rw (s.ends.2.messages, s.ends.2.effects) refl });
-    stands = s.stands;
+    prints = record {
+      does = inl (record { answers = s.ends.0; settles = s.ends.1; says = rw (s.ends.2.messages, s.ends.2.effects) refl });
+      stands = s.stands;
+    };
   },
   refl,
 )
-settle_speaks weigher model new (Err refusal) s = (
+settle_speaks weigher peers model sites new (Err refusal) s = (
   record {
     said = refusal_text refusal;
     after = s.after;
-    prints = inr (record { refusal = refusal; stops = s.ends; says = refl });
-    stands = s.stands;
+    prints = record {
+      does = inr (record { refusal = refusal; stops = s.ends; says = refl });
+      stands = s.stands;
+    };
   },
   refl,
 )
 
 -- a text that is what is said
-pub as_said : {X E : Type 0} (view : X → List ℕ) (result : Result X E) (text said : List ℕ) → said ≡ text → IfOk result (λ x. view x ≡ text) → IfOk result (λ x. view x ≡ said)
-as_said view (Ok x) text said e h = h ∙ sym e
-as_said view (Err error) text said e h = h
+pub spoken : {X E : Type 0} (view : X → List ℕ) (result : Result X E) (weigher : Weigher) (peers : List Bytes) (s : Scene) (line : Line) (new : List Seen) (speaks : Speaks weigher peers s line new) (text : List ℕ) → speaks.said ≡ text → IfOk result (λ x. view x ≡ text) → MaySpeak view weigher peers s line new result
+spoken view (Ok x) weigher peers s line new speaks text e h = (speaks, h ∙ sym e)
+spoken view (Err error) weigher peers s line new speaks text e h = inl speaks
 
--- to show is no step
-pub shows_node : {X E : Type 0} (view : X → List ℕ) (result : Result X E) (weigher : Weigher) (model : World) (sites : List Seen) (name : Bytes) → StandsFor weigher sites model → IfOk result (λ x. view x ≡ node_text model name) → (speaks : Speaks weigher model (line.Show name) sites) × IfOk result (λ x. view x ≡ speaks.said)
-shows_node view result weigher model sites name h told = (record { said = node_text model name; after = model; prints = (refl, refl); stands = h }, told)
+-- a text that is said in other words
+pub said_as : {X E : Type 0} (view : X → List ℕ) (result : Result X E) (text said : List ℕ) → text ≡ said → IfOk result (λ x. view x ≡ text) → IfOk result (λ x. view x ≡ said)
+said_as view (Ok x) text said e h = h ∙ e
+said_as view (Err error) text said e h = h
 
-pub shows_lead : {X E : Type 0} (view : X → List ℕ) (result : Result X E) (weigher : Weigher) (model : World) (sites : List Seen) (name sought : Bytes) → StandsFor weigher sites model → IfOk result (λ x. view x ≡ lead_text model name sought) → (speaks : Speaks weigher model (line.Where name sought) sites) × IfOk result (λ x. view x ≡ speaks.said)
-shows_lead view result weigher model sites name sought h told = (record { said = lead_text model name sought; after = model; prints = (refl, refl); stands = h }, told)
+-- to look is no step
+pub looks : {X E : Type 0} (view : X → List ℕ) (result : Result X E) (weigher : Weigher) (peers : List Bytes) (model : World) (sites : List Seen) (line : Line) (Told : List ℕ → Type 0) → StandsFor weigher sites model → ((said : List ℕ) → Told said → Does weigher peers (record { model = model; sites = sites }) line said (record { model = model; sites = sites })) → IfOk result (λ x. Told (view x)) → MaySpeak view weigher peers (record { model = model; sites = sites }) line sites result
+looks view (Ok x) weigher peers model sites line Told h does told = (record { said = view x; after = model; prints = record { does = does (view x) told; stands = h } }, refl)
+looks view (Err error) weigher peers model sites line Told h does told = inr refl
+
+-- the image of a node that is there
+pub image_there : (still : Still) (seen : Option Seen) → Some still ≡ option_map (λ s. s.still) seen → image_text seen ≡ still.kept ++ codes "\n"
+image_there still None e = cc
+image_there still (Some seen) e = ap (λ (o : Still). o.kept ++ codes "\n") (some_is e)
+  where
+    some_is : Some still ≡ Some seen.still → seen.still ≡ still
+    some_is p = cc
+
+-- a message that is there, one that isn't, and one of a node that isn't
+pub message_there : (bytes : List ℕ) (seen : Option Seen) (k : ℕ) → Some bytes ≡ option_map (λ (l : Letter). l.bytes) (option_and_then (λ s. letter_of s k) seen) → message_text seen k ≡ bytes ++ codes "\n"
+message_there bytes None k e = cc
+message_there bytes (Some seen) k e = of_letter (letter_of seen k) e
+  where
+    of_letter : (letter : Option Letter) → Some bytes ≡ option_map (λ (l : Letter). l.bytes) letter → letter_text letter ≡ bytes ++ codes "\n"
+    of_letter None p = cc
+    of_letter (Some letter) p = ap (λ b. b ++ codes "\n") (some_is p)
+      where
+        some_is : Some bytes ≡ Some letter.bytes → letter.bytes ≡ bytes
+        some_is q = cc
+
+pub message_unsent : (still : Still) (seen : Option Seen) (k : ℕ) → Some still ≡ option_map (λ (s : Seen). s.still) seen → None ≡ option_map (λ (l : Letter). l.bytes) (option_and_then (λ s. letter_of s k) seen) → message_text seen k ≡ refusal_text NoSuchMessage
+message_unsent still None k there e = cc
+message_unsent still (Some seen) k there e = of_letter (letter_of seen k) e
+  where
+    of_letter : (letter : Option Letter) → None ≡ option_map (λ (l : Letter). l.bytes) letter → letter_text letter ≡ refusal_text NoSuchMessage
+    of_letter None p = refl
+    of_letter (Some letter) p = cc
+
+pub message_none : (seen : Option Seen) (k : ℕ) → None ≡ option_map (λ (s : Seen). s.still) seen → message_text seen k ≡ refusal_text UnknownNode
+message_none None k e = refl
+message_none (Some seen) k e = cc

@@ -1,10 +1,12 @@
 -- Lines one after another.
 use Rattle.std.proofs.Common.{◌≡◌, ◌∙◌, ℕ, ◌+◌, ◌<◌, ◌≤◌, List, [], ◌∷◌, ◌++◌, length, take, get_or, refl, sym, ap, subst, arith, append_assoc}
-use Rattle.std.specs.Prelude.{Result, Ok, Err, IsErrAnd}
+use Rattle.std.specs.Prelude.{◌⊎◌, Result, Ok, Err, IsErrAnd}
+use mathlib.Core.Logic.{inl, inr}
 use Rattle.std.proofs.lemmas.List.{take_more, append-nil, take_all}
 use Rattle.std.proofs.Math.Seq.{take-append-add}
 use Rattle.std.specs.Io.KnownBytes.{Appends}
 use Rattle.std.proofs.KnownBytes.{Appends-nil, Appends-trans}
+use Rattle.sup_specs.specs.Values.{Bytes}
 use Rattle.sup_placement.specs.Place.{Weigher}
 use Rattle.sup_jobs.specs.Ends.{Bytes as Known}
 use Rattle.sup_jobs.specs.declared.fault.Fault.{Fault}
@@ -12,24 +14,24 @@ use Rattle.sup_model.specs.Worlds.{World}
 use Rattle.sup_world.specs.Following.{StandsFor}
 use Rattle.sup_world.specs.Seen.{Seen}
 use Rattle.sup_lines.specs.declared.line.Line.{Line}
-use Rattle.sup_program.specs.Prints.{Prints, TellsMessages}
+use Rattle.sup_program.specs.Prints.{Scene, Prints, TellsMessages}
 use Rattle.sup_program.specs.Plays.{Plays, PrintsAllFrom, PrintsFrontFrom}
 use Rattle.sup_program.specs.Playing.{Speaks, PlaysLine}
 use Rattle.sup_program.proofs.PlayedRuns.{line_run}
 use Rattle.sup_program.proofs.Messages.{run_same}
 
 -- lines that were played and written, and the model world that they reach
-pub record PlaysTo (weigher : Weigher) (old : World) (lines : List Line) (sites : List Seen) (before written : Known) : Type 0 where
+pub record PlaysTo (weigher : Weigher) (peers : List Bytes) (old : Scene) (lines : List Line) (sites : List Seen) (before written : Known) : Type 0 where
   pub printed : List ℕ
   pub reached : World
-  pub plays : Plays old lines printed reached
+  pub plays : Plays weigher peers old lines printed (record { model = reached; sites = sites })
   pub stands : StandsFor weigher sites reached
   pub tells : TellsMessages reached.is_message
   pub writes : Appends before written printed
 
 -- before the first line
-pub begins : (weigher : Weigher) (old : World) (sites : List Seen) (a : Known) → StandsFor weigher sites old → TellsMessages old.is_message → PlaysTo weigher old [] sites a a
-begins weigher old sites a h tells = record {
+pub begins : (weigher : Weigher) (peers : List Bytes) (old : World) (sites : List Seen) (a : Known) → StandsFor weigher sites old → TellsMessages old.is_message → PlaysTo weigher peers (record { model = old; sites = sites }) [] sites a a
+begins weigher peers old sites a h tells = record {
   printed = [];
   reached = old;
   plays = (refl, refl);
@@ -39,81 +41,101 @@ begins weigher old sites a h tells = record {
 }
 
 -- one line more
-plays_one_more : (old : World) (lines : List Line) (line : Line) (printed said : List ℕ) (mid new : World) → Plays old lines printed mid → Prints mid line said new → Plays old (lines ++ line ∷ []) (printed ++ said) new
-plays_one_more old [] line printed said mid new h p =
-    let p' : Prints old line said new = subst (λ (w : World). Prints w line said new) h.1 p in
+plays_one_more : (weigher : Weigher) (peers : List Bytes) (old : Scene) (lines : List Line) (line : Line) (printed said : List ℕ) (mid new : Scene) → Plays weigher peers old lines printed mid → Prints weigher peers mid line said new → Plays weigher peers old (lines ++ line ∷ []) (printed ++ said) new
+plays_one_more weigher peers old [] line printed said mid new h p =
+    let p' : Prints weigher peers old line said new = subst (λ (w : Scene). Prints weigher peers w line said new) h.1 p in
     (said, new, [], p', (refl, refl), ap (λ (front : List ℕ). front ++ said) h.0 ∙ sym (append-nil said))
-plays_one_more old (first ∷ lines) line printed said mid new h p = (
+plays_one_more weigher peers old (first ∷ lines) line printed said mid new h p = (
   h.0,
   h.1,
   h.2 ++ said,
   h.3,
-  plays_one_more h.1 lines line h.2 said mid new h.4 p,
+  plays_one_more weigher peers h.1 lines line h.2 said mid new h.4 p,
   ap (λ (front : List ℕ). front ++ said) h.5 ∙ append_assoc h.0 h.2 said,
 )
 
-module _ (weigher : Weigher) (old : World) (lines : List Line) (i : ℕ) (line : Line) (mid new : List Seen) (a b c : Known) (lt : i < length lines) (is : line ≡ get_or lines i line) (h : PlaysTo weigher old (take i lines) mid a b) (speaks : Speaks weigher h.reached line new) where
+module _ (weigher : Weigher) (peers : List Bytes) (old : Scene) (lines : List Line) (i : ℕ) (line : Line) (mid new : List Seen) (a b c : Known) (lt : i < length lines) (is : line ≡ get_or lines i line) (h : PlaysTo weigher peers old (take i lines) mid a b) (speaks : Speaks weigher peers (record { model = h.reached; sites = mid }) line new) where
   all : take (i + 1) lines ≡ take i lines ++ line ∷ []
   all = take_more lines i line lt ∙ ap (λ (l : Line). take i lines ++ l ∷ []) (sym is)
 
-  more : Plays old (take (i + 1) lines) (h.printed ++ speaks.said) speaks.after
-  more = rw all (plays_one_more old (take i lines) line h.printed speaks.said h.reached speaks.after h.plays speaks.prints)
+  abbrev from : Scene
+  from = record { model = h.reached; sites = mid }
+
+  abbrev to : Scene
+  to = record { model = speaks.after; sites = new }
+
+  more : Plays weigher peers old (take (i + 1) lines) (h.printed ++ speaks.said) to
+  more = rw all (plays_one_more weigher peers old (take i lines) line h.printed speaks.said from to h.plays speaks.prints)
 
   same : speaks.after.is_message ≡ h.reached.is_message
-  same = let run = line_run h.reached line speaks.said speaks.after speaks.prints in run_same h.reached run.0 run.1 speaks.after run.2
+  same = let run = line_run weigher peers from line speaks.said to speaks.prints in run_same h.reached run.0 run.1 speaks.after run.2
 
   -- a line whose text was written whole
-  pub goes_on : Appends b c speaks.said → PlaysTo weigher old (take (i + 1) lines) new a c
+  pub goes_on : Appends b c speaks.said → PlaysTo weigher peers old (take (i + 1) lines) new a c
   goes_on w = record {
     printed = h.printed ++ speaks.said;
     reached = speaks.after;
     plays = more;
-    stands = speaks.stands;
+    stands = speaks.prints.stands;
     tells = subst TellsMessages (sym same) h.tells;
     writes = Appends-trans a b c h.printed speaks.said h.writes w;
   }
 
   -- a line whose text was cut short
-  pub cut_front : (count : ℕ) → Appends b c (take count speaks.said) → PrintsFrontFrom old lines a c
+  pub cut_front : (count : ℕ) → Appends b c (take count speaks.said) → PrintsFrontFrom weigher peers old lines a c
   cut_front count w = record {
     made = i + 1;
     bytes = length h.printed + count;
     printed = h.printed ++ speaks.said;
-    final = speaks.after;
+    final = to;
     plays = more;
     writes = rw (take-append-add h.printed speaks.said count) (Appends-trans a b c h.printed (take count speaks.said) h.writes w);
   }
 
 -- what all of the lines print is a front of itself
-pub whole_front : (weigher : Weigher) (old : World) (lines : List Line) (i : ℕ) (mid : List Seen) (a b : Known) → PlaysTo weigher old (take i lines) mid a b → PrintsFrontFrom old lines a b
-whole_front weigher old lines i mid a b h = record {
+pub whole_front : (weigher : Weigher) (peers : List Bytes) (old : Scene) (lines : List Line) (i : ℕ) (mid : List Seen) (a b : Known) → PlaysTo weigher peers old (take i lines) mid a b → PrintsFrontFrom weigher peers old lines a b
+whole_front weigher peers old lines i mid a b h = record {
   made = i;
   bytes = length h.printed;
   printed = h.printed;
-  final = h.reached;
+  final = record { model = h.reached; sites = mid };
   plays = h.plays;
   writes = rw (take_all (length h.printed) h.printed (omega arith)) h.writes;
 }
 
--- what all of the lines print
-pub whole : (weigher : Weigher) (old : World) (lines : List Line) (i : ℕ) (mid : List Seen) (a b : Known) → length lines ≤ i → PlaysTo weigher old (take i lines) mid a b → PrintsAllFrom old lines a b
-whole weigher old lines i mid a b end h = record {
+-- a line that was cut short, or not played
+pub ended_front : (weigher : Weigher) (peers : List Bytes) (old : Scene) (lines : List Line) (i : ℕ) (line : Line) (mid new : List Seen) (a b c : Known) → i < length lines → line ≡ get_or lines i line → (h : PlaysTo weigher peers old (take i lines) mid a b)
+    → ((speaks : Speaks weigher peers (record { model = h.reached; sites = mid }) line new) × (count : ℕ) × Appends b c (take count speaks.said)) ⊎ ((new ≡ mid) × Appends b c []) → PrintsFrontFrom weigher peers old lines a c
+ended_front weigher peers old lines i line mid new a b c lt is h (inl last) = cut_front weigher peers old lines i line mid new a b c lt is h last.0 last.1 last.2
+ended_front weigher peers old lines i line mid new a b c lt is h (inr last) = record {
+  made = i;
+  bytes = length h.printed;
   printed = h.printed;
-  final = h.reached;
+  final = record { model = h.reached; sites = mid };
+  plays = h.plays;
+  writes = rw (take_all (length h.printed) h.printed (omega arith)) (subst (λ (said : List ℕ). Appends a c said) (append-nil h.printed) (Appends-trans a b c h.printed [] h.writes last.1));
+}
+
+-- what all of the lines print
+pub whole : (weigher : Weigher) (peers : List Bytes) (old : Scene) (lines : List Line) (i : ℕ) (mid : List Seen) (a b : Known) → length lines ≤ i → PlaysTo weigher peers old (take i lines) mid a b → PrintsAllFrom weigher peers old lines a b
+whole weigher peers old lines i mid a b end h = record {
+  printed = h.printed;
+  final = record { model = h.reached; sites = mid };
   plays = rw (take_all i lines end) at h.plays;
   writes = h.writes;
 }
 
-module _ {weigher : Weigher} {model : World} {line : Line} {new : List Seen} where
+module _ {weigher : Weigher} {peers : List Bytes} {s : Scene} {line : Line} {new : List Seen} where
   -- a line of which no text was written
-  pub said_none : (a : Known) → Speaks weigher model line new → (speaks : Speaks weigher model line new) × (count : ℕ) × Appends a a (take count speaks.said)
-  said_none a speaks = (speaks, 0, Appends-nil a)
+  pub said_none : (a : Known) → Speaks weigher peers s line new ⊎ (new ≡ s.sites) → ((speaks : Speaks weigher peers s line new) × (count : ℕ) × Appends a a (take count speaks.said)) ⊎ ((new ≡ s.sites) × Appends a a [])
+  said_none a (inl speaks) = inl (speaks, 0, Appends-nil a)
+  said_none a (inr same) = inr (same, Appends-nil a)
 
   -- a line whose text was cut short
-  pub said_front : {X : Type 0} (result : Result X Fault) (Q : Fault → Type 0) (a b : Known) (text : List ℕ) → IsErrAnd result Q → (s : (speaks : Speaks weigher model line new) × (text ≡ speaks.said)) → ((count : ℕ) × Appends a b (take count text)) → PlaysLine weigher model line new a b result
-  said_front (Ok x) Q a b text err s w = absurd err
-  said_front (Err fault) Q a b text err s w = (s.0, w.0, rw s.1 at w.1)
+  pub said_front : {X : Type 0} (result : Result X Fault) (Q : Fault → Type 0) (a b : Known) (text : List ℕ) → IsErrAnd result Q → (s' : (speaks : Speaks weigher peers s line new) × (text ≡ speaks.said)) → ((count : ℕ) × Appends a b (take count text)) → PlaysLine weigher peers s line new a b result
+  said_front (Ok x) Q a b text err s' w = absurd err
+  said_front (Err fault) Q a b text err s' w = inl (s'.0, w.0, rw s'.1 at w.1)
 
   -- a line whose text was written whole
-  pub said_all : (a b : Known) (text : List ℕ) → (s : (speaks : Speaks weigher model line new) × (text ≡ speaks.said)) → Appends a b text → (speaks : Speaks weigher model line new) × Appends a b speaks.said
-  said_all a b text s w = (s.0, rw s.1 at w)
+  pub said_all : (a b : Known) (text : List ℕ) → (s' : (speaks : Speaks weigher peers s line new) × (text ≡ speaks.said)) → Appends a b text → (speaks : Speaks weigher peers s line new) × Appends a b speaks.said
+  said_all a b text s' w = (s'.0, rw s'.1 at w)

@@ -1,16 +1,23 @@
 -- A whole script, from a new world.
 use Rattle.std.specs.Prelude.{Bool, List}
 use Rattle.sup_specs.specs.Values.{Bytes}
+use Rattle.sup_placement.specs.Place.{Weigher}
+use Rattle.sup_replica.specs.Configs.{Config}
 use Rattle.sup_jobs.specs.Ends.{Bytes as Known}
-use Rattle.sup_model.specs.Worlds.{Setting, new}
+use Rattle.sup_world.specs.Newness.{setting_in}
+use Rattle.sup_world.specs.Seen.{Seen}
 use Rattle.sup_lines.specs.declared.line.Line.{Line}
 use Rattle.sup_program.specs.Prints.{TellsMessages}
-use Rattle.sup_program.specs.Plays.{PrintsAllFrom, PrintsAll}
+use Rattle.sup_program.specs.Plays.{AreInOrder, IsOpening, opening, PrintsAllFrom, PrintsAll}
 use Rattle.sup_program.proofs.PlayedRuns.{played_worlds_keep}
 
 -- the main theorem holds of the world after all lines
-pub prints_all : (setting : Setting) (names : List Bytes) (lines : List Line) (before written : Known) → ((is_message : Bytes → Bool) → TellsMessages is_message → PrintsAllFrom (new setting is_message names) lines before written) → PrintsAll setting names lines before written
-prints_all setting names lines before written h = record {
+pub prints_all : (weigher : Weigher) (config : Config) (names peers : List Bytes) (sites : List Seen) (lines : List Line) (before written : Known) → AreInOrder names peers → IsOpening weigher config names sites → ((is_message : Bytes → Bool) → TellsMessages is_message → PrintsAllFrom weigher peers (opening weigher config names is_message sites) lines before written) → PrintsAll weigher config names lines before written
+prints_all weigher config names peers sites lines before written order opens h = record {
+  peers = peers;
+  in_order = order;
+  sites = sites;
+  opens = opens;
   prints = h;
-  headline = λ is_message tells. let p = h is_message tells in played_worlds_keep setting is_message names lines p.printed p.final p.plays;
+  headline = λ is_message tells. let p = h is_message tells in played_worlds_keep weigher peers (setting_in weigher config) is_message names sites lines p.printed p.final p.plays;
 }

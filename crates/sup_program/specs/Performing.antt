@@ -2,13 +2,14 @@
 use Rattle.std.specs.Prelude.{◌≡◌, ◌⊎◌, ℕ, List, Option, Some, None}
 use Rattle.sup_command_line.specs.Weighings.{weight_of}
 use Rattle.sup_command_line.specs.declared.request.Request.{Request}
-use Rattle.sup_command_line.specs.declared.request.Request.TheVariants.{Simulate, Place}
+use Rattle.sup_command_line.specs.declared.request.Request.TheVariants.{Simulate, Place, Inspect}
 use Rattle.sup_jobs.specs.declared.fault.Ended.{Ended}
 use Rattle.sup_jobs.specs.declared.fault.Fault.TheVariants.{OutOfMemory}
 use Rattle.sup_jobs.specs.Ends.{Bytes}
 use Rattle.sup_jobs.specs.Faults.{fault_text, status_of}
 use Rattle.sup_jobs.specs.Tells.{Tells}
 use Rattle.sup_placing.specs.Placing.{Places}
+use Rattle.sup_inspecting.specs.Inspecting.{Inspects}
 use Rattle.sup_program.specs.Simulating.{Simulates}
 
 -- Memory was refused before anything was read or written, and that was told.
@@ -31,4 +32,6 @@ Performs (Some (Simulate weighing config)) input left before written errors_befo
     Simulates (weight_of weighing) config input left before written errors_before errors_written ended
 Performs (Some (Place weighing)) input left before written errors_before errors_written ended =
     Places (weight_of weighing) input left before written errors_before errors_written ended
+Performs (Some (Inspect weighing)) input left before written errors_before errors_written ended =
+    Inspects (weight_of weighing) input left before written errors_before errors_written ended
 Performs None input left before written errors_before errors_written ended = Refuses errors_before errors_written ended

@@ -1,38 +1,45 @@
 -- What playing one line does (this project): the code's world follows some line of the model's, and the writer has got its text, or a front of it.
-use Rattle.std.specs.Prelude.{◌≡◌, ◌<◌, ℕ, false, All, List, take, Result, Ok, Err}
+use Rattle.std.specs.Prelude.{◌≡◌, ◌<◌, ◌⊎◌, ℕ, false, All, List, [], take, Result, Ok, Err}
 use Rattle.std.specs.Io.KnownBytes.{Appends}
+use Rattle.sup_specs.specs.Values.{Bytes as Name}
 use Rattle.sup_placement.specs.Place.{Weigher}
 use Rattle.sup_keeper.specs.Keeping.{most}
 use Rattle.sup_jobs.specs.Ends.{Bytes}
 use Rattle.sup_jobs.specs.declared.fault.Fault.{Fault}
 use Rattle.sup_model.specs.Worlds.{World}
 use Rattle.sup_world.specs.Carrying.{has_bytes}
-use Rattle.sup_world.specs.Following.{StandsFor}
 use Rattle.sup_world.specs.Seen.{Seen}
 use Rattle.sup_lines.specs.declared.line.Line.{Line}
 use Rattle.sup_lines.specs.declared.line.Line.TheVariants as line
-use Rattle.sup_program.specs.Prints.{Prints}
+use Rattle.sup_program.specs.Prints.{Scene, Prints}
 
 -- a line's step is no act that brings bytes: these come by deliveries, and raw
 abbrev pub BringsNoBytes : Line → Type 0
 BringsNoBytes (line.Step step) = has_bytes step ≡ false
 BringsNoBytes line.Settle = Unit {0}
 BringsNoBytes (line.Show name) = Unit {0}
+BringsNoBytes (line.Inspect name) = Unit {0}
+BringsNoBytes (line.Image name) = Unit {0}
 BringsNoBytes (line.Where name sought) = Unit {0}
+BringsNoBytes (line.Message name k) = Unit {0}
 
 -- each keeper can count one failure more
 abbrev pub CanFail : List Seen → Type 0
 CanFail sites = All (λ s. s.failures < most) sites
 
 -- what the line prints, and the model world that the code's then stands for
-pub record Speaks (weigher : Weigher) (model : World) (line : Line) (new : List Seen) : Type 0 where
+pub record Speaks (weigher : Weigher) (peers : List Name) (s : Scene) (line : Line) (new : List Seen) : Type 0 where
   pub said : List ℕ
   pub after : World
-  pub prints : Prints model line said after
-  pub stands : StandsFor weigher new after
+  pub prints : Prints weigher peers s line said (record { model = after; sites = new })
 
--- the writer has got all of that, or a front of it
-abbrev pub PlaysLine : {X : Type 0} → Weigher → World → Line → List Seen → Bytes → Bytes → Result X Fault → Type 0
-PlaysLine weigher model line new before written (Ok x) = (speaks : Speaks weigher model line new) × Appends before written speaks.said
-PlaysLine weigher model line new before written (Err fault) =
-    (speaks : Speaks weigher model line new) × (count : ℕ) × Appends before written (take count speaks.said)
+-- this text is what the line prints; where there is no memory for a text, the line was played, or nothing changed
+abbrev pub MaySpeak : {X E : Type 0} → (X → List ℕ) → Weigher → List Name → Scene → Line → List Seen → Result X E → Type 0
+MaySpeak view weigher peers s line new (Ok x) = (speaks : Speaks weigher peers s line new) × (view x ≡ speaks.said)
+MaySpeak view weigher peers s line new (Err e) = Speaks weigher peers s line new ⊎ (new ≡ s.sites)
+
+-- the writer has got all of that; or a front of it; or nothing changed
+abbrev pub PlaysLine : {X : Type 0} → Weigher → List Name → Scene → Line → List Seen → Bytes → Bytes → Result X Fault → Type 0
+PlaysLine weigher peers s line new before written (Ok x) = (speaks : Speaks weigher peers s line new) × Appends before written speaks.said
+PlaysLine weigher peers s line new before written (Err fault) =
+    ((speaks : Speaks weigher peers s line new) × (count : ℕ) × Appends before written (take count speaks.said)) ⊎ ((new ≡ s.sites) × Appends before written [])

@@ -1,46 +1,77 @@
 -- What the lines of a script print, one after another (this project).
-use Rattle.std.specs.Prelude.{◌≡◌, ℕ, Bool, List, [], ◌∷◌, ◌++◌, take}
+use Rattle.std.specs.Prelude.{◌≡◌, ℕ, Bool, List, [], ◌∷◌, ◌++◌, take, IsSorted, IsPermutation}
 use Rattle.std.specs.Io.KnownBytes.{Appends}
-use Rattle.sup_specs.specs.Values.{Bytes}
+use Rattle.sup_specs.specs.Values.{Bytes, text_cmp}
+use Rattle.sup_tables.specs.States.{State}
+use Rattle.sup_placement.specs.Place.{Weigher}
+use Rattle.sup_replica.specs.ByTables.{by_tables}
+use Rattle.sup_replica.specs.Configs.{Config}
+use Rattle.sup_replica.specs.Stations.{Codec}
 use Rattle.sup_jobs.specs.Ends.{Bytes as Known}
-use Rattle.sup_model.specs.Worlds.{Setting, World, new}
+use Rattle.sup_model.specs.Posts.{real_new}
+use Rattle.sup_model.specs.Worlds.{Setting, new}
 use Rattle.sup_model.specs.Headline.{Headline}
+use Rattle.sup_world.specs.Newness.{setting_in}
+use Rattle.sup_world.specs.Seen.{Seen}
+use Rattle.sup_world.specs.Telling.{Shows}
 use Rattle.sup_lines.specs.declared.line.Line.{Line}
-use Rattle.sup_program.specs.Prints.{Prints, TellsMessages}
+use Rattle.sup_program.specs.Prints.{Scene, Prints, TellsMessages}
 
--- From this world the lines print this and leave that world.
-abbrev pub Plays : World → List Line → List ℕ → World → Type 0
-Plays w [] printed after = (printed ≡ []) × (after ≡ w)
-Plays w (line ∷ lines) printed after =
-    (said : List ℕ) × (mid : World) × (later : List ℕ) × Prints w line said mid × Plays mid lines later after × (printed ≡ said ++ later)
+module _ (weigher : Weigher) (peers : List Bytes) where
+  -- From this world the lines print this and lead to that world.
+  abbrev pub Plays : Scene → List Line → List ℕ → Scene → Type 0
+  Plays s [] printed after = (printed ≡ []) × (after ≡ s)
+  Plays s (line ∷ lines) printed after =
+      (said : List ℕ) × (mid : Scene) × (later : List ℕ) × Prints weigher peers s line said mid × Plays mid lines later after × (printed ≡ said ++ later)
+
+  -- The writer has got what all of these lines print.
+  pub record PrintsAllFrom (s : Scene) (lines : List Line) (before written : Known) : Type 0 where
+    pub printed : List ℕ
+    pub final : Scene
+    pub plays : Plays s lines printed final
+    pub writes : Appends before written printed
+
+  -- The writer has got a front of what the first of these lines print.
+  pub record PrintsFrontFrom (s : Scene) (lines : List Line) (before written : Known) : Type 0 where
+    pub made : ℕ
+    pub bytes : ℕ
+    pub printed : List ℕ
+    pub final : Scene
+    pub plays : Plays s (take made lines) printed final
+    pub writes : Appends before written (take bytes printed)
 
 -- whatever is played from a new world, it is a run of the model, and the main theorem holds of the world after it
 abbrev pub PlayedWorldsKeep : Type 0
 PlayedWorldsKeep =
-    (setting : Setting) (is_message : Bytes → Bool) (names : List Bytes) (lines : List Line) (printed : List ℕ) (after : World)
-    → Plays (new setting is_message names) lines printed after → Headline after
+    (weigher : Weigher) (peers : List Bytes) (setting : Setting) (is_message : Bytes → Bool) (names : List Bytes) (sites : List Seen) (lines : List Line) (printed : List ℕ)
+    (after : Scene) → Plays weigher peers (record { model = new setting is_message names; sites = sites }) lines printed after → Headline after.model
 
--- The writer has got what all of these lines print.
-pub record PrintsAllFrom (w : World) (lines : List Line) (before written : Known) : Type 0 where
-  pub printed : List ℕ
-  pub final : World
-  pub plays : Plays w lines printed final
-  pub writes : Appends before written printed
+-- names in their order
+pub record AreInOrder (names ordered : List Bytes) : Type 0 where
+  pub sorted : IsSorted text_cmp ordered
+  pub all : IsPermutation names ordered
 
--- The writer has got a front of what the first of these lines print.
-pub record PrintsFrontFrom (w : World) (lines : List Line) (before written : Known) : Type 0 where
-  pub made : ℕ
-  pub bytes : ℕ
-  pub printed : List ℕ
-  pub final : World
-  pub plays : Plays w (take made lines) printed final
-  pub writes : Appends before written (take bytes printed)
+-- nodes of these names: a new world of the definitions
+abbrev pub IsOpening : Weigher → Config → List Bytes → List Seen → Type 0
+IsOpening weigher config names sites =
+    (codec : Codec State) → Shows weigher sites (real_new by_tables (setting_in weigher config) config.buffer codec names)
 
--- from a new world of these nodes, whichever way the bytes that are a message are told; and the main theorem holds of the world after all lines
-pub record PrintsAll (setting : Setting) (names : List Bytes) (lines : List Line) (before written : Known) : Type 0 where
-  pub prints : (is_message : Bytes → Bool) → TellsMessages is_message → PrintsAllFrom (new setting is_message names) lines before written
-  pub headline : (is_message : Bytes → Bool) (tells : TellsMessages is_message) → Headline (prints is_message tells).final
+-- the new world of these nodes, whichever way the bytes that are a message are told
+abbrev pub opening : Weigher → Config → List Bytes → (Bytes → Bool) → List Seen → Scene
+opening weigher config names is_message sites = record { model = new (setting_in weigher config) is_message names; sites = sites }
 
-abbrev pub PrintsFront : Setting → List Bytes → List Line → Known → Known → Type 0
-PrintsFront setting names lines before written =
-    (is_message : Bytes → Bool) → TellsMessages is_message → PrintsFrontFrom (new setting is_message names) lines before written
+-- from a new world of these nodes, which are each other's peers; and the main theorem holds of the world after all lines
+pub record PrintsAll (weigher : Weigher) (config : Config) (names : List Bytes) (lines : List Line) (before written : Known) : Type 0 where
+  pub peers : List Bytes
+  pub in_order : AreInOrder names peers
+  pub sites : List Seen
+  pub opens : IsOpening weigher config names sites
+  pub prints : (is_message : Bytes → Bool) → TellsMessages is_message → PrintsAllFrom weigher peers (opening weigher config names is_message sites) lines before written
+  pub headline : (is_message : Bytes → Bool) (tells : TellsMessages is_message) → Headline (prints is_message tells).final.model
+
+pub record PrintsFront (weigher : Weigher) (config : Config) (names : List Bytes) (lines : List Line) (before written : Known) : Type 0 where
+  pub peers : List Bytes
+  pub in_order : AreInOrder names peers
+  pub sites : List Seen
+  pub opens : IsOpening weigher config names sites
+  pub prints : (is_message : Bytes → Bool) → TellsMessages is_message → PrintsFrontFrom weigher peers (opening weigher config names is_message sites) lines before written

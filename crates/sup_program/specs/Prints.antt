@@ -1,22 +1,29 @@
--- What a line of a script prints, and the model world that it leaves (this project).
-use Rattle.std.specs.Prelude.{◌≡◌, ◌⊎◌, ℕ, Bool, is_some, List, Option, Some, None, Result, Ok, Err, if◌then◌else◌}
+-- What a line of a script prints, and the world that it leaves (this project).
+use Rattle.std.specs.Prelude.{◌≡◌, ◌⊎◌, ◌++◌, ℕ, Bool, is_some, List, Option, Some, None, Result, Ok, Err, codes, if◌then◌else◌}
 use Rattle.sup_specs.specs.Values.{Bytes}
 use Rattle.sup_tables.specs.States.{State}
 use Rattle.sup_tables.specs.Operations.{live}
 use Rattle.sup_replica.specs.Stations.{Mail}
 use Rattle.sup_replica.specs.declared.refusal.Refusal.{Refusal}
-use Rattle.sup_replica.specs.declared.refusal.Refusal.TheVariants.{UnknownNode}
+use Rattle.sup_replica.specs.declared.refusal.Refusal.TheVariants.{UnknownNode, NoSuchMessage}
+use Rattle.sup_replica.specs.declared.letter.Letter.{Letter}
+use Rattle.sup_placement.specs.Place.{Weigher}
 use Rattle.sup_node.specs.Texts.{IsReadAs}
 use Rattle.sup_model.specs.declared.step.Step.{Step}
 use Rattle.sup_model.specs.Worlds.{World, Site, Answer as Expected, site_of}
 use Rattle.sup_model.specs.Runs.{Allows}
+use Rattle.sup_model.specs.Posts.{Real, reads}
 use Rattle.sup_world.specs.declared.answer.Answer.{Answer}
-use Rattle.sup_world.specs.Following.{IsAsOf}
+use Rattle.sup_world.specs.Carrying.{seen_at, letter_of}
+use Rattle.sup_world.specs.Following.{IsAsOf, StandsFor, Steps}
+use Rattle.sup_world.specs.Seen.{Seen}
+use Rattle.sup_world.specs.Telling.{Shows}
 use Rattle.sup_world.specs.Settling.{messages_of, effects_of, IsSettling, IsCutShort}
 use Rattle.sup_lines.specs.declared.line.Line.{Line}
 use Rattle.sup_lines.specs.declared.line.Line.TheVariants as line
 use Rattle.sup_text.specs.Answers.{answer_text, refusal_text, settled_text}
 use Rattle.sup_node_text.specs.Shown.{Shown, show_text, where_text}
+use Rattle.sup_node_text.specs.Inspected.{IsInspected}
 
 -- which bytes are a message: those that are read as one
 abbrev pub TellsMessages : (Bytes → Bool) → Type 0
@@ -27,12 +34,18 @@ abbrev pub said_of : Result Answer Refusal → List ℕ
 said_of (Ok answer) = answer_text answer.at answer.done answer.number
 said_of (Err refusal) = refusal_text refusal
 
--- a step that is answered as the model allows
-pub record PrintsStep (w : World) (step : Step) (said : List ℕ) (after : World) : Type 0 where
+-- the world in which lines are played: the model's, and the code's that stands for it, as a contract sees it
+pub record Scene : Type 0 where
+  pub model : World
+  pub sites : List Seen
+
+-- a step that is answered as the model allows; and answer, letter and world are those of the code's step of the definitions
+pub record PrintsStep (weigher : Weigher) (s : Scene) (step : Step) (said : List ℕ) (after : Scene) : Type 0 where
   pub expected : Result Expected Refusal
   pub answer : Result Answer Refusal
-  pub allows : Allows w step expected after
+  pub allows : Allows s.model step expected after.model
   pub told : IsAsOf expected answer
+  pub steps : (real : Real State) → Shows weigher s.sites real → TellsMessages (reads real.codec) → Steps weigher real step answer after.sites
   pub says : said ≡ said_of answer
 
 -- the running nodes settled: how many messages their exchanges sent, and what is to be done
@@ -67,9 +80,37 @@ node_text w name = text_at (show_text w.weigher name) (site_of w name)
 abbrev pub lead_text : World → Bytes → Bytes → List ℕ
 lead_text w name sought = text_at (λ shown. where_text w.weigher name shown sought) (site_of w name)
 
--- From this world the line prints this and leaves that world. To show a node is no step.
-abbrev pub Prints : World → Line → List ℕ → World → Type 0
-Prints w (line.Step step) said after = PrintsStep w step said after
-Prints w line.Settle said after = PrintsSettled w said after
-Prints w (line.Show name) said after = (after ≡ w) × (said ≡ node_text w name)
-Prints w (line.Where name sought) said after = (after ≡ w) × (said ≡ lead_text w name sought)
+-- what is told of a node with these peers: of its station
+abbrev pub TellsNode : Weigher → List Bytes → Bytes → Option Seen → List ℕ → Type 0
+TellsNode weigher peers name None said = said ≡ refusal_text UnknownNode
+TellsNode weigher peers name (Some seen) said = IsInspected weigher name seen.still.node peers said
+
+-- the image that a node's keeper keeps, and a line feed
+abbrev pub image_text : Option Seen → List ℕ
+image_text None = refusal_text UnknownNode
+image_text (Some seen) = seen.still.kept ++ codes "\n"
+
+-- a letter that was sent, and a line feed
+abbrev pub letter_text : Option Letter → List ℕ
+letter_text None = refusal_text NoSuchMessage
+letter_text (Some letter) = letter.bytes ++ codes "\n"
+
+abbrev pub message_text : Option Seen → ℕ → List ℕ
+message_text None k = refusal_text UnknownNode
+message_text (Some seen) k = letter_text (letter_of seen k)
+
+module _ (weigher : Weigher) (peers : List Bytes) where
+  -- From this world the line prints this and leads to that world. To show a node, an image or a message is no step.
+  abbrev pub Does : Scene → Line → List ℕ → Scene → Type 0
+  Does s (line.Step step) said after = PrintsStep weigher s step said after
+  Does s line.Settle said after = PrintsSettled s.model said after.model
+  Does s (line.Show name) said after = (after ≡ s) × (said ≡ node_text s.model name)
+  Does s (line.Inspect name) said after = (after ≡ s) × TellsNode weigher peers name (seen_at s.sites name) said
+  Does s (line.Image name) said after = (after ≡ s) × (said ≡ image_text (seen_at s.sites name))
+  Does s (line.Where name sought) said after = (after ≡ s) × (said ≡ lead_text s.model name sought)
+  Does s (line.Message name k) said after = (after ≡ s) × (said ≡ message_text (seen_at s.sites name) k)
+
+  -- the same, and the code's world stands for the model's
+  pub record Prints (s : Scene) (line : Line) (said : List ℕ) (after : Scene) : Type 0 where
+    pub does : Does s line said after
+    pub stands : StandsFor weigher after.sites after.model

@@ -1,7 +1,6 @@
 -- The command simulate: a script is run from the world of its nodes (this project).
 use Rattle.sup_replica.specs.Configs.{Config}
 use Rattle.sup_placement.specs.Place.{Weigher}
-use Rattle.sup_world.specs.Newness.{setting_in}
 use Rattle.sup_lines.specs.Script.{ScriptText, script_of}
 use Rattle.sup_jobs.specs.declared.fault.Ended.{Ended}
 use Rattle.sup_jobs.specs.Ends.{Bytes, Job, Does}
@@ -10,8 +9,8 @@ use Rattle.sup_program.specs.Plays.{PrintsAll, PrintsFront}
 abbrev pub simulation : Weigher → Config → Job ScriptText
 simulation weigher config = record {
   read = script_of;
-  PrintsAll = λ script. PrintsAll (setting_in weigher config) script.0 script.1;
-  PrintsFront = λ script. PrintsFront (setting_in weigher config) script.0 script.1;
+  PrintsAll = λ script. PrintsAll weigher config script.0 script.1;
+  PrintsFront = λ script. PrintsFront weigher config script.0 script.1;
 }
 
 -- The status tells how the run ended, and the error writer was told of that end.

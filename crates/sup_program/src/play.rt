@@ -16,9 +16,10 @@ use std::io::Write;
 use sup_jobs::{Fault, put_all};
 use sup_lines::Line;
 use sup_placement::Weigh;
+use sup_specs::NodeName;
 use sup_world::World;
 
-/// Plays the lines in order, and writes what each prints.
+/// Plays the lines in order, and writes what each prints. The peers are the world's nodes by name.
 ///
 /// # Errors
 ///
@@ -28,19 +29,20 @@ pub fn play<G: Weigh, W: Write>(
     alloc: Global,
     weigher: &G,
     world: &mut World<G>,
+    peers: &[NodeName],
     lines: &[Line],
     writer: &mut W,
 ) -> Result<(), Fault>
     requires unfailed { All (λ s. s.failures ≡ 0) (sites_of world.old) }
     requires bytes { All BringsNoBytes lines.now }
     ensures all { (model : Model) → StandsFor G.weight_of (sites_of world.old) model → TellsMessages model.is_message
-        → OnOk result (PrintsAllFrom model lines.now (W.contents writer.old) (W.contents writer.new)) }
+        → OnOk result (PrintsAllFrom G.weight_of peers.now (record { model = model; sites = sites_of world.old }) lines.now (W.contents writer.old) (W.contents writer.new)) }
     ensures front { (model : Model) → StandsFor G.weight_of (sites_of world.old) model → TellsMessages model.is_message
-        → PrintsFrontFrom model lines.now (W.contents writer.old) (W.contents writer.new) }
+        → PrintsFrontFrom G.weight_of peers.now (record { model = model; sites = sites_of world.old }) lines.now (W.contents writer.old) (W.contents writer.new) }
     ensures faults { IfErr result IsOutside }
 {
     for line in lines {
-        play_line(alloc, weigher, world, line, writer)?;
+        play_line(alloc, weigher, world, peers, line, writer)?;
     }
     Ok(())
 }
@@ -50,20 +52,21 @@ fn play_line<G: Weigh, W: Write>(
     alloc: Global,
     weigher: &G,
     world: &mut World<G>,
+    peers: &[NodeName],
     line: &Line,
     writer: &mut W,
 ) -> Result<(), Fault>
     requires failing { CanFail (sites_of world.old) }
     requires bytes { BringsNoBytes line.now }
     ensures plays { (model : Model) → StandsFor G.weight_of (sites_of world.old) model → TellsMessages model.is_message
-        → PlaysLine G.weight_of model line.now (sites_of world.new) (W.contents writer.old) (W.contents writer.new) result }
+        → PlaysLine G.weight_of peers.now (record { model = model; sites = sites_of world.old }) line.now (sites_of world.new) (W.contents writer.old) (W.contents writer.new) result }
     ensures counted { AllZip FailedOnceAtMost (sites_of world.old) (sites_of world.new) }
     ensures faults { IfErr result IsOutside }
 {
-    let text = match line_text(alloc, weigher, world, line) {
+    let text = match line_text(alloc, weigher, world, peers, line) {
         Ok(text) => text,
         Err(_) => return Err(Fault::OutOfMemory),
     };
-    put_all(writer, text.as_bytes())?;
+    put_all(writer, text.as_slice())?;
     Ok(())
 }

@@ -12,6 +12,7 @@ use std::alloc::Global;
 use std::convert::AsStr;
 use std::io::{Read, Write};
 use sup_command_line::{Request, Weighing, is_want_of_memory, read_words};
+use sup_inspecting::inspect_image;
 use sup_jobs::{Ended, Fault, LIMIT, finish, put_all};
 use sup_placement::{FlatWeigh, Sha256Weigh};
 use sup_placing::place_children;
@@ -97,6 +98,7 @@ fn perform<R: Read, W: Write, E: Write>(
             simulate_by(alloc, weighing, config, reader, writer, errors)
         }
         Request::Place { weighing } => place_by(alloc, weighing, reader, writer, errors),
+        Request::Inspect { weighing } => inspect_by(alloc, weighing, reader, writer, errors),
     }
 }
 
@@ -134,6 +136,24 @@ fn place_by<R: Read, W: Write, E: Write>(
     match weighing {
         Weighing::Sha256 => place_children(alloc, &Sha256Weigh, reader, writer, errors),
         Weighing::Flat => place_children(alloc, &FlatWeigh, reader, writer, errors),
+    }
+}
+
+// Tells what a stored image says, with the weights that are asked for.
+fn inspect_by<R: Read, W: Write, E: Write>(
+    alloc: Global,
+    weighing: Weighing,
+    reader: &mut R,
+    writer: &mut W,
+    errors: &mut E,
+) -> Ended
+    ensures performs { Performs (Some (Request.Inspect weighing)) (R.remaining reader.old) (R.remaining reader.new)
+        (W.contents writer.old) (W.contents writer.new) (E.contents errors.old) (E.contents errors.new) result }
+    ensures taken { TakesAtMost (LIMIT + 1) (R.remaining reader.old) (R.remaining reader.new) }
+{
+    match weighing {
+        Weighing::Sha256 => inspect_image(alloc, &Sha256Weigh, reader, writer, errors),
+        Weighing::Flat => inspect_image(alloc, &FlatWeigh, reader, writer, errors),
     }
 }
 

@@ -1,17 +1,19 @@
 //! The command `simulate`: a script is run from the world of its nodes.
 
-ghost use Rattle.std.specs.Prelude.{◌≤◌, ◌+◌, length, IfSome};
+ghost use Rattle.std.specs.Prelude.{◌≤◌, ◌+◌, length, IfOk, IfSome, IsPermutation, IsSorted};
+ghost use Rattle.sup_specs.specs.Values.{text_cmp};
 ghost use Rattle.sup_jobs.specs.Ends.{EndsAt, TakesAtMost, TakesFor};
 ghost use Rattle.sup_program.specs.Simulating.{Simulates, simulation};
 
 use crate::play::play;
-use std::alloc::Global;
+use std::alloc::{AllocError, Global};
 use std::io::{Read, Write};
 use sup_jobs::{Ended, Fault, LIMIT, finish, read_input};
 use sup_lines::{Script, read_script};
 use sup_placement::Weigh;
 use sup_placing::fault_of;
 use sup_replica::Config;
+use sup_specs::NodeName;
 use sup_world::World;
 
 /// Runs the script that the reader has, from the world of its nodes, each with this setting: writes what its lines print, and answers
@@ -69,8 +71,26 @@ fn run_bytes<G: Weigh + Copy + Drop, W: Write>(
     let Ok(mut world) = World::new(alloc, nodes.as_slice(), config, *weigher) else {
         return Err(Fault::OutOfMemory);
     };
-    match play(alloc, weigher, &mut world, lines.as_slice(), writer) {
+    let peers = by_name(alloc, nodes.as_slice())?;
+    match play(
+        alloc,
+        weigher,
+        &mut world,
+        peers.as_slice(),
+        lines.as_slice(),
+        writer,
+    ) {
         Ok(()) => Ok(()),
         Err(fault) => Err(fault),
     }
+}
+
+// The names in their order.
+fn by_name(alloc: Global, names: &[NodeName]) -> Result<Vec<NodeName>, AllocError>
+    ensures sorted { IfOk result (λ ordered. IsSorted text_cmp ordered.items) }
+    ensures all { IfOk result (λ ordered. IsPermutation names.now ordered.items) }
+{
+    let mut ordered = Vec::from_slice(alloc, names)?;
+    ordered.sort()?;
+    Ok(ordered)
 }

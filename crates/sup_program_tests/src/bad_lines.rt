@@ -72,10 +72,10 @@ fn a_script_is_checked_before_its_first_step(rt: HostRuntime) {
 }
 
 #[test]
-fn lines_that_inspect_have_no_form(rt: HostRuntime) {
-    expect_bad(&rt, b"nodes a\ninspect a\n", b"bad line 2\n");
-    expect_bad(&rt, b"nodes a\nimage a\n", b"bad line 2\n");
-    expect_bad(&rt, b"nodes a\nmessage a 1\n", b"bad line 2\n");
+fn lines_that_inspect_take_just_their_words(rt: HostRuntime) {
+    expect_bad(&rt, b"nodes a\ninspect a b\n", b"bad line 2\n");
+    expect_bad(&rt, b"nodes a\nimage\n", b"bad line 2\n");
+    expect_bad(&rt, b"nodes a\nmessage a\n", b"bad line 2\n");
 }
 
 #[test]

@@ -7,18 +7,27 @@ fn rows_of_refused_words(rt: HostRuntime) {
     expect_usage(&rt, &["simulate", "--weigh", "x"], b"nodes a\n");
     expect_usage(&rt, &["simulate", "--buffer", "0"], b"nodes a\n");
     expect_usage(&rt, &["place", "--buffer", "4"], b"members a\nweb\n");
+    expect_usage(&rt, &["inspect", "--buffer", "4"], b"{");
 }
 
 #[test]
-fn there_are_two_commands(rt: HostRuntime) {
+fn there_are_three_commands(rt: HostRuntime) {
     for word in [
-        "cluster", "inspect", "help", "supctl", "Simulate", "", "simulat", "show",
+        "cluster",
+        "inspected",
+        "help",
+        "supctl",
+        "Simulate",
+        "",
+        "simulat",
+        "show",
     ] {
         expect_usage(&rt, &[word], b"nodes a\nshow a\n");
     }
     for word in ["--help", "-h", "--version", "-V", "--weigh", "-"] {
         expect_usage(&rt, &[word], b"nodes a\nshow a\n");
         expect_usage(&rt, &["place", word], b"members a\nx\n");
+        expect_usage(&rt, &["inspect", word], b"{");
     }
     for word in ["--help", "-h", "--version", "--weigh", "x", "simulate"] {
         expect_usage(&rt, &["simulate", word], b"nodes a\nshow a\n");
@@ -39,6 +48,7 @@ fn a_weigher_is_one_of_two_words(rt: HostRuntime) {
     ] {
         expect_usage(&rt, &["simulate", "--weigh", word], b"nodes a\nshow a\n");
         expect_usage(&rt, &["place", "--weigh", word], b"members a\nx\n");
+        expect_usage(&rt, &["inspect", "--weigh", word], b"{");
     }
 }
 

@@ -66,6 +66,9 @@ impl Stage {
             Line::Settle => self.settles(rt),
             Line::Show(node) => self.shows(rt, node),
             Line::Where { node, name } => self.leads(rt, node, name),
+            Line::Inspect(_) | Line::Image(_) | Line::Message { .. } => {
+                panic!(rt; "no line of these stories")
+            }
         };
         put(rt, &mut self.told, text.as_str());
     }

@@ -1,4 +1,4 @@
-use Rattle.std.proofs.Common.{rules, ◌∙◌}
+use Rattle.std.proofs.Common.{◌∙◌}
 use Rattle.sup_command_line.proofs.Numbers.{parsed}
 use Rattle.sup_command_line.proofs.number.number_of.Goals as goal
 

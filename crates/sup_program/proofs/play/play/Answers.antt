@@ -1,14 +1,14 @@
 use Rattle.std.proofs.Common.{arith}
 use Rattle.sup_world.specs.Seen.{sites_of}
 use Rattle.sup_program.proofs.Counts.{failed_once_more, unfailed}
-use Rattle.sup_program.proofs.Playing.{begins, goes_on, whole, whole_front, cut_front}
+use Rattle.sup_program.proofs.Playing.{begins, goes_on, whole, whole_front, ended_front}
 use Rattle.sup_program.proofs.play.play.Goals as goal
 
 pub returns-in_err-play_line-clause-front : goal.returns-in_err-play_line-clause-front
 returns-in_err-play_line-clause-front g c = λ model stands tells.
     let so_far = c.loop-line.invariant.plays model stands tells in
     let last = c.in_err-play_line.ensures.plays so_far.reached so_far.stands so_far.tells in
-    cut_front g.G.Weigh.weight_of _ _ c.loop-line.line-index c.line-item.result _ (sites_of c.play_line.new.world) _ _ _ c.loop-line-test.true c.line-item.is so_far last.0 last.1 last.2
+    ended_front g.G.Weigh.weight_of _ _ _ c.loop-line.line-index c.line-item.result _ (sites_of c.play_line.new.world) _ _ _ c.loop-line-test.true c.line-item.is so_far last
 
 pub loop-line-preserved : goal.loop-line-preserved
 loop-line-preserved g c = record {
@@ -16,17 +16,17 @@ loop-line-preserved g c = record {
   plays = λ model stands tells.
       let so_far = c.loop-line.invariant.plays model stands tells in
       let last = c.in_ok-play_line.ensures.plays so_far.reached so_far.stands so_far.tells in
-      goes_on g.G.Weigh.weight_of _ _ c.loop-line.line-index c.line-item.result _ _ _ _ _ c.loop-line-test.true c.line-item.is so_far last.0 last.1;
+      goes_on g.G.Weigh.weight_of _ _ _ c.loop-line.line-index c.line-item.result _ _ _ _ _ c.loop-line-test.true c.line-item.is so_far last.0 last.1;
 }
 
 pub returns-clause-front : goal.returns-clause-front
-returns-clause-front g c = λ model stands tells. whole_front g.G.Weigh.weight_of _ _ c.loop-line.line-index _ _ _ (c.loop-line.invariant.plays model stands tells)
+returns-clause-front g c = λ model stands tells. whole_front g.G.Weigh.weight_of _ _ _ c.loop-line.line-index _ _ _ (c.loop-line.invariant.plays model stands tells)
 
 pub loop-line-init : goal.loop-line-init
 loop-line-init g c = record {
   counted = unfailed _ c.requires.unfailed;
-  plays = λ model stands tells. begins g.G.Weigh.weight_of _ _ _ stands tells;
+  plays = λ model stands tells. begins g.G.Weigh.weight_of _ _ _ _ stands tells;
 }
 
 pub returns-clause-all : goal.returns-clause-all
-returns-clause-all g c = λ model stands tells. whole g.G.Weigh.weight_of _ _ c.loop-line.line-index _ _ _ (omega arith) (c.loop-line.invariant.plays model stands tells)
+returns-clause-all g c = λ model stands tells. whole g.G.Weigh.weight_of _ _ _ c.loop-line.line-index _ _ _ (omega arith) (c.loop-line.invariant.plays model stands tells)

@@ -2,12 +2,12 @@ use Rattle.sup_program.proofs.Playing.{said_none, said_front, said_all}
 use Rattle.sup_program.proofs.play.play_line.Goals as goal
 
 pub returns-in-Err-clause-plays : goal.returns-in-Err-clause-plays
-returns-in-Err-clause-plays g c = λ model stands tells. said_none _ (c.line_text.ensures.speaks model stands tells).0
+returns-in-Err-clause-plays g c = λ model stands tells. said_none _ (c.in-Err.ensures.speaks model stands tells)
 
 pub returns-in_err-put_all-clause-plays : goal.returns-in_err-put_all-clause-plays
 returns-in_err-put_all-clause-plays g c = λ model stands tells.
-    said_front c.from_residual.result _ _ _ _ c.from_residual.ensures.1 (c.in-Ok.ensures.speaks model stands tells) (rw c.as_bytes.ensures.value at c.in_err-put_all.ensures)
+    said_front c.from_residual.result _ _ _ _ c.from_residual.ensures.1 (c.in-Ok.ensures.speaks model stands tells) (rw c.as_slice.ensures.value at c.in_err-put_all.ensures)
 
 pub returns-clause-plays : goal.returns-clause-plays
 returns-clause-plays g c = λ model stands tells.
-    said_all _ _ _ (c.in-Ok.ensures.speaks model stands tells) (rw c.as_bytes.ensures.value at c.in_ok-put_all.ensures)
+    said_all _ _ _ (c.in-Ok.ensures.speaks model stands tells) (rw c.as_slice.ensures.value at c.in_ok-put_all.ensures)

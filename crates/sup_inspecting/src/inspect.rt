@@ -1,0 +1,64 @@
+//! The command `inspect`: what a stored image tells.
+
+ghost use Rattle.std.specs.Prelude.{◌≤◌, ◌+◌, length, IfSome};
+ghost use Rattle.sup_jobs.specs.Ends.{TakesAtMost, TakesFor};
+ghost use Rattle.sup_inspecting.specs.Inspecting.{InspectsTo, Inspects};
+
+use crate::fault::fault_of;
+use std::alloc::Global;
+use std::io::{Read, Write};
+use sup_jobs::{Ended, Fault, LIMIT, finish, put_all, read_input};
+use sup_node_text::still_text;
+use sup_placement::Weigh;
+use sup_still::Still;
+
+/// Writes what the image tells that the reader has, and answers how that ended, once a fault is told. No node goes on from the
+/// image, and no boot is begun.
+pub fn inspect_image<G: Weigh, R: Read, W: Write, E: Write>(
+    alloc: Global,
+    weigher: &G,
+    reader: &mut R,
+    writer: &mut W,
+    errors: &mut E,
+) -> Ended
+    ensures inspects { Inspects G.weight_of (R.remaining reader.old) (R.remaining reader.new)
+        (W.contents writer.old) (W.contents writer.new) (E.contents errors.old)
+        (E.contents errors.new) result }
+    ensures taken { TakesAtMost (LIMIT + 1) (R.remaining reader.old) (R.remaining reader.new) }
+{
+    let end = inspect_input(alloc, weigher, reader, writer);
+    finish(errors, end)
+}
+
+fn inspect_input<G: Weigh, R: Read, W: Write>(
+    alloc: Global,
+    weigher: &G,
+    reader: &mut R,
+    writer: &mut W,
+) -> Result<(), Fault>
+    ensures ends { IfSome (R.remaining reader.old) (λ bytes.
+        InspectsTo G.weight_of bytes (W.contents writer.old) (W.contents writer.new) result) }
+    ensures taken { TakesFor result (R.remaining reader.old) (R.remaining reader.new) }
+{
+    let input = read_input(alloc, reader)?;
+    inspect_bytes(alloc, weigher, input.as_slice(), writer)
+}
+
+// The whole text stands before anything is written.
+fn inspect_bytes<G: Weigh, W: Write>(
+    alloc: Global,
+    weigher: &G,
+    input: &[u8],
+    writer: &mut W,
+) -> Result<(), Fault>
+    requires { length input.now ≤ LIMIT }
+    ensures { InspectsTo G.weight_of input.now (W.contents writer.old) (W.contents writer.new) result }
+{
+    let still = match Still::read(alloc, input) {
+        Ok(still) => still,
+        Err(fault) => return Err(fault_of(fault)),
+    };
+    let text = still_text(alloc, &still, weigher)?;
+    put_all(writer, text.as_bytes())?;
+    Ok(())
+}
