@@ -1,67 +1,72 @@
 #!/usr/bin/env bash
-# Times calls of a gate, as what `sup_gate_times` takes more by the clock where it makes so many more:
-# - a restart by a call, beside the same act by `Station::step`; it fails above 1.5 times;
-# - restarts at four gates on four threads, beside those at one gate by one thread; where there are four processors it fails below 3 times the work;
-# - calls of 1, 2 and 4 threads that replace a child of their own at one gate; with another program's path beside what `PROGRAM gate THREADS CALLS` says
-#   of itself: `gate: CALLS calls by THREADS threads, X us a call`. These are told without a bound.
-# Then the histories of threads that share a gate, a hundred of each: the test looks that they replay, and that each call stands in them once.
+# Times calls of a gate, each as what `sup_gate_times` takes longer where it makes more of them:
+# - a restart by a call, beside the same act by the station; the script fails above 1.5 times;
+# - restarts at four gates by four threads, beside those at one gate by one thread; where there are four processors it fails
+#   below 3 times the work;
+# - calls of 1, 2 and 4 threads at one gate, each of which replaces a child of its own, told without a bound; with another
+#   program's path beside what `PROGRAM gate THREADS CALLS` says of itself.
+# Then a hundred histories of two threads and a hundred of four, with 1,000 calls by each thread: a test looks that each of
+# them replays, and that each thread's calls stand in it once and in their order.
 # usage: bench/gate.sh [PROGRAM [ROUNDS]]
 set -eu
 other=${1:-}
-rounds=${2:-5}
+rounds=${2:-7}
 top=$(cd "$(dirname "$0")/.." && pwd)
 work=$(mktemp -d)
 trap 'rm -rf "$work"' EXIT
-crate=$top/crates/sup_gate_times
-own=$crate/out/sup_gate_times
-[ -x "$own" ] || (cd "$crate" && rt run -- two 10 >"$work/built")
-acts=20000
+. "$top/bench/timing.bash"
+own=$top/crates/sup_gate_times/out/sup_gate_times
+[ -x "$own" ] || (cd "$top/crates/sup_gate_times" && rt run -- four 10 >"$work/built")
+restarts=20000
 calls=200
 
-TIMEFORMAT=%R
-# The least time of some rounds, in seconds.
-least() {
-  local round
-  for round in $(seq "$rounds"); do
-    { time "$own" "$@" >"$work/output"; } 2>&1
-  done | sort -n | head -n 1
+# Adds a line to the file of what was made: the microseconds that it took. All of it has to be answered well.
+timed() {
+  local kind=$1 count=$2 answers=$3
+  once "$work/output" /dev/null "$own" "$kind" "$count" >>"$work/$kind-$count"
+  [ "$(cat "$work/output")" = "$answers" ] || { echo "$kind $count: not all was answered well" >&2; exit 1; }
 }
 
-# Microseconds for each act more.
-each() {
-  local some more
-  some=$(least "$1" "$2")
-  more=$(least "$1" $((2 * $2)))
-  awk -v some="$some" -v more="$more" -v count="$2" 'BEGIN { printf "%.3f", (more - some) * 1e6 / count }'
-}
+# Microseconds of each that was made, of so many, beyond the start.
+each() { awk -v some="$(quickest "$1-$2")" -v more="$(quickest "$1-$3")" -v count="$4" 'BEGIN { printf "%.3f", (more - some) / count }'; }
 
-at_most() { awk -v a="$1" -v b="$2" 'BEGIN { exit !(a <= b) }'; }
+quickest() { sort -n "$work/$1" | head -n 1; }
 
-step=$(each step $acts)
-call=$(each call $acts)
-ratio=$(awk -v a="$call" -v b="$step" 'BEGIN { printf "%.2f", a / b }')
-echo "a restart by the station: $step us; by a call of its gate: $call us, $ratio times"
-at_most "$ratio" 1.5
+is_within() { awk -v low="$1" -v high="$2" 'BEGIN { exit !(low + 0 <= high + 0) }'; }
 
-gates=$(each gates $acts)
-ratio=$(awk -v a="$call" -v b="$gates" 'BEGIN { printf "%.2f", 4 * a / b }')
-echo "four gates on four threads do $ratio times the work of one on one"
-[ "$(nproc)" -lt 4 ] || at_most 3 "$ratio"
-
-for kind in alone:1 two:2 four:4; do
-  threads=${kind#*:}
-  time=$(least "${kind%:*}" $calls)
-  time=$(awk -v time="$time" -v calls=$((threads * calls)) 'BEGIN { printf "%.3f", time * 1e6 / calls }')
-  echo "$threads threads replace at one gate: $time us a call"
-  [ -z "$other" ] || "$other" gate "$threads" $((threads * calls))
-done
-
-# Ten rounds of two and of four threads with 1,000 calls each are a test's; ten runs of it are a hundred.
-tests=$top/crates/sup_node_gate_tests/out/sup_node_gate_tests_tests
-[ -x "$tests" ] || (cd "$top/crates/sup_node_gate_tests" && rt test >"$work/built")
-for run in $(seq 10); do
-  for threads in two four; do
-    "$tests" "shared::the_calls_of_${threads}_threads_make_one_history" >"$work/output" 2>&1 || { cat "$work/output"; exit 1; }
+for _ in $(seq "$rounds"); do
+  for kind in step:1 call:1 gates:4; do
+    timed "${kind%:*}" "$restarts" $((${kind#*:} * restarts))
+    timed "${kind%:*}" $((2 * restarts)) $((${kind#*:} * 2 * restarts))
+  done
+  for kind in alone:1 two:2 four:4; do
+    timed "${kind%:*}" 0 0
+    timed "${kind%:*}" "$calls" $((${kind#*:} * calls))
   done
 done
-echo "a hundred histories of two threads and of four, with 1,000 calls each: each replays, and each thread's calls stand in it once and in their order"
+
+step=$(each step "$restarts" $((2 * restarts)) "$restarts")
+call=$(each call "$restarts" $((2 * restarts)) "$restarts")
+gates=$(each gates "$restarts" $((2 * restarts)) $((4 * restarts)))
+times=$(awk -v call="$call" -v step="$step" 'BEGIN { printf "%.2f", call / step }')
+work_done=$(awk -v call="$call" -v gates="$gates" 'BEGIN { printf "%.2f", call / gates }')
+echo "a restart: $step microseconds by the station, $call by a call of its gate, $times times"
+echo "restarts at four gates by four threads: $work_done times the work of one thread at one gate"
+for kind in alone:1 two:2 four:4; do
+  all=$((${kind#*:} * calls))
+  echo "replaces at one gate, $calls by each of ${kind#*:} threads: $(each "${kind%:*}" 0 "$calls" "$all") microseconds a call"
+  [ -z "$other" ] || "$other" gate "${kind#*:}" "$all"
+done
+
+# One run of the test makes ten histories.
+tests=$top/crates/sup_node_gate_tests/out/sup_node_gate_tests_tests
+[ -x "$tests" ] || (cd "$top/crates/sup_node_gate_tests" && rt test >"$work/built")
+for threads in two four; do
+  for _ in $(seq 10); do
+    "$tests" "shared::the_calls_of_${threads}_threads_make_one_history" >"$work/output" 2>&1 || { cat "$work/output"; exit 1; }
+  done
+  echo "$threads threads: a hundred histories replay, with each call in them once and in its thread's order"
+done
+
+is_within "$times" 1.5 || { echo "a call takes more than 1.5 times as long as the station"; exit 1; }
+[ "$(nproc)" -lt 4 ] || is_within 3 "$work_done" || { echo "four gates do less than 3 times the work of one"; exit 1; }
