@@ -1,4 +1,4 @@
-//! Restarts of one child among some, which add no dot and save nothing.
+//! Restarts of one child, which add no dot and save nothing.
 ghost use Rattle.std.specs.Prelude.{◌≡◌};
 ghost use Rattle.sup_node_gate.specs.Gates.{IsOf};
 
@@ -8,42 +8,26 @@ use std::sync::Wait;
 use std::thread::{self, Threads};
 use sup_keeper::{Keeper, MemKeeper};
 use sup_placement::FlatWeigh;
-use sup_replica::Act;
 use sup_station::Station;
 
-fn name(rt: &(impl Abort + AllocGlobal), k: u64) -> String {
-    format!(in rt.alloc(); "x{k}").expect(rt, "room")
-}
-
-// A station that runs so many children, the k-th of which is at its k-th run.
-fn running(rt: &(impl Abort + AllocGlobal), children: u64) -> Station<MemKeeper, FlatWeigh> {
+// A station that runs one child.
+fn running(rt: &(impl Abort + AllocGlobal)) -> Station<MemKeeper, FlatWeigh> {
     let mut of = station(rt);
     assert!(rt; of.step(join(rt), 0, &FlatWeigh).is_ok());
-    for k in 1..=children {
-        let id = name(rt, k);
-        assert!(rt; of.step(start(rt, &id), 0, &FlatWeigh).is_ok());
-    }
+    assert!(rt; of.step(start(rt, "x"), 0, &FlatWeigh).is_ok());
     of
 }
 
-// The crash of the last child, for the k-th time. Moments are apart, so that no restart is one too many.
-fn crash_of(rt: &(impl Abort + AllocGlobal), children: u64, k: u64) -> Act {
-    let id = name(rt, children);
-    crash(rt, &id, children.saturating_add(k).saturating_sub(1))
-}
-
+// Moments are apart, so that no restart is one too many.
 fn moment(k: u64) -> u64 {
     k.saturating_mul(10)
 }
 
-pub(crate) fn by_steps(rt: &(impl Abort + AllocGlobal), children: u64, count: u64) -> u64 {
-    let mut of = running(rt, children);
+pub(crate) fn by_steps(rt: &(impl Abort + AllocGlobal), count: u64) -> u64 {
+    let mut of = running(rt);
     let mut answered = 0u64;
     for k in 1..=count {
-        if of
-            .step(crash_of(rt, children, k), moment(k), &FlatWeigh)
-            .is_ok()
-        {
+        if of.step(crash(rt, "x", k), moment(k), &FlatWeigh).is_ok() {
             answered = answered.saturating_add(1);
         }
     }
@@ -54,7 +38,6 @@ fn calls<K: Keeper>(
     rt: &(impl Abort + AllocGlobal + Wait),
     at: &Gate<K>,
     pass: &mut Seat<K>,
-    children: u64,
     count: u64,
 ) -> u64
     requires { IsOf K.kept at.now pass.old }
@@ -63,7 +46,7 @@ fn calls<K: Keeper>(
     let mut answered = 0u64;
     for k in 1..=count {
         if at
-            .call(rt, pass, crash_of(rt, children, k), moment(k), &FlatWeigh)
+            .call(rt, pass, crash(rt, "x", k), moment(k), &FlatWeigh)
             .is_ok()
         {
             answered = answered.saturating_add(1);
@@ -72,23 +55,20 @@ fn calls<K: Keeper>(
     answered
 }
 
-pub(crate) fn by_calls(rt: &(impl Abort + AllocGlobal + Wait), children: u64, count: u64) -> u64 {
-    let (at, mut pass) = gate(rt, running(rt, children));
-    calls(rt, &at, &mut pass, children, count)
+pub(crate) fn by_calls(rt: &(impl Abort + AllocGlobal + Wait), count: u64) -> u64 {
+    let (at, mut pass) = gate(rt, running(rt));
+    calls(rt, &at, &mut pass, count)
 }
 
-/// So many calls by each of four threads, at a gate of its own.
-pub(crate) fn at_four_gates<R: Threads + Wait + Abort + AllocGlobal + Sync>(
+/// So many calls by each of so many threads, at a gate of its own.
+pub(crate) fn at_gates<R: Threads + Wait + Abort + AllocGlobal + Sync>(
     rt: &R,
-    children: u64,
+    gates: usize,
     count: u64,
 ) -> u64 {
-    let answered = thread::map_indices(
-        rt,
-        rt.alloc(),
-        4,
-        &|_| by_calls(rt, children, count),
-    ).expect(rt, "room");
+    let answered = thread::map_indices(rt, rt.alloc(), gates, &|_| by_calls(rt, count)).expect(
+        rt, "room",
+    );
     answered
         .iter()
         .fold(0, |all, answered| all.saturating_add(*answered))
