@@ -1,5 +1,6 @@
 #!/usr/bin/env bash
-# Times calls of a gate, each as what `sup_gate_times` takes longer where it makes more of them:
+# Times calls of a gate, each as what `sup_gate_times` takes longer where it makes more of them, of a processor, but for the
+# second of these by the clock:
 # - a restart by a call, beside the same act by the station; the script fails above 1.5 times;
 # - restarts at four gates by four threads, beside those at one gate by one thread; where there are four processors it fails
 #   below 3 times the work;
@@ -14,23 +15,25 @@ rounds=${2:-7}
 top=$(cd "$(dirname "$0")/.." && pwd)
 work=$(mktemp -d)
 trap 'rm -rf "$work"' EXIT
-. "$top/bench/timing.bash"
 own=$top/crates/sup_gate_times/out/sup_gate_times
 [ -x "$own" ] || (cd "$top/crates/sup_gate_times" && rt run -- four 10 >"$work/built")
-restarts=20000
+restarts=100000
 calls=200
 
-# Adds a line to the file of what was made: the microseconds that it took. All of it has to be answered well.
+# Adds a line to the file of what was made: its seconds by the clock, and of a processor. All of it has to be answered well.
+TIMEFORMAT='%R %U %S'
 timed() {
   local kind=$1 count=$2 answers=$3
-  once "$work/output" /dev/null "$own" "$kind" "$count" >>"$work/$kind-$count"
+  { time "$own" "$kind" "$count" >"$work/output"; } 2>>"$work/$kind-$count"
   [ "$(cat "$work/output")" = "$answers" ] || { echo "$kind $count: not all was answered well" >&2; exit 1; }
 }
 
-# Microseconds of each that was made, of so many, beyond the start.
-each() { awk -v some="$(quickest "$1-$2")" -v more="$(quickest "$1-$3")" -v count="$4" 'BEGIN { printf "%.3f", (more - some) / count }'; }
+clock() { awk '{ print $1 }' "$work/$1" | sort -g | head -n 1; }
 
-quickest() { sort -n "$work/$1" | head -n 1; }
+processor() { awk '{ print $2 + $3 }' "$work/$1" | sort -g | head -n 1; }
+
+# Microseconds by one of both, of each that was made, of so many, beyond the start.
+each() { awk -v some="$("$1" "$2-$3")" -v more="$("$1" "$2-$4")" -v count="$5" 'BEGIN { printf "%.3f", (more - some) * 1000000 / count }'; }
 
 is_within() { awk -v low="$1" -v high="$2" 'BEGIN { exit !(low + 0 <= high + 0) }'; }
 
@@ -45,16 +48,17 @@ for _ in $(seq "$rounds"); do
   done
 done
 
-step=$(each step "$restarts" $((2 * restarts)) "$restarts")
-call=$(each call "$restarts" $((2 * restarts)) "$restarts")
-gates=$(each gates "$restarts" $((2 * restarts)) $((4 * restarts)))
+step=$(each processor step "$restarts" $((2 * restarts)) "$restarts")
+call=$(each processor call "$restarts" $((2 * restarts)) "$restarts")
+alone=$(each clock call "$restarts" $((2 * restarts)) "$restarts")
+gates=$(each clock gates "$restarts" $((2 * restarts)) $((4 * restarts)))
 times=$(awk -v call="$call" -v step="$step" 'BEGIN { printf "%.2f", call / step }')
-work_done=$(awk -v call="$call" -v gates="$gates" 'BEGIN { printf "%.2f", call / gates }')
+work_done=$(awk -v call="$alone" -v gates="$gates" 'BEGIN { printf "%.2f", call / gates }')
 echo "a restart: $step microseconds by the station, $call by a call of its gate, $times times"
 echo "restarts at four gates by four threads: $work_done times the work of one thread at one gate"
 for kind in alone:1 two:2 four:4; do
   all=$((${kind#*:} * calls))
-  echo "replaces at one gate, $calls by each of ${kind#*:} threads: $(each "${kind%:*}" 0 "$calls" "$all") microseconds a call"
+  echo "replaces at one gate, $calls by each of ${kind#*:} threads: $(each processor "${kind%:*}" 0 "$calls" "$all") microseconds a call"
   [ -z "$other" ] || "$other" gate "${kind#*:}" "$all"
 done
 
