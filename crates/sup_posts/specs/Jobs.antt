@@ -16,3 +16,8 @@ use Rattle.sup_posts.specs.declared.jobs.Lane.{Lane}
 use Rattle.sup_posts.specs.declared.jobs.Drive.{Drive}
 use Rattle.sup_posts.specs.declared.jobs.Arrived.{Arrived}
 use Rattle.sup_posts.specs.declared.jobs.Driven.{Driven}
+
+module _ {W : Type 0} {g : _} {h : _} {i : _} {j : _} where
+  -- the pass is of the gate of the node at this place
+  abbrev pub IsSeatAt : List (Post W g h) → ℕ → _ → Type 0
+  IsSeatAt posts at seat = (post : Post W g h) × (slice_get posts at ≡ Some post) × IsOf kept_by post.gate seat
