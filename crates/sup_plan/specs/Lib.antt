@@ -1,3 +1,4 @@
 pub mod Parts
 pub mod Sublists
 pub mod Calls
+pub mod Plans

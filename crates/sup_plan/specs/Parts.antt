@@ -1,5 +1,5 @@
 -- The parts of a plan (this project).
-use Rattle.std.specs.Prelude.{Bool, List, [], filter, find, and, Option, Some, None}
+use Rattle.std.specs.Prelude.{Bool, List, [], filter, find, ◌&&◌, Option, Some, None}
 use Rattle.sup_specs.specs.Values.{Bytes}
 use Rattle.sup_links.specs.declared.script.Verdict.{Verdict}
 use Rattle.sup_replica.specs.Nodes.{is_named}
@@ -12,7 +12,7 @@ commands_of name = filter (λ c. is_named name c.node)
 
 -- it is a script of the link from one node to another
 abbrev pub is_between : Bytes → Bytes → Route → Bool
-is_between from to route = and (is_named from route.from) (is_named to route.to)
+is_between from to route = is_named from route.from && is_named to route.to
 
 -- the verdicts of a script, and of no script none
 abbrev pub verdicts_of : Option Route → List Verdict
