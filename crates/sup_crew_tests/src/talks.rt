@@ -1,0 +1,67 @@
+//! Jobs that wait for one another get on, since none waits for another's end.
+ghost use Rattle.std.specs.Prelude.{⊤};
+
+use crossbeam_channel::{Receiver, Sender, unbounded};
+use std::sync::Wait;
+use sup_crew::{Work, run_all, run_beside};
+
+#[derive(Drop)]
+enum Side {
+    Tells(Sender<u64>),
+    Hears(Receiver<u64>),
+}
+
+#[derive(Drop)]
+struct Talks<'a, R> {
+    rt: &'a R,
+}
+
+// A side gives the number that it told or heard, or none where the other side is gone.
+impl<'a, R: Wait> Work<Side, Option<u64>> for Talks<'a, R> {
+    ghost takes = { λ work job. ⊤ };
+
+    ghost gives = { λ work job done. ⊤ };
+
+    fn run(&self, job: Side) -> Option<u64> {
+        match job {
+            Side::Tells(to) => to.send(self.rt, 7).ok().map(|()| 7),
+            Side::Hears(from) => from.recv(self.rt).ok(),
+        }
+    }
+}
+
+#[test]
+fn a_job_waits_for_the_one_behind_it(rt: HostRuntime) {
+    let (to, from) = unbounded(rt.alloc()).expect(&rt, "room");
+    let mut jobs = Vec::new(rt.alloc());
+    jobs.push(Side::Hears(from)).expect(&rt, "room");
+    jobs.push(Side::Tells(to)).expect(&rt, "room");
+    let done = run_all(&rt, rt.alloc(), jobs, &Talks { rt: &rt }).expect(&rt, "room");
+    assert!(rt; done.as_slice() == [Some(7), Some(7)].as_slice());
+}
+
+#[test]
+fn a_thread_waits_for_the_own_job(rt: HostRuntime) {
+    let (to, from) = unbounded(rt.alloc()).expect(&rt, "room");
+    let mut jobs = Vec::new(rt.alloc());
+    jobs.push(Side::Hears(from)).expect(&rt, "room");
+    let own = Side::Tells(to);
+    let (done, own) = run_beside(&rt, rt.alloc(), jobs, own, &Talks { rt: &rt }).expect(
+        &rt, "room",
+    );
+    assert!(rt; done.as_slice() == [Some(7)].as_slice());
+    assert!(rt; own == Some(7));
+}
+
+#[test]
+fn the_own_job_waits_for_a_thread(rt: HostRuntime) {
+    let (to, from) = unbounded(rt.alloc()).expect(&rt, "room");
+    let mut jobs = Vec::new(rt.alloc());
+    jobs.push(Side::Tells(to)).expect(&rt, "room");
+    let own = Side::Hears(from);
+    let (done, own) = run_beside(&rt, rt.alloc(), jobs, own, &Talks { rt: &rt }).expect(
+        &rt, "room",
+    );
+    assert!(rt; done.as_slice() == [Some(7)].as_slice());
+    assert!(rt; own == Some(7));
+}
