@@ -1,8 +1,8 @@
 pub mod Zips
 pub mod Items
 pub mod Sublists
-pub mod Dealing
+pub mod Deals
 pub mod Passes
 pub mod Returning
-pub mod Closing
+pub mod Closes
 pub mod Finishing

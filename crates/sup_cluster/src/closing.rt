@@ -95,5 +95,6 @@ pub(crate) fn finish<W: Weigh>(
     ensures fault { IfErr result (λ f. f ≢ BadPlan) }
 {
     let (seats, arrived) = take_apart(alloc, results)?;
-    close_all(alloc, posts, seats, arrived)
+    let histories = close_all(alloc, posts, seats, arrived)?;
+    Ok(histories)
 }

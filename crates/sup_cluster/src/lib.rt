@@ -10,3 +10,6 @@ mod dealing;
 mod joining;
 mod launching;
 mod opening;
+pub mod run;
+
+pub use run::{Launch, run_by};
