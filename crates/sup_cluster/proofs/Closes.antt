@@ -16,6 +16,16 @@ use Rattle.sup_cluster.proofs.Zips.{zip_same_length}
 use Rattle.sup_cluster.proofs.Items.{all_at, at_all, all_weaken, contained, place_of, stands_in, get_left, get_next, same_place, contains_filter, filter_contains}
 use Rattle.sup_cluster.proofs.Passes.{is_same, isnt_same, same_is, not_false}
 
+true_not : (b : Bool) → not b ≡ true → b ≡ true → ⊥
+true_not true e f = cc
+true_not false e f = cc
+
+above : (n m : ℕ) → n ≤ m → (m ≡ n → ⊥) → n + 1 ≤ m
+above n m le ne = omega arith
+
+pub longer : (hs : List History) (k : History) (n m : ℕ) → n ≡ length hs → n + 1 ≤ m → length (hs ++ k ∷ []) ≤ m
+longer hs k n m at le = omega (arith, length-append hs (k ∷ []))
+
 module _ {W : Type 0} {h : WeighGhosts W} where
   -- a pass of the gate that is next is of this one
   pub of_next : (posts gone rest : List (Post W h)) (post : Post W h) (n : ℕ) (arrived : List (Arrived W h)) → gone ++ post ∷ rest ≡ posts → n ≡ length gone
@@ -28,13 +38,6 @@ module _ {W : Type 0} {h : WeighGhosts W} where
   pub others_are : (P : Arrived W h → Type 0) (n : ℕ) (arrived others : List (Arrived W h)) → others ≡ filter (λ (a : Arrived W h). not (a.to == n)) arrived → All P arrived → All P others
   others_are P n arrived others e all = subst (All P) (sym e) (all_at P (filter (λ (a : Arrived W h). not (a.to == n)) arrived) (λ i a f.
       contained P arrived a all (filter_contains (λ (a : Arrived W h). not (a.to == n)) arrived a (stands_in (filter (λ (a : Arrived W h). not (a.to == n)) arrived) i a f)).0))
-
-  true_not : (b : Bool) → not b ≡ true → b ≡ true → ⊥
-  true_not true e f = cc
-  true_not false e f = cc
-
-  above : (n m : ℕ) → n ≤ m → (m ≡ n → ⊥) → n + 1 ≤ m
-  above n m le ne = omega arith
 
   pub others_later : (n : ℕ) (arrived others : List (Arrived W h)) → others ≡ filter (λ (a : Arrived W h). not (a.to == n)) arrived
       → All (λ (a : Arrived W h). n ≤ a.to) arrived → All (λ (a : Arrived W h). n + 1 ≤ a.to) others
@@ -82,3 +85,6 @@ module _ {W : Type 0} {h : WeighGhosts W} where
       → (gone' : List (Seat W h)) × (gone' ++ rest' ≡ all) × AllZip Begins gone' (histories ++ history ∷ [])
   own_more gone seat rest rest' all histories history is e z b =
       (gone ++ seat ∷ [], append_assoc gone (seat ∷ []) rest' ∙ ap (λ l. gone ++ l) (sym is) ∙ e, all_zipped_more Begins gone histories seat history z b)
+
+  pub each_left : (histories : List History) (all : List (Arrived W h)) → All (λ (a : Arrived W h). Ends histories a ⊎ Contains all a) all
+  each_left histories all = all_at (λ (a : Arrived W h). Ends histories a ⊎ Contains all a) all (λ i a e. inr (stands_in all i a e))

@@ -13,6 +13,9 @@ use Rattle.sup_posts.specs.declared.post.Post.{Post}
 use Rattle.sup_posts.specs.declared.jobs.Lane.{Lane}
 use Rattle.sup_cluster.specs.Steps.{IsSeatOf, IsLaneTo, HasLaneTo}
 
+pub last_contained : {X : Type 0} (xs : List X) (x : X) → Contains (xs ++ x ∷ []) x
+last_contained xs x = Contains-append_right xs (x ∷ []) x (0, omega arith, refl)
+
 module _ {W : Type 0} {h : WeighGhosts W} where
   -- the next pass is of the gate at the next place
   pub seat_at : (posts : List (Post W h)) (i : ℕ) (seat : Seat W h) (rest : List (Seat W h)) → i < length posts → AllZip IsSeatOf (drop i posts) (seat ∷ rest) → IsSeatAt posts i seat
@@ -29,9 +32,6 @@ module _ {W : Type 0} {h : WeighGhosts W} where
   -- one link more
   pub lane_added : (posts : List (Post W h)) (lanes : List (Lane W h)) (lane : Lane W h) → IsLane posts lane → All (IsLane posts) lanes → All (IsLane posts) (lanes ++ lane ∷ [])
   lane_added posts lanes lane l all = all_snoc (IsLane posts) lanes lane all l
-
-  pub last_contained : {X : Type 0} (xs : List X) (x : X) → Contains (xs ++ x ∷ []) x
-  last_contained xs x = Contains-append_right xs (x ∷ []) x (0, omega arith, refl)
 
   -- links to all before, and to the next
   pub reach_more : (scripts : List Route) (from : Bytes) (posts : List (Post W h)) (old new : List (Lane W h)) (to at : ℕ)

@@ -20,6 +20,9 @@ use Rattle.sup_cluster.specs.Steps.{IsSeatOf, IsArrived, Begins, HasSeen, AreTak
 use Rattle.sup_cluster.proofs.Zips.{zip_left, zip_right, zip_map}
 use Rattle.sup_cluster.proofs.Items.{all_at, contained, stands_in, all_weaken, all_snoc, all_flat, contains_filter, filter_contains}
 
+err_is : {A E : Type 0} (x y : E) (r : Result A E) → r ≡ Err x → r ≡ Err y → x ≡ y
+err_is x y r e f = cc
+
 pub prefix_then : (a b c : List Entry) → IsPrefix a b → IsPrefix b c → IsPrefix a c
 prefix_then a b c p q = (p.0 ++ q.0, q.1 ∙ ap (λ l. l ++ q.0) p.1 ∙ append_assoc a p.0 q.0)
 
@@ -79,10 +82,7 @@ module _ {W : Type 0} {h : WeighGhosts W} where
 
   no_bad : (posts : List (Post W h)) (post : Post W h) (r : Result (Driven W h) RunFault) → Returns posts post r → r ≢ Err BadPlan
   no_bad posts post (Ok d) x = λ e. cc
-  no_bad posts post (Err f) x = λ e. x (same f e)
-    where
-      same : (f' : RunFault) → Err {A = Driven W h} f' ≡ Err BadPlan → f' ≡ BadPlan
-      same f' q = cc
+  no_bad posts post (Err f) x = λ e. x (err_is f BadPlan (Err f) refl e)
 
   pub none_bad : (posts : List (Post W h)) (results : List (Result (Driven W h) RunFault)) → AllZip (Returns posts) posts results → All (λ r. r ≢ Err BadPlan) results
   none_bad posts results z = all_at (λ r. r ≢ Err BadPlan) results (λ i r e. let p = zip_right (Returns posts) posts results i r z e in no_bad posts p.0 r p.2)

@@ -6,7 +6,7 @@ use Rattle.sup_placement.specs.declared.weigh.Weigh.{Ghosts as WeighGhosts}
 use Rattle.sup_station.specs.Opening.{kept_by}
 use Rattle.sup_node_gate.specs.Gates.{IsOf}
 use Rattle.sup_plan.specs.declared.plan.Plan.{Plan}
-use Rattle.sup_posts.specs.Jobs.{Seat, Carried, Gives, Drives}
+use Rattle.sup_posts.specs.Jobs.{Seat, Carried, Gives, Drives, Takes}
 use Rattle.sup_posts.specs.declared.fault.RunFault.{RunFault}
 use Rattle.sup_posts.specs.declared.fault.RunFault.TheVariants.{BadPlan, HistoryFull, LinkClosed, OutOfMemory}
 use Rattle.sup_posts.specs.declared.post.Post.{Post}
@@ -37,3 +37,6 @@ module _ {W : Type 0} {h : WeighGhosts W} where
   pub returned : (plan : Plan) (posts : List (Post W h)) (drives : List (Drive W h)) (results : List (Result (Driven W h) RunFault))
       → AllZip (IsDriveOf plan posts) posts drives → AllZip (Gives posts) drives results → AllZip (Returns posts) posts results
   returned plan posts drives results d g = zip_through (IsDriveOf plan posts) (Gives posts) (Returns posts) (one_returned plan posts) posts drives results d g
+
+  pub drives_take : (plan : Plan) (posts : List (Post W h)) (drives : List (Drive W h)) → AllZip (IsDriveOf plan posts) posts drives → All (Takes posts) drives
+  drives_take plan posts drives ds = all_at (Takes posts) drives (λ i d e. (zip_right (IsDriveOf plan posts) posts drives i d ds e).2.takes)

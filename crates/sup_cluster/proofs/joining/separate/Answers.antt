@@ -10,7 +10,7 @@ loop-pass-preserved-in-Continue-1 g c =
   let t = is_same c.in-Some.pass.to c.args.at c.if-pass-at.true in
   (
     append_assoc c.loop-pass.yielded (c.in-Some.pass ∷ []) c.next.new.self.rest.items ∙ (ap (λ l. c.loop-pass.yielded ++ l) (sym (search rules)) ∙ c.loop-pass.invariant.0),
-    filter_in (λ (a : Arrived g.row.W.Denot g.W.Weigh). a.to == c.args.at) c.loop-pass.yielded c.in-Some.pass c.loop-pass.here.items c.push.new.self.items t c.loop-pass.invariant.1 (search rules),
+    filter_in (λ (a : Arrived g.row.W.Denot g.W.Weigh). a.to == c.args.at) c.loop-pass.yielded c.in-Some.pass c.loop-pass.here.items c.push.new.self.items t c.loop-pass.invariant.1 c.in_ok-push.ensures.items,
     filter_out (λ (a : Arrived g.row.W.Denot g.W.Weigh). not (a.to == c.args.at)) c.loop-pass.yielded c.in-Some.pass c.loop-pass.others.items (not_true _ t) c.loop-pass.invariant.2,
   )
 
@@ -20,5 +20,5 @@ loop-pass-preserved g c =
   (
     append_assoc c.loop-pass.yielded (c.in-Some.pass ∷ []) c.next.new.self.rest.items ∙ (ap (λ l. c.loop-pass.yielded ++ l) (sym (search rules)) ∙ c.loop-pass.invariant.0),
     filter_out (λ (a : Arrived g.row.W.Denot g.W.Weigh). a.to == c.args.at) c.loop-pass.yielded c.in-Some.pass c.loop-pass.here.items t c.loop-pass.invariant.1,
-    filter_in (λ (a : Arrived g.row.W.Denot g.W.Weigh). not (a.to == c.args.at)) c.loop-pass.yielded c.in-Some.pass c.loop-pass.others.items c.push.new.self.items (not_false _ t) c.loop-pass.invariant.2 (search rules),
+    filter_in (λ (a : Arrived g.row.W.Denot g.W.Weigh). not (a.to == c.args.at)) c.loop-pass.yielded c.in-Some.pass c.loop-pass.others.items c.push-else-pass-at.new.self.items (not_false _ t) c.loop-pass.invariant.2 c.in_ok-push-2.ensures.items,
   )
