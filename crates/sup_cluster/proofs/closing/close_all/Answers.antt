@@ -17,8 +17,8 @@ loop-post-init g c =
   (
     refl,
     subst (λ l. AllZip IsSeatOf l c.into_iter-seats.result.rest.items) gives (subst (AllZip IsSeatOf c.args.posts.items) (sym c.into_iter-seats.ensures.rest) c.requires.seats),
-    subst (AllZip (IsHistoryOf g.W.Weigh.weight_of) []) none tt,
-    ([], refl, subst (AllZip Begins []) none tt),
+    subst (AllZip (IsHistoryOf {W = g.row.W.Denot} {h = g.W.Weigh} g.W.Weigh.weight_of) []) none tt,
+    ([], refl, subst (AllZip (Begins {W = g.row.W.Denot} {h = g.W.Weigh}) []) none tt),
     subst (λ l. All (IsArrived l) c.args.arrived.items) gives c.requires.arrived,
     subst (λ l. All (λ (a : Arrived g.row.W.Denot g.W.Weigh). length l ≤ a.to) c.args.arrived.items) none (λ k d lt. omega arith),
     each_left c.new-histories.result.items c.args.arrived.items,
