@@ -1,20 +1,17 @@
 -- Histories of gates that are closed one after another.
-use Rattle.std.specs.Prelude.{◌≡◌, ◌≢◌, ◌==◌, ◌≤◌, ◌<◌, ◌+◌, ◌⊎◌, ℕ, suc, Bool, true, false, not, List, [], ◌∷◌, ◌++◌, length, map, flat_map, All, Contains, Option, Some, Result, Ok, slice_get, refl}
+use Rattle.std.specs.Prelude.{◌≡◌, ◌==◌, ◌≤◌, ◌+◌, ◌⊎◌, ℕ, Bool, true, false, not, List, [], ◌∷◌, ◌++◌, length, All, Contains, Some, slice_get, refl}
 use Rattle.std.specs.List.{AllZip, filter}
-use Rattle.std.proofs.Common.{sym, ap, ◌∙◌, subst, arith, inl, inr, append_assoc, append-nil, length-append}
+use Rattle.std.proofs.Common.{sym, ap, ◌∙◌, subst, arith, inl, inr, append_assoc, length-append}
 use Rattle.std.proofs.lemmas.Option.{slice_get_within}
-use Rattle.std.proofs.lemmas.List.{nil_from_length}
 use Rattle.std.proofs.lemmas.Slice.Zip.{all_zipped_more}
-use Rattle.sup_placement.specs.Place.{Weigher}
 use Rattle.sup_placement.specs.declared.weigh.Weigh.{Ghosts as WeighGhosts}
 use Rattle.sup_plan.specs.declared.histories.History.{History}
-use Rattle.sup_posts.specs.Jobs.{Seat, IsSeatAt}
+use Rattle.sup_posts.specs.Jobs.{Seat}
 use Rattle.sup_posts.specs.declared.post.Post.{Post}
 use Rattle.sup_posts.specs.declared.jobs.Arrived.{Arrived}
-use Rattle.sup_cluster.specs.Steps.{IsSeatOf, IsArrived, IsHistoryOf, Begins, Ends}
-use Rattle.sup_cluster.proofs.Zips.{zip_same_length}
-use Rattle.sup_cluster.proofs.Items.{all_at, at_all, all_weaken, contained, place_of, stands_in, get_left, get_next, same_place, contains_filter, filter_contains}
-use Rattle.sup_cluster.proofs.Passes.{is_same, isnt_same, same_is, not_false}
+use Rattle.sup_cluster.specs.Steps.{IsSeatOf, IsArrived, Begins, Ends}
+use Rattle.sup_cluster.proofs.Items.{all_at, all_weaken, contained, stands_in, get_left, get_next, same_place, contains_filter, filter_contains}
+use Rattle.sup_cluster.proofs.Passes.{is_same, same_is, not_false}
 
 true_not : (b : Bool) → not b ≡ true → b ≡ true → ⊥
 true_not true e f = cc
@@ -54,15 +51,18 @@ module _ {W : Type 0} {h : WeighGhosts W} where
     where
       old : (a : Arrived W h) → Ends histories a → Ends (histories ++ history ∷ []) a
       old a x = record { history = x.history; stands = get_left histories (history ∷ []) a.to x.history x.stands; begins = x.begins }
+
       new : (a : Arrived W h) → Contains arrived a → a.to ≡ n → Ends (histories ++ history ∷ []) a
       new a c same = record {
         history = history;
         stands = ap (slice_get (histories ++ history ∷ [])) (same ∙ at) ∙ get_next histories [] history;
         begins = contained (λ (a : Arrived W h). a.to ≡ n → Begins a.seat history) arrived a here c same;
       }
+
       sort : (a : Arrived W h) → Contains arrived a → (b : Bool) → (a.to == n) ≡ b → Ends (histories ++ history ∷ []) a ⊎ Contains others a
       sort a c true t = inl (new a c (same_is a.to n t))
       sort a c false t = inr (subst (λ l. Contains l a) (sym e) (contains_filter (λ (a : Arrived W h). not (a.to == n)) arrived a c (not_false (a.to == n) t)))
+
       step : (a : Arrived W h) → Ends histories a ⊎ Contains arrived a → Ends (histories ++ history ∷ []) a ⊎ Contains others a
       step a x = elim x [ inl y ↦ inl (old a y) | inr c ↦ sort a c (a.to == n) refl ]
 

@@ -1,9 +1,8 @@
 -- Passes dealt out by place.
-use Rattle.std.specs.Prelude.{◌≡◌, ◌≢◌, ℕ, ◌+◌, ◌<◌, ◌≤◌, zero, suc, List, [], ◌∷◌, ◌++◌, length, drop, All, Contains, Option, Some, None, slice_get, refl}
+use Rattle.std.specs.Prelude.{◌≡◌, ◌≢◌, ℕ, ◌+◌, ◌<◌, zero, suc, List, [], ◌∷◌, ◌++◌, length, drop, All, Contains, Some, slice_get, refl}
 use Rattle.std.specs.List.{AllZip}
-use Rattle.std.proofs.Common.{sym, ap, ◌∙◌, subst, arith, below_more}
-use Rattle.std.proofs.lemmas.Option.{slice_get_within, get_or_from_slice_get}
-use Rattle.std.proofs.lemmas.List.Elements.{Contains-append_left, Contains-append_right}
+use Rattle.std.proofs.Common.{arith, below_more}
+use Rattle.std.proofs.lemmas.List.Elements.{Contains-append_right}
 use Rattle.sup_cluster.proofs.Items.{all_snoc}
 use Rattle.sup_placement.specs.declared.weigh.Weigh.{Ghosts as WeighGhosts}
 use Rattle.sup_plan.specs.declared.plan.Route.{Route}
@@ -11,7 +10,7 @@ use Rattle.sup_specs.specs.Values.{Bytes}
 use Rattle.sup_posts.specs.Jobs.{Seat, IsSeatAt, IsLane}
 use Rattle.sup_posts.specs.declared.post.Post.{Post}
 use Rattle.sup_posts.specs.declared.jobs.Lane.{Lane}
-use Rattle.sup_cluster.specs.Steps.{IsSeatOf, IsLaneTo, HasLaneTo}
+use Rattle.sup_cluster.specs.Steps.{IsSeatOf, HasLaneTo}
 
 pub last_contained : {X : Type 0} (xs : List X) (x : X) → Contains (xs ++ x ∷ []) x
 last_contained xs x = Contains-append_right xs (x ∷ []) x (0, omega arith, refl)

@@ -1,5 +1,5 @@
 -- Items of lists.
-use Rattle.std.specs.Prelude.{◌≡◌, ◌≢◌, ℕ, ◌+◌, ◌<◌, ◌≤◌, zero, suc, Bool, true, false, cond, not, List, [], ◌∷◌, ◌++◌, length, flat_map, get_or, Option, Some, None, slice_get, slice_index_or, All, Contains, refl}
+use Rattle.std.specs.Prelude.{◌≡◌, ℕ, ◌<◌, zero, suc, Bool, true, false, cond, List, [], ◌∷◌, ◌++◌, length, flat_map, Some, None, slice_get, slice_index_or, All, Contains, refl}
 use Rattle.std.specs.List.{filter}
 use Rattle.std.proofs.Common.{sym, ap, ◌∙◌, subst, arith, append-nil}
 use Rattle.std.proofs.lemmas.Option.{slice_get_within, get_or_from_slice_get, slice_get-get_or}
@@ -65,9 +65,11 @@ module _ {X : Type 0} where
     where
       later : Contains ys x × (p x ≡ true) → Contains (y ∷ ys) x × (p x ≡ true)
       later r = ((suc r.0.0, omega (arith, r.0.1), r.0.2), r.1)
+
       here : (Contains (filter p ys) x → Contains ys x × (p x ≡ true)) → p y ≡ true → Contains (y ∷ filter p ys) x → Contains (y ∷ ys) x × (p x ≡ true)
       here rec t (zero, lt, e) = ((0, omega arith, e), ap p (sym e) ∙ t)
       here rec t (suc k, lt, e) = later (rec (k, omega (arith, lt), e))
+
       split : (Contains (filter p ys) x → Contains ys x × (p x ≡ true)) → (b : Bool) → p y ≡ b → Contains (cond b (y ∷ filter p ys) (filter p ys)) x → Contains (y ∷ ys) x × (p x ≡ true)
       split rec true t d = here rec t d
       split rec false t d = later (rec d)

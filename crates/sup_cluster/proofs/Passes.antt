@@ -1,7 +1,7 @@
 -- Passes that come back, and what they have seen.
-use Rattle.std.specs.Prelude.{◌≡◌, ◌≢◌, ◌==◌, ℕ, Bool, true, false, not, List, [], ◌∷◌, ◌++◌, map, flat_map, All, Contains, Option, Some, Result, Ok, Err, slice_get, refl}
+use Rattle.std.specs.Prelude.{◌≡◌, ◌≢◌, ◌==◌, ℕ, Bool, true, false, not, List, [], ◌∷◌, ◌++◌, map, flat_map, All, Contains, Result, Ok, Err, refl}
 use Rattle.std.specs.List.{AllZip, filter}
-use Rattle.std.proofs.Common.{sym, ap, ◌∙◌, subst, arith, rules, tests, append_assoc, append-nil}
+use Rattle.std.proofs.Common.{sym, ap, ◌∙◌, subst, arith, append_assoc, append-nil}
 use Rattle.std.proofs.lemmas.List.{map-append}
 use Rattle.std.proofs.lemmas.Grind.{flat_map-append}
 use Rattle.std.proofs.lemmas.Bool.Decides.{nat_tests}
@@ -17,7 +17,7 @@ use Rattle.sup_posts.specs.declared.post.Post.{Post}
 use Rattle.sup_posts.specs.declared.jobs.Arrived.{Arrived}
 use Rattle.sup_posts.specs.declared.jobs.Driven.{Driven}
 use Rattle.sup_cluster.specs.Steps.{IsSeatOf, IsArrived, Begins, HasSeen, AreTakenApart, Returns}
-use Rattle.sup_cluster.proofs.Zips.{zip_left, zip_right, zip_map}
+use Rattle.sup_cluster.proofs.Zips.{zip_right, zip_map}
 use Rattle.sup_cluster.proofs.Items.{all_at, contained, stands_in, all_weaken, all_snoc, all_flat, contains_filter, filter_contains}
 
 err_is : {A E : Type 0} (x y : E) (r : Result A E) → r ≡ Err x → r ≡ Err y → x ≡ y
@@ -107,4 +107,4 @@ module _ {W : Type 0} {h : WeighGhosts W} where
       → AllZip (Returns posts) posts results → AreTakenApart results seats arrived → All (IsArrived posts) arrived
   arrived_taken posts results seats arrived z t = subst (All (IsArrived posts)) (sym t.others)
       (all_flat (IsArrived posts) (λ (d : Driven W h). d.arrived.items) t.driven (λ i d e.
-          (zip_right (Back posts) posts t.driven i d (back posts results t.driven t.all z) e).2.1))
+      (zip_right (Back posts) posts t.driven i d (back posts results t.driven t.all z) e).2.1))

@@ -1,18 +1,15 @@
 -- What the drivers hand back, said of their nodes.
-use Rattle.std.specs.Prelude.{◌≡◌, ◌≢◌, ℕ, List, All, Option, Some, Result, Ok, Err, slice_get, refl}
+use Rattle.std.specs.Prelude.{List, All, Result, Ok, Err, slice_get, refl}
 use Rattle.std.specs.List.{AllZip}
-use Rattle.std.proofs.Common.{sym, ap, ◌∙◌, subst}
+use Rattle.std.proofs.Common.{ap, ◌∙◌, subst}
 use Rattle.sup_placement.specs.declared.weigh.Weigh.{Ghosts as WeighGhosts}
-use Rattle.sup_station.specs.Opening.{kept_by}
-use Rattle.sup_node_gate.specs.Gates.{IsOf}
 use Rattle.sup_plan.specs.declared.plan.Plan.{Plan}
-use Rattle.sup_posts.specs.Jobs.{Seat, Carried, Gives, Drives, Takes}
+use Rattle.sup_posts.specs.Jobs.{Carried, Gives, Drives, Takes}
 use Rattle.sup_posts.specs.declared.fault.RunFault.{RunFault}
 use Rattle.sup_posts.specs.declared.fault.RunFault.TheVariants.{BadPlan, HistoryFull, LinkClosed, OutOfMemory}
 use Rattle.sup_posts.specs.declared.post.Post.{Post}
 use Rattle.sup_posts.specs.declared.jobs.Drive.{Drive}
 use Rattle.sup_posts.specs.declared.jobs.Driven.{Driven}
-use Rattle.sup_posts.specs.declared.jobs.Arrived.{Arrived}
 use Rattle.sup_cluster.specs.Steps.{IsSeatOf, IsDriveOf, IsArrived, Returns}
 use Rattle.sup_cluster.proofs.Zips.{zip_right, zip_through}
 use Rattle.sup_cluster.proofs.Items.{all_at, same_place}
@@ -26,9 +23,9 @@ module _ {W : Type 0} {h : WeighGhosts W} where
   one_returned : (plan : Plan) (posts : List (Post W h)) (post : Post W h) (drive : Drive W h) (result : Result (Driven W h) RunFault)
       → IsDriveOf plan posts post drive → Gives posts drive result → Returns posts post result
   one_returned plan posts post drive (Ok driven) d g = (
-      subst (λ (p : Post W h). IsSeatOf p driven.seat) (same_place posts drive.at drive.at g.seat.0 post g.seat.1 d.place refl) g.seat.2,
-      arrives posts drive driven g,
-    )
+    subst (λ (p : Post W h). IsSeatOf p driven.seat) (same_place posts drive.at drive.at g.seat.0 post g.seat.1 d.place refl) g.seat.2,
+    arrives posts drive driven g,
+  )
   one_returned plan posts post drive (Err BadPlan) d g = absurd g
   one_returned plan posts post drive (Err HistoryFull) d g = λ e. cc
   one_returned plan posts post drive (Err LinkClosed) d g = λ e. cc

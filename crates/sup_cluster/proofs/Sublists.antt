@@ -1,6 +1,5 @@
 -- Sublists of lists that grow.
-use Rattle.std.proofs.Common.{◌≡◌, List, [], ◌∷◌, ◌++◌, refl, inl, inr, subst, sym, ap, ◌∙◌}
-use Rattle.std.specs.Prelude.{flat_map}
+use Rattle.std.proofs.Common.{List, [], ◌∷◌, ◌++◌, inl, inr, subst, sym, ap, ◌∙◌}
 use Rattle.std.proofs.lemmas.Grind.{flat_map-append}
 use Rattle.sup_specs.specs.Values.{Bytes}
 use Rattle.sup_node_gate.specs.declared.entry.Entry.{Entry}

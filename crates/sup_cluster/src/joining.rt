@@ -86,11 +86,7 @@ pub(crate) fn separate<W: Weigh>(
 }
 
 // One pass of the gate, which has seen what all these have.
-pub(crate) fn join_all<W: Weigh>(
-    post: &Post<W>,
-    seat: Seat<W>,
-    others: Vec<Arrived<W>>,
-) -> Seat<W>
+pub(crate) fn join_all<W: Weigh>(post: &Post<W>, seat: Seat<W>, others: Vec<Arrived<W>>) -> Seat<W>
     requires seat { IsSeatOf post.now seat }
     requires others { All (λ a. IsSeatOf post.now a.seat) others.items }
     ensures of { IsSeatOf post.now result }

@@ -10,6 +10,7 @@ use sup_specs::NodeName;
 
 // As few nodes as a plan may have, and as many.
 const FEWEST: usize = 2;
+
 const MOST: usize = 5;
 
 /// Whether a plan can be run: it has 2 to 5 nodes, whose names differ; each command is told to one of them, and is no stop, restart or
@@ -80,9 +81,8 @@ fn is_peer(nodes: &[NodeName], node: &NodeName, to: &NodeName) -> bool
 fn are_linked(nodes: &[NodeName], scripts: &[Route]) -> bool
     ensures { IsTrue result ↔ AllPass (has_ends nodes.now) scripts.now }
 {
-    scripts
-        .iter()
-        .all(|route| is_among(nodes, &route.from) && is_peer(nodes, &route.from, &route.to))
+    scripts.iter().all(|route| is_among(nodes, &route.from)
+        && is_peer(nodes, &route.from, &route.to))
 }
 
 // Whether no two scripts are of one link. Where nodes are few and scripts are of links between them, one of the first few is found again.

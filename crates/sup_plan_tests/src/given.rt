@@ -71,9 +71,7 @@ pub(crate) fn leave(rt: &impl Abort, member: &str) -> Act {
 pub(crate) fn join(rt: &(impl Abort + AllocGlobal)) -> Act {
     match Text::parse(rt.alloc(), "") {
         Ok(label) => Act::Event(Event::Join(label)),
-        Err(_) => Act::Event(Event::Join(
-            Text::parse(rt.alloc(), "").expect(rt, "an empty text"),
-        )),
+        Err(_) => Act::Event(Event::Join(Text::parse(rt.alloc(), "").expect(rt, "an empty text"))),
     }
 }
 

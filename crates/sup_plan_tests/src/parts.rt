@@ -13,7 +13,12 @@ fn commands_of(rt: &(impl Abort + AllocGlobal), plan: &Plan, node: &NodeName) ->
     }
 }
 
-fn script_between(rt: &(impl Abort + AllocGlobal), plan: &Plan, from: &str, to: &str) -> LinkScript {
+fn script_between(
+    rt: &(impl Abort + AllocGlobal),
+    plan: &Plan,
+    from: &str,
+    to: &str,
+) -> LinkScript {
     match plan.script_between(rt.alloc(), &name(rt, from), &name(rt, to)) {
         Ok(script) => script,
         Err(_) => plan

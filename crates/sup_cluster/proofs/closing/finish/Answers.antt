@@ -1,7 +1,6 @@
-use Rattle.std.proofs.Common.{rules, ◌≡◌, sym, subst, All}
+use Rattle.std.proofs.Common.{subst, All}
 use Rattle.std.specs.List.{AllZip}
 use Rattle.sup_posts.specs.declared.jobs.Driven.{Driven}
-use Rattle.sup_plan.specs.declared.histories.History.{History}
 use Rattle.sup_cluster.specs.Steps.{Begins, Ends}
 use Rattle.sup_cluster.proofs.Passes.{none_bad, seats_taken, arrived_taken}
 use Rattle.sup_cluster.proofs.Zips.{zip_map_left}
@@ -18,11 +17,11 @@ close_all-requires-clause-arrived g c = arrived_taken c.args.posts.items c.args.
 
 pub returns-clause-histories : goal.returns-clause-histories
 returns-clause-histories g c =
-  let t = c.in_ok-seats.ensures.parts in
-  record {
-    driven = t.driven;
-    given = t.all;
-    histories = c.in_ok-histories.ensures.histories;
-    own = zip_map_left Begins (λ (d : Driven g.row.W.Denot g.W.Weigh). d.seat) t.driven c.in_ok-histories.histories.items (subst (λ l. AllZip Begins l c.in_ok-histories.histories.items) t.own c.in_ok-histories.ensures.own);
-    others = subst (All (Ends c.in_ok-histories.histories.items)) t.others c.in_ok-histories.ensures.others;
-  }
+    let t = c.in_ok-seats.ensures.parts in
+    record {
+      driven = t.driven;
+      given = t.all;
+      histories = c.in_ok-histories.ensures.histories;
+      own = zip_map_left Begins (λ (d : Driven g.row.W.Denot g.W.Weigh). d.seat) t.driven c.in_ok-histories.histories.items (subst (λ l. AllZip Begins l c.in_ok-histories.histories.items) t.own c.in_ok-histories.ensures.own);
+      others = subst (All (Ends c.in_ok-histories.histories.items)) t.others c.in_ok-histories.ensures.others;
+    }

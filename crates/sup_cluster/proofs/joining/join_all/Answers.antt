@@ -1,4 +1,4 @@
-use Rattle.std.proofs.Common.{rules, ◌≡◌, ◌++◌, [], ◌∷◌, ap, sym, ◌∙◌, append_assoc, subst, All}
+use Rattle.std.proofs.Common.{rules, ◌++◌, [], ◌∷◌, ap, sym, ◌∙◌, append_assoc, subst, All}
 use Rattle.std.proofs.lemmas.List.Elements.{All-rest}
 use Rattle.sup_node_gate.specs.Gates.{view_of}
 use Rattle.sup_posts.specs.declared.jobs.Arrived.{Arrived}

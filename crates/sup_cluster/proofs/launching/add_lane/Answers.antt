@@ -1,4 +1,4 @@
-use Rattle.std.proofs.Common.{◌≡◌, ◌++◌, [], ◌∷◌, All, sym, subst}
+use Rattle.std.proofs.Common.{All, sym, subst}
 use Rattle.std.specs.Prelude.{Contains}
 use Rattle.sup_posts.specs.Jobs.{IsLane}
 use Rattle.sup_cluster.proofs.Deals.{lane_added, last_contained}

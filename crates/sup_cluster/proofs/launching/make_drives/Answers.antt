@@ -1,4 +1,4 @@
-use Rattle.std.proofs.Common.{rules, arith, ◌≡◌, ◌+◌, ◌++◌, ◌∷◌, take, drop, sym, subst}
+use Rattle.std.proofs.Common.{arith, ◌+◌, take, drop, sym, subst}
 use Rattle.std.specs.List.{AllZip}
 use Rattle.std.proofs.lemmas.Option.{get_or_from_slice_get}
 use Rattle.sup_cluster.specs.Steps.{IsSeatOf, IsDriveOf}
@@ -15,12 +15,11 @@ make_drive-requires-clause-seat g c = seat_at c.args.posts.now c.loop-at.at c.in
 
 pub loop-at-preserved : goal.loop-at-preserved
 loop-at-preserved g c =
-  let left = subst (AllZip IsSeatOf (drop c.loop-at.at c.args.posts.now)) c.in-Some.ensures.items c.loop-at.invariant.0 in
-  let s = seat_at c.args.posts.now c.loop-at.at c.in-Some.seat c.next.new.self.rest.items c.loop-at-test.true left in
-  (
-    zip_next IsSeatOf c.args.posts.now c.loop-at.at c.in-Some.seat c.next.new.self.rest.items c.loop-at-test.true left,
-    c.in_ok-rest.ensures.kept,
-    subst (AllZip (IsDriveOf c.args.plan.now c.args.posts.now) (take (c.loop-at.at + 1) c.args.posts.now)) (sym c.in_ok-push.ensures.items)
-      (zip_taken (IsDriveOf c.args.plan.now c.args.posts.now) c.args.posts.now c.loop-at.at s.0 c.loop-at.drives.items c.in_ok-drive.drive c.loop-at-test.true
-        (sym (get_or_from_slice_get c.args.posts.now c.loop-at.at s.0 s.0 s.1)) c.loop-at.invariant.2 (c.in_ok-drive.ensures s.0 s.1)),
-  )
+    let left = subst (AllZip IsSeatOf (drop c.loop-at.at c.args.posts.now)) c.in-Some.ensures.items c.loop-at.invariant.0 in
+    let s = seat_at c.args.posts.now c.loop-at.at c.in-Some.seat c.next.new.self.rest.items c.loop-at-test.true left in (
+      zip_next IsSeatOf c.args.posts.now c.loop-at.at c.in-Some.seat c.next.new.self.rest.items c.loop-at-test.true left,
+      c.in_ok-rest.ensures.kept,
+      subst (AllZip (IsDriveOf c.args.plan.now c.args.posts.now) (take (c.loop-at.at + 1) c.args.posts.now)) (sym c.in_ok-push.ensures.items)
+          (zip_taken (IsDriveOf c.args.plan.now c.args.posts.now) c.args.posts.now c.loop-at.at s.0 c.loop-at.drives.items c.in_ok-drive.drive c.loop-at-test.true
+          (sym (get_or_from_slice_get c.args.posts.now c.loop-at.at s.0 s.0 s.1)) c.loop-at.invariant.2 (c.in_ok-drive.ensures s.0 s.1)),
+    )
