@@ -1,5 +1,5 @@
 -- A test of each item of a list.
-use Rattle.std.specs.Prelude.{◌≡◌, Bool, true, List, IsTrue}
+use Rattle.std.specs.Prelude.{◌≡◌, Bool, List, IsTrue}
 use Rattle.std.specs.List.{AllPass, list_all}
 use Rattle.std.proofs.Common.{sym, ◌∙◌}
 use Rattle.std.proofs.lemmas.List.Sums.{AllPass-from_list_all, list_all-from_AllPass}

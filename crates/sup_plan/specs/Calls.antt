@@ -1,5 +1,5 @@
 -- What the entries of a history are calls of, and what they send and bring (this project).
-use Rattle.std.specs.Prelude.{ℕ, List, [], ◌∷◌, flat_map, Option, Some, None, Result, Ok, Err, if◌then◌else◌}
+use Rattle.std.specs.Prelude.{ℕ, List, [], ◌∷◌, flat_map, Option, Some, None, Ok, Err, if◌then◌else◌}
 use Rattle.sup_specs.specs.Values.{Bytes}
 use Rattle.sup_replica.specs.Nodes.{is_named}
 use Rattle.sup_replica.specs.declared.event.Act.{Act}

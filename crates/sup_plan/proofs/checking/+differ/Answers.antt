@@ -1,7 +1,7 @@
 use Rattle.std.proofs.Common.{◌≡◌, List, IsTrue, sym, subst}
 use Rattle.std.specs.List.{list_any, IsDistinct}
 use Rattle.std.specs.Str.{bytes_eq}
-use Rattle.std.specs.Prelude.{not, refl}
+use Rattle.std.specs.Prelude.{not}
 use Rattle.sup_specs.specs.Values.{Bytes}
 use Rattle.sup_plan.proofs.Apart.{apart_more, found_again, none_apart}
 use Rattle.sup_plan.proofs.Names.{turned}

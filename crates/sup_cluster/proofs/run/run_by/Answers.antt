@@ -1,0 +1,28 @@
+use Rattle.std.proofs.Common.{All, sym, subst}
+use Rattle.std.specs.List.{AllZip}
+use Rattle.sup_posts.specs.Jobs.{Takes, Gives}
+use Rattle.sup_cluster.specs.Runs.{IsRunOf}
+use Rattle.sup_cluster.specs.Steps.{IsPostOf, IsDriveOf}
+use Rattle.sup_cluster.proofs.Returning.{drives_take, returned}
+use Rattle.sup_cluster.proofs.Finishing.{is_run}
+use Rattle.sup_cluster.proofs.run.run_by.Goals as goal
+
+pub launch-requires : goal.launch-requires
+launch-requires g c =
+    subst (λ l. All (Takes l) c.in_ok-drives.drives.items) (sym c.deref-3.ensures.value)
+    (drives_take c.args.plan.now c.in_ok-posts.posts.items c.in_ok-drives.drives.items
+    (subst (λ l. AllZip (IsDriveOf c.args.plan.now l) l c.in_ok-drives.drives.items) c.deref-2.ensures.value c.in_ok-drives.ensures))
+
+pub finish-requires : goal.finish-requires
+finish-requires g c =
+    returned c.args.plan.now c.in_ok-posts.posts.items c.in_ok-drives.drives.items c.in_ok-results.results.items
+    (subst (λ l. AllZip (IsDriveOf c.args.plan.now l) l c.in_ok-drives.drives.items) c.deref-2.ensures.value c.in_ok-drives.ensures)
+    (subst (λ l. AllZip (Gives l) c.in_ok-drives.drives.items c.in_ok-results.results.items) c.deref-3.ensures.value c.in_ok-results.ensures)
+
+pub returns-clause-run : goal.returns-clause-run
+returns-clause-run g c = subst (IsRunOf g.W.Weigh.weight_of c.args.plan.now) (sym c.new.ensures)
+    (is_run g.W.Weigh.weight_of c.args.plan.now c.in_ok-posts.posts.items c.in_ok-drives.drives.items c.in_ok-results.results.items c.in_ok-histories.histories.items
+    (subst (λ l. AllZip (IsPostOf c.args.plan.now.config) l c.in_ok-posts.posts.items) c.deref.ensures.value c.in_ok-posts.ensures.posts)
+    (subst (λ l. AllZip (IsDriveOf c.args.plan.now l) l c.in_ok-drives.drives.items) c.deref-2.ensures.value c.in_ok-drives.ensures)
+    (subst (λ l. AllZip (Gives l) c.in_ok-drives.drives.items c.in_ok-results.results.items) c.deref-3.ensures.value c.in_ok-results.ensures)
+    c.in_ok-histories.ensures.histories)
