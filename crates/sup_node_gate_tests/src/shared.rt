@@ -1,30 +1,19 @@
 //! Threads that share one gate over few rows.
-ghost use Rattle.std.specs.Prelude.{All, IfOk};
 ghost use Rattle.sup_node_gate.specs.Gates.{IsOf};
 
-use crate::given::{delete, gate, push, start, station};
+use crate::given::{delete, push, start, station};
 use crate::told::{agree, in_order};
-use std::alloc::{AllocError, Global};
 use std::process::Abort;
 use std::sync::Wait;
-use std::thread::{self, Threads};
+use std::thread::{Threads, join};
 use sup_keeper::{Keeper, MemKeeper};
-use sup_node_gate::{Entry, NodeGate, Pass};
+use sup_node_gate::{Entry, MAX_BOUND, NodeGate, Pass};
 use sup_placement::FlatWeigh;
 use sup_replica::Act;
 
 const CALLS: u64 = 1000;
 
 const RUNS: u64 = 10;
-
-const NAMES: [&str; 4] = ["w", "x", "y", "z"];
-
-// What a thread is given: its pass, and the place of its name.
-#[derive(Drop)]
-struct Job<K: Keeper> {
-    pass: Pass<K, FlatWeigh>,
-    place: usize,
-}
 
 // A child is started and deleted now and then, and between these the newest change is pushed to a node of the same name. Few dots are
 // made, since each costs every later call.
@@ -39,60 +28,19 @@ fn act(rt: &(impl Abort + AllocGlobal), of: &str, now: u64) -> Act {
 // Makes the calls of one thread, each at the next moment.
 fn works<K: Keeper>(
     rt: &(impl Abort + Wait + AllocGlobal),
-    at: &NodeGate<K, FlatWeigh>,
-    job: Job<K>,
+    gate: &NodeGate<K, FlatWeigh>,
+    pass: Pass<K, FlatWeigh>,
+    of: &str,
 ) -> Pass<K, FlatWeigh>
-    requires { IsOf K.kept at.now job.pass }
-    ensures { IsOf K.kept at.now result }
+    requires { IsOf K.kept gate.now pass }
+    ensures { IsOf K.kept gate.now result }
 {
-    let Job { mut pass, place } = job;
-    let of = NAMES.get(place).expect(rt, "a name");
+    let mut pass = pass;
     for now in 0..CALLS {
-        let answer = at.call(rt, &mut pass, act(rt, of, now), now, &FlatWeigh);
+        let answer = gate.call(rt, &mut pass, act(rt, of, now), now, &FlatWeigh);
         assert!(rt; answer.is_ok());
     }
     pass
-}
-
-// A job for each of so many threads.
-fn jobs<K: Keeper>(
-    alloc: Global,
-    at: &NodeGate<K, FlatWeigh>,
-    pass: Pass<K, FlatWeigh>,
-    threads: usize,
-) -> Result<Vec<Job<K>>, AllocError>
-    requires { IsOf K.kept at.now pass }
-    ensures { IfOk result (λ jobs. All (λ job. IsOf K.kept at.now job.pass) jobs.items) }
-{
-    let mut jobs = Vec::new(alloc);
-    let mut rest = pass;
-    for place in 1..threads {
-        let (first, pass) = at.split(rest);
-        jobs.push(Job { pass, place })?;
-        rest = first;
-    }
-    jobs.push(Job {
-        pass: rest,
-        place: 0,
-    })?;
-    Ok(jobs)
-}
-
-// One pass in place of all.
-fn joined<K: Keeper>(
-    rt: &impl Abort,
-    at: &NodeGate<K, FlatWeigh>,
-    passes: Vec<Pass<K, FlatWeigh>>,
-) -> Pass<K, FlatWeigh>
-    requires { All (IsOf K.kept at.now) passes.items }
-    ensures { IsOf K.kept at.now result }
-{
-    let mut passes = passes;
-    let mut all = passes.pop().expect(rt, "a pass");
-    for pass in passes {
-        all = at.join(all, pass);
-    }
-    all
 }
 
 // The history, where the acts of each of these names stand in it once and in its order; and it replays from a new station.
@@ -110,28 +58,27 @@ fn judges(rt: &(impl Abort + AllocGlobal), history: &[Entry], names: &[&str]) {
     }
 }
 
-// So many threads at one gate.
-fn share<R: Threads + Wait + Abort + AllocGlobal + Sync>(rt: &R, threads: usize) {
-    let (at, pass) = gate(rt, station(rt, "a", MemKeeper::new(rt.alloc())));
-    let jobs = jobs(rt.alloc(), &at, pass, threads).expect(rt, "room");
-    let passes = thread::map_vec(rt, jobs, &|job| works(rt, &at, job)).expect(rt, "room");
-    let pass = joined(rt, &at, passes);
-    let Some((_station, history)) = at.close(pass) else {
+fn two_share<R: Threads + Wait + Abort + AllocGlobal + Sync>(rt: &R) {
+    let of = station(rt, "a", MemKeeper::new(rt.alloc()));
+    let Ok((gate, pass)) = NodeGate::<MemKeeper, FlatWeigh>::new(rt.alloc(), of, MAX_BOUND) else {
+        panic!(rt; "no room")
+    };
+    let (left, right) = gate.split(pass);
+    let (left, right) = join(
+        rt,
+        || works(rt, &gate, left, "x"),
+        || works(rt, &gate, right, "y"),
+    );
+    let pass = gate.join(left, right);
+    let Some((_station, history)) = gate.close(pass) else {
         panic!(rt; "a turn is held")
     };
-    judges(rt, &history, &NAMES[..threads]);
+    judges(rt, &history, &["x", "y"]);
 }
 
 #[test]
 fn the_calls_of_two_threads_make_one_history(rt: HostRuntime) {
     for _ in 0..RUNS {
-        share(&rt, 2);
-    }
-}
-
-#[test]
-fn the_calls_of_four_threads_make_one_history(rt: HostRuntime) {
-    for _ in 0..RUNS {
-        share(&rt, 4);
+        two_share(&rt);
     }
 }

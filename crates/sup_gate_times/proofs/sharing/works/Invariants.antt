@@ -1,5 +1,0 @@
-use Rattle.sup_node_gate.specs.Gates.{IsOf}
-use Rattle.sup_gate_times.proofs.sharing.works.Given as goal
-
-abbrev pub invariant-loop-now : goal.invariant-loop-now
-invariant-loop-now g l = IsOf g.K.Keeper.kept l.at l.pass
