@@ -1,8 +1,8 @@
 //! Jobs that run at once, each in a thread of its own, where their number is known only at run time.
 //!
 //! What each job gave is known by what the work says of it, place by place: `run_all` gives a result for each job, in the order of the
-//! jobs, and `run_beside` one more, of a job that the calling thread does meanwhile. Jobs may wait for one another, since none begins only
-//! where another one has ended: a thread that can't be made is refused.
+//! jobs, `run_beside` one more, of a job that the calling thread does meanwhile, and `run_teams` the results of jobs that come in teams,
+//! team by team. Jobs may wait for one another, since none begins only where another one has ended: a thread that can't be made is refused.
 //!
 //! ```rust
 //! use sup_crew::{Work, run_all};
@@ -27,8 +27,13 @@
 mod all;
 mod beside;
 mod starts;
+mod team;
+mod team_threads;
+mod teams;
 mod work;
 
 pub use all::run_all;
 pub use beside::run_beside;
+pub use team::Team;
+pub use teams::run_teams;
 pub use work::Work;

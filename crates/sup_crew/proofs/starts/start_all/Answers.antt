@@ -10,5 +10,5 @@ loop-job-preserved g c = (
   append_assoc c.loop-job.yielded (c.in-Some.job ∷ []) c.next.new.self.rest.items ∙ (ap (λ l. c.loop-job.yielded ++ l) (sym (search rules)) ∙ c.loop-job.invariant.0),
   All-rest (g.W.Work.takes c.args.work.now) c.in-Some.job _ _ (search rules) c.loop-job.invariant.1,
   subst (AllZip (IsFor c.args.work.now) (c.loop-job.yielded ++ c.in-Some.job ∷ [])) (sym (search rules))
-      (all_zipped_more (IsFor c.args.work.now) c.loop-job.yielded c.loop-job.handles.items c.in-Some.job c.in_ok-started.started c.loop-job.invariant.2 (ap (λ p. p.job.value) c.in_ok-started.ensures.ok ∙ c.of.ensures, ap (λ p. p.work.value) c.in_ok-started.ensures.ok ∙ c.of-in-loop-job.ensures)),
+      (all_zipped_more (IsFor c.args.work.now) c.loop-job.yielded c.loop-job.handles.items c.in-Some.job c.in_ok-started.started c.loop-job.invariant.2 c.in_ok-started.ensures),
 )
