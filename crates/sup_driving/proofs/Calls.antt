@@ -1,0 +1,56 @@
+-- What a call does to a pass.
+use Rattle.std.proofs.Common.{◌≡◌, ℕ, true, List, [], ◌∷◌, ◌++◌, Ok, Err, append_assoc, append-nil, refl, ap, ◌∙◌, sym, subst}
+use Rattle.std.proofs.lemmas.Grind.{flat_map-append}
+use Rattle.sup_specs.specs.Values.{Bytes}
+use Rattle.sup_placement.specs.Place.{Weigher}
+use Rattle.sup_replica.specs.declared.event.Act.{Act}
+use Rattle.sup_replica.specs.declared.event.Act.TheVariants.{Event as Of}
+use Rattle.sup_replica.specs.declared.event.Event.TheVariants.{Deliver}
+use Rattle.sup_replica.specs.declared.refusal.Refusal.{Refusal}
+use Rattle.sup_replica.specs.declared.refusal.Refusal.TheVariants.{OutOfMemory, HistoryFull}
+use Rattle.sup_station.specs.Stills.{Still}
+use Rattle.sup_node_gate.specs.declared.entry.Entry.{Entry}
+use Rattle.sup_node_gate.specs.declared.view.View.{View}
+use Rattle.sup_node_gate.specs.Histories.{Answer, Standing, entered, standing_of, is_entered, may_enter, IsPrefix, entry}
+use Rattle.sup_node_gate.specs.Calls.{Enters, Refuses, Acts}
+use Rattle.sup_plan.specs.Calls.{brought, deliveries}
+use Rattle.sup_plan.specs.Sublists.{Sublist}
+use Rattle.sup_driving.specs.Called.{Called, SeesMore, letter_of}
+use Rattle.sup_driving.proofs.Sublists.{sub_more, sub_both}
+
+stands : (r : Refusal) → is_entered r ≡ true → standing_of r ≡ entered
+stands HistoryFull e = absurd cc
+stands OutOfMemory e = absurd cc
+stands r e = refl
+
+entered_called : (g : Weigher) (s : Still) (v : View) (a : Act) (now : ℕ) (r : Answer) (v' : View) → Enters g s v (entry a now r) v' → Called v a now (letter_of r) v'
+entered_called g s v a now r v' e = record { answer = r; before = e.before; begins = e.begins; ends = e.ends; letter_is = refl }
+
+-- a call whose answer is entered
+pub acts_called : (g : Weigher) (s : Still) (bound : ℕ) (v : View) (a : Act) (now : ℕ) (r : Answer) (v' : View) → Acts g s bound v a now r v' → may_enter r ≡ true → Called v a now (letter_of r) v'
+acts_called g s bound v a now (Ok done) v' acts may = entered_called g s v a now (Ok done) v' acts
+acts_called g s bound v a now (Err r) v' acts may =
+    entered_called g s v a now (Err r) v' (subst (λ (k : Standing). Refuses k g s bound v (entry a now (Err r)) v') (stands r may) acts)
+
+pub more_then : (u v w : View) → SeesMore u v → SeesMore v w → SeesMore u w
+more_then u v w p q = (p.0 ++ q.0, q.1 ∙ (ap (λ l. l ++ q.0) p.1 ∙ append_assoc u.seen p.0 q.0))
+
+pub more_none : (v : View) → SeesMore v v
+more_none v = ([], sym (append-nil v.seen))
+
+pub called_more : (v : View) (a : Act) (now : ℕ) (letter : _) (v' : View) → Called v a now letter v' → SeesMore v v'
+called_more v a now letter v' c = let e = entry a now c.answer in
+    (c.begins.0 ++ e ∷ [], c.ends ∙ (ap (λ l. l ++ e ∷ []) c.begins.1 ∙ append_assoc v.seen c.begins.0 (e ∷ [])))
+
+pub more_deliveries : (texts : List Bytes) (v v' : View) → SeesMore v v' → Sublist texts (deliveries v.seen) → Sublist texts (deliveries v'.seen)
+more_deliveries texts v v' p h =
+    subst (Sublist texts) (sym (ap deliveries p.1 ∙ flat_map-append (λ (e : Entry). brought e.act) v.seen p.0)) (sub_more texts (deliveries v.seen) (deliveries p.0) h)
+
+-- one message more was brought
+pub delivered_one : (texts : List Bytes) (v : View) (m : _) (text : Bytes) (now : ℕ) (letter : _) (v' : View) → Called v (Of (Deliver m)) now letter v' → m ≡ text
+    → Sublist texts (deliveries v.seen) → Sublist (texts ++ text ∷ []) (deliveries v'.seen)
+delivered_one texts v m text now letter v' c is h = let e = entry (Of (Deliver m)) now c.answer in
+    subst (λ l. Sublist (texts ++ l ∷ []) (deliveries v'.seen)) is
+    (subst (Sublist (texts ++ m ∷ [])) (sym (ap deliveries c.ends ∙ flat_map-append (λ (x : Entry). brought x.act) c.before (e ∷ [])))
+    (sub_both texts (deliveries c.before) (m ∷ [])
+    (subst (Sublist texts) (sym (ap deliveries c.begins.1 ∙ flat_map-append (λ (x : Entry). brought x.act) v.seen c.begins.0)) (sub_more texts (deliveries v.seen) (deliveries c.begins.0) h))))

@@ -1,0 +1,3 @@
+pub mod Sublists
+pub mod Calls
+pub mod Wires

@@ -1,0 +1,5 @@
+pub mod Called
+pub mod Faults
+pub mod Gathering
+pub mod Teams
+pub mod Wires

@@ -1,0 +1,79 @@
+-- A driver and its receivers: what their threads are given, and give back (this project).
+use Rattle.std.specs.Prelude.{◌≡◌, true, List, [], map, slice_get, Some}
+use Rattle.std.specs.List.{AllZip}
+use Rattle.sup_placement.specs.declared.weigh.Weigh.{Ghosts as WeighGhosts}
+use Rattle.sup_station.specs.Opening.{kept_by}
+use Rattle.sup_node_gate.specs.declared.entry.Entry.{Entry}
+use Rattle.sup_node_gate.specs.Gates.{IsOf, view_of}
+use Rattle.sup_links.specs.declared.link_in.Sent.{Sent}
+use Rattle.sup_links.specs.Ends.{SameOut, IsSentOf, script_of, sent_script, sent_put, taken_of, has_ended}
+use Rattle.sup_plan.specs.Calls.{call_of, asked, letters_to, deliveries}
+use Rattle.sup_plan.specs.Sublists.{Sublist}
+use Rattle.sup_posts.specs.Jobs.{Takes}
+use Rattle.sup_posts.specs.declared.post.Post.{Post}
+use Rattle.sup_posts.specs.declared.jobs.Lane.{Lane}
+use Rattle.sup_posts.specs.declared.jobs.Drive.{Drive}
+use Rattle.sup_crew.specs.declared.team.Team.{Team}
+use Rattle.sup_crew.specs.Teams.{AllOfTeam}
+use Rattle.sup_driving.specs.declared.teams.Steer.{Steer}
+use Rattle.sup_driving.specs.declared.teams.Receive.{Receive}
+use Rattle.sup_driving.specs.declared.wires.Wire.{Wire}
+use Rattle.sup_driving.specs.declared.work.Steered.{Steered}
+use Rattle.sup_driving.specs.declared.work.Received.{Received}
+
+-- the link was ended, and what was put has the letters of these entries to its node
+pub record HasSent (entries : List Entry) (wire : Wire) (sent : Sent) : Type 0 where
+  pub link : IsSentOf sent wire.entry
+  pub script : sent_script sent ≡ script_of wire.entry
+  pub letters : Sublist (letters_to wire.to entries) (sent_put sent)
+
+module _ {W : Type 0} {h : WeighGhosts W} where
+  -- a driver's end of a link
+  pub record IsWireOf (posts : List (Post W h)) (lane : Lane W h) (wire : Wire) : Type 0 where
+    pub post : Post W h
+    pub stands : slice_get posts lane.to ≡ Some post
+    pub to : wire.to ≡ post.name
+    pub entry : wire.entry ≡ lane.entry
+
+  -- what the receiver of a link is given
+  pub record IsReceiveOf (posts : List (Post W h)) (lane : Lane W h) (receive : Receive W h) : Type 0 where
+    pub stands : slice_get posts lane.to ≡ Some receive.post.now
+    pub to : receive.to ≡ lane.to
+    pub seat : receive.seat ≡ lane.seat
+    pub exit : receive.exit ≡ lane.exit
+
+  -- what a driver and its receivers are given
+  pub record IsTeamOf (posts : List (Post W h)) (drive : Drive W h) (team : Team (Steer W h) (Receive W h)) : Type 0 where
+    pub takes : Takes posts drive
+    pub stands : slice_get posts drive.at ≡ Some team.lead.post.now
+    pub commands : team.lead.commands ≡ drive.commands
+    pub wires : AllZip (IsWireOf posts) drive.lanes.items team.lead.wires.items
+    pub others : AllZip (IsReceiveOf posts) drive.lanes.items team.others.items
+
+  -- the pass is of the node's gate
+  abbrev pub IsReadyToSteer : Steer W h → Type 0
+  IsReadyToSteer s = IsOf kept_by s.post.now.gate s.seat
+
+  -- the pass is of the node's gate, and nothing was taken from the link
+  pub record IsReadyToReceive (r : Receive W h) : Type 0 where
+    pub seat : IsOf kept_by r.post.now.gate r.seat
+    pub none : taken_of r.exit ≡ []
+
+  abbrev pub IsReady : Team (Steer W h) (Receive W h) → Type 0
+  IsReady team = AllOfTeam IsReadyToSteer IsReadyToReceive team
+
+  -- the commands stand in order, each once with its moment, in what the driver's pass has seen, and their letters were sent
+  pub record Steers (steer : Steer W h) (steered : Steered W h) : Type 0 where
+    pub seat : IsOf kept_by steer.post.now.gate steered.seat
+    pub entries : List Entry
+    pub are : map call_of entries ≡ map asked steer.commands.items
+    pub stand : Sublist entries (view_of steered.seat).seen
+    pub sent : AllZip (HasSent entries) steer.wires.items steered.sent.items
+
+  -- all that came out of the link was delivered, in its order
+  pub record Receives (receive : Receive W h) (received : Received W h) : Type 0 where
+    pub seat : IsOf kept_by receive.post.now.gate received.seat
+    pub to : received.to ≡ receive.to
+    pub link : SameOut receive.exit received.exit
+    pub ended : has_ended received.exit ≡ true
+    pub delivered : Sublist (taken_of received.exit) (deliveries (view_of received.seat).seen)

@@ -1,0 +1,45 @@
+-- The links of a driver, and what its node's calls put into them (this project).
+use Rattle.std.specs.Prelude.{◌≡◌, List, [], ◌∷◌, ◌++◌, map, Option, Some, None}
+use Rattle.sup_specs.specs.Values.{Bytes}
+use Rattle.sup_replica.specs.declared.letter.Letter.{Letter}
+use Rattle.sup_node_gate.specs.declared.entry.Entry.{Entry}
+use Rattle.sup_links.specs.declared.link_in.Sent.{Sent}
+use Rattle.sup_links.specs.Ends.{SameIn, IsSentOf, script_of, put_of, sent_script, sent_put}
+use Rattle.sup_plan.specs.Calls.{Call, call_of, text_to, letters_to}
+use Rattle.sup_plan.specs.Sublists.{Sublist}
+use Rattle.sup_driving.specs.declared.wires.Wire.{Wire}
+
+-- the same link's end later on: it was put more, or nothing
+pub record IsLater (old new : Wire) : Type 0 where
+  pub to : new.to ≡ old.to
+  pub link : SameIn old.entry new.entry
+  pub script : script_of new.entry ≡ script_of old.entry
+  pub rest : List Bytes
+  pub put : put_of new.entry ≡ put_of old.entry ++ rest
+
+-- the letter was put last, if there is one and it is for the link's node
+pub record HasPut (letter : Option Letter) (old new : Wire) : Type 0 where
+  pub later : IsLater old new
+  pub put : put_of new.entry ≡ put_of old.entry ++ text_to old.to letter
+
+-- each of these has it
+abbrev pub Each : {X : Type 0} → (X → Type 0) → List X → Type 0
+Each P [] = Unit {0}
+Each P (x ∷ xs) = P x × Each P xs
+
+-- the letters of these entries were put, in their order
+abbrev pub HasLetters : List Entry → Wire → Type 0
+HasLetters entries wire = Sublist (letters_to wire.to entries) (put_of wire.entry)
+
+-- the calls stand in what was seen, in their order, and their letters were put
+pub record Did (calls : List Call) (seen : List Entry) (wires : List Wire) : Type 0 where
+  pub entries : List Entry
+  pub are : map call_of entries ≡ calls
+  pub stand : Sublist entries seen
+  pub put : Each (HasLetters entries) wires
+
+-- the link was ended with all that was put
+pub record IsEnded (wire : Wire) (sent : Sent) : Type 0 where
+  pub link : IsSentOf sent wire.entry
+  pub script : sent_script sent ≡ script_of wire.entry
+  pub put : sent_put sent ≡ put_of wire.entry

@@ -1,0 +1,90 @@
+//! What a node has done with its children, told the runner.
+ghost use Rattle.std.specs.Prelude.{OnOk};
+ghost use Rattle.sup_node_gate.specs.Gates.{IsOf, view_of};
+ghost use Rattle.sup_station.specs.Opening.{kept_by};
+ghost use Rattle.sup_driving.specs.Called.{SeesMore};
+
+use crate::calling::Brought;
+use crate::fault::ThreadFault;
+use crate::field::Field;
+use crate::outbox::lay;
+use crate::runner::Runner;
+use std::collections::VecDeque;
+use std::sync::Wait;
+use sup_local_sup::{Effect, Effects, Incarnation};
+use sup_placement::Weigh;
+use sup_posts::{Post, Seat};
+use sup_replica::{Act, Event};
+use sup_specs::{ChildId, ExitReason};
+
+impl<'a, R: Wait, W: Weigh, N: Runner, C> Field<'a, R, W, N, C> {
+    // Tells the runner all effects, and those of the exits of children that didn't start, in the order in which the node answered them.
+    pub(crate) fn act_all(
+        &self,
+        post: &Post<W>,
+        seat: &mut Seat<W>,
+        effects: Effects,
+        now: u64,
+    ) -> Result<(), ThreadFault>
+        requires { IsOf kept_by post.now.gate seat.old }
+        ensures of { IsOf kept_by post.now.gate seat.new }
+        ensures seen { OnOk result (SeesMore (view_of seat.old) (view_of seat.new)) }
+    {
+        let mut waiting = VecDeque::new(self.alloc);
+        waiting.push_back(effects)?;
+        for _ in self.rt.forever() {
+            let Some(effects) = waiting.pop_front() else {
+                return Ok(());
+            };
+            self.tell(post, seat, effects.as_slice(), now, &mut waiting)?;
+        }
+        unreachable!()
+    }
+
+    // Tells the runner these effects. What the exits of children that didn't start bring is left to be told.
+    fn tell(
+        &self,
+        post: &Post<W>,
+        seat: &mut Seat<W>,
+        effects: &[Effect],
+        now: u64,
+        waiting: &mut VecDeque<Effects>,
+    ) -> Result<(), ThreadFault>
+        requires { IsOf kept_by post.now.gate seat.old }
+        ensures of { IsOf kept_by post.now.gate seat.new }
+        ensures seen { OnOk result (SeesMore (view_of seat.old) (view_of seat.new)) }
+    {
+        for effect in effects {
+            if self.runner.act(&post.name, effect) {
+                continue;
+            }
+            if let Effect::Start { id, inc, .. } = effect {
+                waiting.push_back(self.exit(post, seat, id, *inc, now)?)?;
+            }
+        }
+        Ok(())
+    }
+
+    // Calls the exit of a child that didn't start.
+    fn exit(
+        &self,
+        post: &Post<W>,
+        seat: &mut Seat<W>,
+        id: &ChildId,
+        inc: Incarnation,
+        now: u64,
+    ) -> Result<Effects, ThreadFault>
+        requires { IsOf kept_by post.now.gate seat.old }
+        ensures of { IsOf kept_by post.now.gate seat.new }
+        ensures seen { OnOk result (SeesMore (view_of seat.old) (view_of seat.new)) }
+    {
+        let event = Event::Exit {
+            id: id.try_clone(self.alloc)?,
+            inc,
+            reason: ExitReason::Failed,
+        };
+        let Brought { effects, letter } = self.call(post, seat, Act::Event(event), now)?;
+        lay(self.rt, &post.outbox, letter)?;
+        Ok(effects)
+    }
+}

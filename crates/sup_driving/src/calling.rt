@@ -1,0 +1,87 @@
+//! A call at a node's gate.
+ghost use Rattle.std.specs.Prelude.{◌≡◌, true, IfOk, OnOk};
+ghost use Rattle.sup_node_gate.specs.Gates.{IsOf, view_of};
+ghost use Rattle.sup_node_gate.specs.Histories.{may_enter};
+ghost use Rattle.sup_station.specs.Opening.{kept_by};
+ghost use Rattle.sup_driving.specs.Called.{Called, letter_of};
+
+use crate::fault::ThreadFault;
+use crate::field::Field;
+use std::alloc::Global;
+use std::sync::Wait;
+use sup_local_sup::Effects;
+use sup_placement::Weigh;
+use sup_posts::{Post, Seat};
+use sup_replica::{Act, Done, Letter, Refusal};
+
+/// What is left to be done of an answer.
+#[derive(Drop)]
+pub(crate) struct Brought {
+    pub(crate) effects: Effects,
+    pub(crate) letter: Option<Letter>,
+}
+
+// Whether an answer is entered.
+fn is_entered(answer: &Result<Done, Refusal>) -> bool
+    ensures { result ≡ may_enter answer.now }
+{
+    match answer {
+        Ok(_) => true,
+        Err(refusal) => !matches!(refusal, Refusal::OutOfMemory | Refusal::HistoryFull),
+    }
+}
+
+// The fault of an answer that isn't entered.
+fn entered(answer: &Result<Done, Refusal>) -> Result<(), ThreadFault>
+    ensures { OnOk result (may_enter answer.now ≡ true) }
+{
+    if is_entered(answer) {
+        return Ok(());
+    }
+    Err(match answer {
+        Err(Refusal::HistoryFull) => ThreadFault::HistoryFull,
+        _ => ThreadFault::OutOfMemory,
+    })
+}
+
+// What is left to be done of an answer. A refusal has nothing.
+fn brought(alloc: Global, answer: Result<Done, Refusal>) -> Brought
+    ensures { result.letter ≡ letter_of answer }
+{
+    match answer {
+        Ok(done) => {
+            let Done {
+                reply: _,
+                effects,
+                out,
+            } = done;
+            Brought {
+                effects,
+                letter: out,
+            }
+        }
+        Err(_) => Brought {
+            effects: Effects::new(Vec::new(alloc)),
+            letter: None,
+        },
+    }
+}
+
+impl<'a, R: Wait, W: Weigh, N, C> Field<'a, R, W, N, C> {
+    // One act of the node, at a moment: what is left to be done of its answer.
+    pub(crate) fn call(
+        &self,
+        post: &Post<W>,
+        seat: &mut Seat<W>,
+        act: Act,
+        now: u64,
+    ) -> Result<Brought, ThreadFault>
+        requires { IsOf kept_by post.now.gate seat.old }
+        ensures of { IsOf kept_by post.now.gate seat.new }
+        ensures called { IfOk result (λ brought. Called (view_of seat.old) act now brought.letter (view_of seat.new)) }
+    {
+        let answer = post.gate.call(self.rt, seat, act, now, self.weigher);
+        entered(&answer)?;
+        Ok(brought(self.alloc, answer))
+    }
+}

@@ -1,0 +1,52 @@
+//! The threads of a run, all at once.
+ghost use Rattle.std.specs.Prelude.{All, IfOk};
+ghost use Rattle.std.specs.List.{AllZip};
+ghost use Rattle.sup_posts.specs.Jobs.{Takes, Gives};
+
+use crate::field::Field;
+use crate::gathering::gather_all;
+use crate::runner::{Checkpoint, Runner};
+use crate::teams::split_all;
+use std::alloc::{AllocError, Global};
+use std::sync::Wait;
+use std::thread::Threads;
+use sup_crew::run_teams;
+use sup_placement::Weigh;
+use sup_posts::{Drive, Driven, Post, RunFault};
+
+/// Does the jobs of the drivers of these nodes, each in a thread of its own, with one more for each of their links, and gives what each
+/// driver hands back, in their order: its commands stand in its node's history, each once with its moment, and what the links make of
+/// their letters stands among the other nodes' deliveries. Of the faults of a driver and of the receivers behind its links the gravest is
+/// told: want of memory before a full history, and that before a closed link.
+///
+/// # Errors
+///
+/// Where memory was refused, or a thread couldn't be made.
+pub fn launch<
+    R: Threads + Wait + Sync,
+    W: Weigh + Send + Sync,
+    N: Runner + Sync,
+    C: Checkpoint + Sync,
+>(
+    rt: &R,
+    alloc: Global,
+    weigher: &W,
+    runner: &N,
+    checkpoint: &C,
+    posts: &[Post<W>],
+    drives: Vec<Drive<W>>,
+) -> Result<Vec<Result<Driven<W>, RunFault>>, AllocError>
+    requires { All (Takes posts.now) drives.items }
+    ensures { IfOk result (λ results. AllZip (Gives posts.now) drives.items results.items) }
+{
+    let teams = split_all(alloc, posts, drives)?;
+    let field = Field {
+        rt,
+        alloc,
+        weigher,
+        runner,
+        checkpoint,
+    };
+    let done = run_teams(rt, alloc, teams, &field)?;
+    gather_all(alloc, done)
+}

@@ -1,0 +1,23 @@
+//! The threads of a running cluster: what a node's driver does, and the receivers of its links.
+//!
+//! Every node has a driver, which gives it its commands in their order and puts the letters of their answers into the links to the other
+//! nodes. Behind each of these links a receiver takes what comes, and gives it to the node there. A receiver puts no letters: those that
+//! its node answers lie in the node's outbox until that node's driver puts them. What a node has done with children is told a runner.
+#![tactic(auto)]
+
+mod acting;
+mod calling;
+mod driving;
+mod fault;
+mod field;
+mod gathering;
+mod launch;
+mod outbox;
+mod receiving;
+mod runner;
+mod teams;
+mod wires;
+mod work;
+
+pub use launch::launch;
+pub use runner::{Checkpoint, Quiet, Runner};

@@ -1,0 +1,68 @@
+//! What a receiver does.
+ghost use Rattle.std.specs.Prelude.{◌≡◌, ◌++◌, [], ◌∷◌, true, OnOk, List};
+ghost use Rattle.sup_specs.specs.Values.{Bytes};
+ghost use Rattle.sup_node_gate.specs.Gates.{IsOf, view_of};
+ghost use Rattle.sup_station.specs.Opening.{kept_by};
+ghost use Rattle.sup_links.specs.Ends.{SameOut, taken_of, has_ended};
+ghost use Rattle.sup_plan.specs.Calls.{deliveries};
+ghost use Rattle.sup_plan.specs.Sublists.{Sublist};
+
+use crate::calling::Brought;
+use crate::fault::ThreadFault;
+use crate::field::Field;
+use crate::outbox::lay;
+use crate::runner::Runner;
+use std::sync::Wait;
+use sup_links::LinkOut;
+use sup_placement::Weigh;
+use sup_posts::{Post, Seat};
+use sup_replica::{Act, Event, MessageText};
+
+// The moment of all deliveries.
+const MOMENT: u64 = 0;
+
+impl<'a, R: Wait, W: Weigh, N: Runner, C> Field<'a, R, W, N, C> {
+    // Gives the node a message. Its answer's letter lies in the outbox before the runner is told what is to be done.
+    fn deliver(
+        &self,
+        post: &Post<W>,
+        seat: &mut Seat<W>,
+        text: Vec<u8>,
+    ) -> Result<(), ThreadFault>
+        requires { IsOf kept_by post.now.gate seat.old }
+        ensures of { IsOf kept_by post.now.gate seat.new }
+        ensures delivered { (texts : List Bytes) → Sublist texts (deliveries (view_of seat.old).seen)
+            → OnOk result (Sublist (texts ++ text.items ∷ []) (deliveries (view_of seat.new).seen)) }
+    {
+        let act = Act::Event(Event::Deliver(MessageText::new(text)));
+        let Brought { effects, letter } = self.call(post, seat, act, MOMENT)?;
+        lay(self.rt, &post.outbox, letter)?;
+        self.act_all(post, seat, effects, MOMENT)
+    }
+
+    // Gives the node all messages that come out of a link, in their order, until its end.
+    pub(crate) fn receive(
+        &self,
+        post: &Post<W>,
+        seat: &mut Seat<W>,
+        exit: &mut LinkOut,
+    ) -> Result<(), ThreadFault>
+        requires of { IsOf kept_by post.now.gate seat.old }
+        requires none { taken_of exit.old ≡ [] }
+        ensures of { IsOf kept_by post.now.gate seat.new }
+        ensures link { SameOut exit.old exit.new }
+        ensures ended { OnOk result (has_ended exit.new ≡ true) }
+        ensures delivered { OnOk result (Sublist (taken_of exit.new) (deliveries (view_of seat.new).seen)) }
+    {
+        for _ in self.rt.forever() {
+            let Ok(taken) = exit.take(self.rt) else {
+                return Err(ThreadFault::LinkClosed);
+            };
+            let Some(text) = taken else {
+                return Ok(());
+            };
+            self.deliver(post, seat, text)?;
+        }
+        unreachable!()
+    }
+}
