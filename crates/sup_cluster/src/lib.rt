@@ -10,6 +10,7 @@ mod dealing;
 mod joining;
 mod launching;
 mod opening;
-pub mod run;
+mod running;
 
-pub use run::{Launch, run_by};
+pub use running::run;
+pub use sup_driving::{Checkpoint, Quiet, Runner};

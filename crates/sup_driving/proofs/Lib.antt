@@ -1,3 +1,7 @@
 pub mod Sublists
 pub mod Calls
-pub mod Wires
+pub mod Puts
+pub mod Names
+pub mod Places
+pub mod Gathers
+pub mod Launches

@@ -2,14 +2,13 @@
 use Rattle.std.specs.Prelude.{◌≡◌, true, List, [], map, slice_get, Some}
 use Rattle.std.specs.List.{AllZip}
 use Rattle.sup_placement.specs.declared.weigh.Weigh.{Ghosts as WeighGhosts}
-use Rattle.sup_station.specs.Opening.{kept_by}
 use Rattle.sup_node_gate.specs.declared.entry.Entry.{Entry}
-use Rattle.sup_node_gate.specs.Gates.{IsOf, view_of}
+use Rattle.sup_node_gate.specs.Gates.{view_of}
 use Rattle.sup_links.specs.declared.link_in.Sent.{Sent}
 use Rattle.sup_links.specs.Ends.{SameOut, IsSentOf, script_of, sent_script, sent_put, taken_of, has_ended}
 use Rattle.sup_plan.specs.Calls.{call_of, asked, letters_to, deliveries}
 use Rattle.sup_plan.specs.Sublists.{Sublist}
-use Rattle.sup_posts.specs.Jobs.{Takes}
+use Rattle.sup_posts.specs.Jobs.{IsSeatAt, Takes}
 use Rattle.sup_posts.specs.declared.post.Post.{Post}
 use Rattle.sup_posts.specs.declared.jobs.Lane.{Lane}
 use Rattle.sup_posts.specs.declared.jobs.Drive.{Drive}
@@ -36,43 +35,41 @@ module _ {W : Type 0} {h : WeighGhosts W} where
     pub entry : wire.entry ≡ lane.entry
 
   -- what the receiver of a link is given
-  pub record IsReceiveOf (posts : List (Post W h)) (lane : Lane W h) (receive : Receive W h) : Type 0 where
-    pub stands : slice_get posts lane.to ≡ Some receive.post.now
+  pub record IsReceiveOf (lane : Lane W h) (receive : Receive W h) : Type 0 where
     pub to : receive.to ≡ lane.to
-    pub seat : receive.seat ≡ lane.seat
     pub exit : receive.exit ≡ lane.exit
 
   -- what a driver and its receivers are given
   pub record IsTeamOf (posts : List (Post W h)) (drive : Drive W h) (team : Team (Steer W h) (Receive W h)) : Type 0 where
     pub takes : Takes posts drive
-    pub stands : slice_get posts drive.at ≡ Some team.lead.post.now
+    pub at : team.lead.at ≡ drive.at
     pub commands : team.lead.commands ≡ drive.commands
     pub wires : AllZip (IsWireOf posts) drive.lanes.items team.lead.wires.items
-    pub others : AllZip (IsReceiveOf posts) drive.lanes.items team.others.items
+    pub others : AllZip IsReceiveOf drive.lanes.items team.others.items
 
-  -- the pass is of the node's gate
-  abbrev pub IsReadyToSteer : Steer W h → Type 0
-  IsReadyToSteer s = IsOf kept_by s.post.now.gate s.seat
+  -- the pass is of the gate of the node at this place
+  abbrev pub IsReadyToSteer : List (Post W h) → Steer W h → Type 0
+  IsReadyToSteer posts s = IsSeatAt posts s.at s.seat
 
-  -- the pass is of the node's gate, and nothing was taken from the link
-  pub record IsReadyToReceive (r : Receive W h) : Type 0 where
-    pub seat : IsOf kept_by r.post.now.gate r.seat
+  -- the same, and nothing was taken from the link
+  pub record IsReadyToReceive (posts : List (Post W h)) (r : Receive W h) : Type 0 where
+    pub seat : IsSeatAt posts r.to r.seat
     pub none : taken_of r.exit ≡ []
 
-  abbrev pub IsReady : Team (Steer W h) (Receive W h) → Type 0
-  IsReady team = AllOfTeam IsReadyToSteer IsReadyToReceive team
+  abbrev pub IsReady : List (Post W h) → Team (Steer W h) (Receive W h) → Type 0
+  IsReady posts team = AllOfTeam (IsReadyToSteer posts) (IsReadyToReceive posts) team
 
   -- the commands stand in order, each once with its moment, in what the driver's pass has seen, and their letters were sent
-  pub record Steers (steer : Steer W h) (steered : Steered W h) : Type 0 where
-    pub seat : IsOf kept_by steer.post.now.gate steered.seat
+  pub record Steers (posts : List (Post W h)) (steer : Steer W h) (steered : Steered W h) : Type 0 where
+    pub seat : IsSeatAt posts steer.at steered.seat
     pub entries : List Entry
     pub are : map call_of entries ≡ map asked steer.commands.items
     pub stand : Sublist entries (view_of steered.seat).seen
     pub sent : AllZip (HasSent entries) steer.wires.items steered.sent.items
 
   -- all that came out of the link was delivered, in its order
-  pub record Receives (receive : Receive W h) (received : Received W h) : Type 0 where
-    pub seat : IsOf kept_by receive.post.now.gate received.seat
+  pub record Receives (posts : List (Post W h)) (receive : Receive W h) (received : Received W h) : Type 0 where
+    pub seat : IsSeatAt posts receive.to received.seat
     pub to : received.to ≡ receive.to
     pub link : SameOut receive.exit received.exit
     pub ended : has_ended received.exit ≡ true

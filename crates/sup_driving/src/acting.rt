@@ -15,7 +15,7 @@ use sup_local_sup::{Effect, Effects, Incarnation};
 use sup_placement::Weigh;
 use sup_posts::{Post, Seat};
 use sup_replica::{Act, Event};
-use sup_specs::{ChildId, ExitReason};
+use sup_specs::{ChildId, ExitReason, Plain};
 
 impl<'a, R: Wait, W: Weigh, N: Runner, C> Field<'a, R, W, N, C> {
     // Tells the runner all effects, and those of the exits of children that didn't start, in the order in which the node answered them.
@@ -31,7 +31,9 @@ impl<'a, R: Wait, W: Weigh, N: Runner, C> Field<'a, R, W, N, C> {
         ensures seen { OnOk result (SeesMore (view_of seat.old) (view_of seat.new)) }
     {
         let mut waiting = VecDeque::new(self.alloc);
-        waiting.push_back(effects)?;
+        let Ok(()) = waiting.push_back(effects) else {
+            return Err(ThreadFault::OutOfMemory);
+        };
         for _ in self.rt.forever() {
             let Some(effects) = waiting.pop_front() else {
                 return Ok(());
@@ -58,9 +60,13 @@ impl<'a, R: Wait, W: Weigh, N: Runner, C> Field<'a, R, W, N, C> {
             if self.runner.act(&post.name, effect) {
                 continue;
             }
-            if let Effect::Start { id, inc, .. } = effect {
-                waiting.push_back(self.exit(post, seat, id, *inc, now)?)?;
-            }
+            let Effect::Start { id, inc, .. } = effect else {
+                continue;
+            };
+            let effects = self.exit(post, seat, id, *inc, now)?;
+            let Ok(()) = waiting.push_back(effects) else {
+                return Err(ThreadFault::OutOfMemory);
+            };
         }
         Ok(())
     }

@@ -45,7 +45,7 @@ fn entered(answer: &Result<Done, Refusal>) -> Result<(), ThreadFault>
 }
 
 // What is left to be done of an answer. A refusal has nothing.
-fn brought(alloc: Global, answer: Result<Done, Refusal>) -> Brought
+fn left_of(alloc: Global, answer: Result<Done, Refusal>) -> Brought
     ensures { result.letter ≡ letter_of answer }
 {
     match answer {
@@ -82,6 +82,6 @@ impl<'a, R: Wait, W: Weigh, N, C> Field<'a, R, W, N, C> {
     {
         let answer = post.gate.call(self.rt, seat, act, now, self.weigher);
         entered(&answer)?;
-        Ok(brought(self.alloc, answer))
+        Ok(left_of(self.alloc, answer))
     }
 }

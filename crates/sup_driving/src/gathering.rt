@@ -42,7 +42,10 @@ fn meet_all<W: Weigh>(
         let Some(sent) = sent.next() else {
             unreachable!()
         };
-        arrived.push(meet(sent, end)?)?;
+        let pass = meet(sent, end)?;
+        let Ok(()) = arrived.push(pass) else {
+            return Err(ThreadFault::OutOfMemory);
+        };
     }
     Ok(arrived)
 }
@@ -75,6 +78,17 @@ fn gather<W: Weigh>(alloc: Global, done: Done<W>) -> Result<Driven<W>, ThreadFau
     Ok(Driven { seat, arrived })
 }
 
+// The same, with faults as a run's.
+fn gather_run<W: Weigh>(alloc: Global, done: Done<W>) -> Result<Driven<W>, RunFault>
+    requires { CanGather done }
+    ensures { Gathers done result }
+{
+    match gather(alloc, done) {
+        Ok(driven) => Ok(driven),
+        Err(fault) => Err(RunFault::from(fault)),
+    }
+}
+
 // What all drivers hand back, in their order.
 pub(crate) fn gather_all<W: Weigh>(
     alloc: Global,
@@ -85,7 +99,8 @@ pub(crate) fn gather_all<W: Weigh>(
 {
     let mut results = Vec::with_capacity(alloc, done.len())?;
     for team in done {
-        results.push(gather(alloc, team).map_err(RunFault::from))?;
+        let result = gather_run(alloc, team);
+        results.push(result)?;
     }
     Ok(results)
 }

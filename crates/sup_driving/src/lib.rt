@@ -11,7 +11,7 @@ mod driving;
 mod fault;
 mod field;
 mod gathering;
-mod launch;
+mod launching;
 mod outbox;
 mod receiving;
 mod runner;
@@ -19,5 +19,5 @@ mod teams;
 mod wires;
 mod work;
 
-pub use launch::launch;
+pub use launching::launch;
 pub use runner::{Checkpoint, Quiet, Runner};

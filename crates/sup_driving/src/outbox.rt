@@ -17,10 +17,10 @@ pub(crate) fn lay<R: Wait>(
     outbox: &Outbox,
     letter: Option<Letter>,
 ) -> Result<(), AllocError> {
-    match letter {
-        Some(letter) => outbox.lock(rt).push(letter),
-        None => Ok(()),
+    if let Some(letter) = letter {
+        outbox.lock(rt).push(letter)?;
     }
+    Ok(())
 }
 
 // The letters that lie there; then there are none.

@@ -23,12 +23,7 @@ const MOMENT: u64 = 0;
 
 impl<'a, R: Wait, W: Weigh, N: Runner, C> Field<'a, R, W, N, C> {
     // Gives the node a message. Its answer's letter lies in the outbox before the runner is told what is to be done.
-    fn deliver(
-        &self,
-        post: &Post<W>,
-        seat: &mut Seat<W>,
-        text: Vec<u8>,
-    ) -> Result<(), ThreadFault>
+    fn deliver(&self, post: &Post<W>, seat: &mut Seat<W>, text: Vec<u8>) -> Result<(), ThreadFault>
         requires { IsOf kept_by post.now.gate seat.old }
         ensures of { IsOf kept_by post.now.gate seat.new }
         ensures delivered { (texts : List Bytes) → Sublist texts (deliveries (view_of seat.old).seen)

@@ -12,30 +12,29 @@ use sup_placement::Weigh;
 use sup_plan::Command;
 use sup_posts::{Drive, Lane, Post, Seat};
 
-/// A driver's node, its commands and its ends of the links.
+/// The place of a driver's node, its commands and its ends of the links.
 #[derive(Drop)]
-pub(crate) struct Steer<'a, W: Weigh> {
-    pub(crate) post: &'a Post<W>,
+pub(crate) struct Steer<W: Weigh> {
+    pub(crate) at: usize,
     pub(crate) seat: Seat<W>,
     pub(crate) commands: Vec<Command>,
     pub(crate) wires: Vec<Wire>,
 }
 
-/// A receiver's node, its place, and the link's other end.
+/// The place of a receiver's node, and the link's other end.
 #[derive(Drop)]
-pub(crate) struct Receive<'a, W: Weigh> {
-    pub(crate) post: &'a Post<W>,
+pub(crate) struct Receive<W: Weigh> {
     pub(crate) to: usize,
     pub(crate) seat: Seat<W>,
     pub(crate) exit: LinkOut,
 }
 
 // The two ends of a link, the first for the driver.
-fn split_lane<'a, W: Weigh>(posts: &'a [Post<W>], lane: Lane<W>) -> (Wire, Receive<'a, W>)
+fn split_lane<W: Weigh>(posts: &[Post<W>], lane: Lane<W>) -> (Wire, Receive<W>)
     requires { IsLane posts.now lane }
-    ensures wire { IsWireOf posts.entry.now lane result.0 }
-    ensures receive { IsReceiveOf posts.entry.now lane result.1 }
-    ensures ready { IsReadyToReceive result.1 }
+    ensures wire { IsWireOf posts.now lane result.0 }
+    ensures receive { IsReceiveOf lane result.1 }
+    ensures ready { IsReadyToReceive posts.now result.1 }
 {
     let Lane {
         to,
@@ -43,30 +42,23 @@ fn split_lane<'a, W: Weigh>(posts: &'a [Post<W>], lane: Lane<W>) -> (Wire, Recei
         entry,
         exit,
     } = lane;
-    let post = &posts[to];
     let wire = Wire {
-        to: post.name,
+        to: posts[to].name,
         entry,
     };
-    let receive = Receive {
-        post,
-        to,
-        seat,
-        exit,
-    };
-    (wire, receive)
+    (wire, Receive { to, seat, exit })
 }
 
 // The ends of all these links, in their order.
-fn split_lanes<'a, W: Weigh>(
+fn split_lanes<W: Weigh>(
     alloc: Global,
-    posts: &'a [Post<W>],
+    posts: &[Post<W>],
     lanes: Vec<Lane<W>>,
-) -> Result<(Vec<Wire>, Vec<Receive<'a, W>>), AllocError>
+) -> Result<(Vec<Wire>, Vec<Receive<W>>), AllocError>
     requires { All (IsLane posts.now) lanes.items }
-    ensures wires { IfOk result (λ r. AllZip (IsWireOf posts.entry.now) lanes.items r.0.items) }
-    ensures receives { IfOk result (λ r. AllZip (IsReceiveOf posts.entry.now) lanes.items r.1.items) }
-    ensures ready { IfOk result (λ r. All IsReadyToReceive r.1.items) }
+    ensures wires { IfOk result (λ r. AllZip (IsWireOf posts.now) lanes.items r.0.items) }
+    ensures receives { IfOk result (λ r. AllZip IsReceiveOf lanes.items r.1.items) }
+    ensures ready { IfOk result (λ r. All (IsReadyToReceive posts.now) r.1.items) }
 {
     let mut wires = Vec::with_capacity(alloc, lanes.len())?;
     let mut receives = Vec::with_capacity(alloc, lanes.len())?;
@@ -79,14 +71,14 @@ fn split_lanes<'a, W: Weigh>(
 }
 
 // A driver and its receivers.
-fn split<'a, W: Weigh>(
+fn split<W: Weigh>(
     alloc: Global,
-    posts: &'a [Post<W>],
+    posts: &[Post<W>],
     drive: Drive<W>,
-) -> Result<Team<Steer<'a, W>, Receive<'a, W>>, AllocError>
+) -> Result<Team<Steer<W>, Receive<W>>, AllocError>
     requires { Takes posts.now drive }
-    ensures team { IfOk result (IsTeamOf posts.entry.now drive) }
-    ensures ready { IfOk result IsReady }
+    ensures team { IfOk result (IsTeamOf posts.now drive) }
+    ensures ready { IfOk result (IsReady posts.now) }
 {
     let Drive {
         at,
@@ -96,7 +88,7 @@ fn split<'a, W: Weigh>(
     } = drive;
     let (wires, others) = split_lanes(alloc, posts, lanes)?;
     let lead = Steer {
-        post: &posts[at],
+        at,
         seat,
         commands,
         wires,
@@ -105,18 +97,19 @@ fn split<'a, W: Weigh>(
 }
 
 // All drivers and their receivers.
-pub(crate) fn split_all<'a, W: Weigh>(
+pub(crate) fn split_all<W: Weigh>(
     alloc: Global,
-    posts: &'a [Post<W>],
+    posts: &[Post<W>],
     drives: Vec<Drive<W>>,
-) -> Result<Vec<Team<Steer<'a, W>, Receive<'a, W>>>, AllocError>
+) -> Result<Vec<Team<Steer<W>, Receive<W>>>, AllocError>
     requires { All (Takes posts.now) drives.items }
-    ensures teams { IfOk result (λ teams. AllZip (IsTeamOf posts.entry.now) drives.items teams.items) }
-    ensures ready { IfOk result (λ teams. All IsReady teams.items) }
+    ensures teams { IfOk result (λ teams. AllZip (IsTeamOf posts.now) drives.items teams.items) }
+    ensures ready { IfOk result (λ teams. All (IsReady posts.now) teams.items) }
 {
     let mut teams = Vec::with_capacity(alloc, drives.len())?;
     for drive in drives {
-        teams.push(split(alloc, posts, drive)?)?;
+        let team = split(alloc, posts, drive)?;
+        teams.push(team)?;
     }
     Ok(teams)
 }

@@ -28,43 +28,42 @@ pub(crate) struct Received<W: Weigh> {
     pub(crate) exit: LinkOut,
 }
 
-impl<'a, 'b, R: Wait, W: Weigh, N: Runner, C: Checkpoint> Work<
-    Steer<'b, W>,
+impl<'a, R: Wait, W: Weigh, N: Runner, C: Checkpoint> Work<
+    Steer<W>,
     Result<Steered<W>, ThreadFault>,
 > for Field<'a, R, W, N, C> {
-    ghost takes = { λ field steer. IsReadyToSteer steer };
+    ghost takes = { λ field steer. IsReadyToSteer field.posts.now steer };
 
-    ghost gives = { λ field steer result. IfOk result (Steers steer) };
+    ghost gives = { λ field steer result. IfOk result (Steers field.posts.now steer) };
 
-    fn run(&self, steer: Steer<'b, W>) -> Result<Steered<W>, ThreadFault> {
+    fn run(&self, steer: Steer<W>) -> Result<Steered<W>, ThreadFault> {
         let Steer {
-            post,
+            at,
             mut seat,
             commands,
             mut wires,
         } = steer;
-        self.drive(post, &mut seat, commands, &mut wires)?;
+        self.drive(&self.posts[at], &mut seat, commands, &mut wires)?;
         let sent = end_all(self.rt, self.alloc, wires)?;
         Ok(Steered { seat, sent })
     }
 }
 
-impl<'a, 'b, R: Wait, W: Weigh, N: Runner, C: Checkpoint> Work<
-    Receive<'b, W>,
+impl<'a, R: Wait, W: Weigh, N: Runner, C: Checkpoint> Work<
+    Receive<W>,
     Result<Received<W>, ThreadFault>,
 > for Field<'a, R, W, N, C> {
-    ghost takes = { λ field receive. IsReadyToReceive receive };
+    ghost takes = { λ field receive. IsReadyToReceive field.posts.now receive };
 
-    ghost gives = { λ field receive result. IfOk result (Receives receive) };
+    ghost gives = { λ field receive result. IfOk result (Receives field.posts.now receive) };
 
-    fn run(&self, receive: Receive<'b, W>) -> Result<Received<W>, ThreadFault> {
+    fn run(&self, receive: Receive<W>) -> Result<Received<W>, ThreadFault> {
         let Receive {
-            post,
             to,
             mut seat,
             mut exit,
         } = receive;
-        self.receive(post, &mut seat, &mut exit)?;
+        self.receive(&self.posts[to], &mut seat, &mut exit)?;
         Ok(Received { to, seat, exit })
     }
 }

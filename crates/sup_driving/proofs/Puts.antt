@@ -1,5 +1,5 @@
 -- The links of a driver, once more was put.
-use Rattle.std.proofs.Common.{◌≡◌, ℕ, List, [], ◌∷◌, ◌++◌, map, Ok, Err, Some, None, append_assoc, append-nil, refl, ap, ◌∙◌, sym, subst}
+use Rattle.std.proofs.Common.{◌≡◌, ℕ, List, [], ◌∷◌, ◌++◌, length, take, drop, map, Ok, Err, Some, None, append_assoc, append-nil, refl, ap, ◌∙◌, sym, subst}
 use Rattle.std.specs.List.{AllZip}
 use Rattle.std.proofs.lemmas.List.{map-append}
 use Rattle.std.proofs.lemmas.Grind.{flat_map-append}
@@ -13,7 +13,10 @@ use Rattle.sup_plan.specs.Calls.{Call, call_of, text_to, letter_to, letters_to}
 use Rattle.sup_plan.specs.Sublists.{Sublist}
 use Rattle.sup_driving.specs.declared.wires.Wire.{Wire}
 use Rattle.sup_driving.specs.Called.{Called, SeesMore, letter_of}
-use Rattle.sup_driving.specs.Wires.{IsLater, HasPut, Each, HasLetters, Did}
+use Rattle.sup_links.specs.declared.link_in.Sent.{Sent}
+use Rattle.sup_links.specs.Ends.{sent_put}
+use Rattle.sup_driving.specs.Teams.{HasSent}
+use Rattle.sup_driving.specs.Wires.{IsLater, HasPut, Each, HasLetters, IsEnded, Did}
 use Rattle.sup_driving.proofs.Sublists.{sub_more, sub_both}
 
 pub later_same : (w : Wire) → IsLater w w
@@ -110,3 +113,26 @@ each_later es (u ∷ us) (v ∷ vs) p h = (one_later es u v p.0 h.0, each_later 
 -- where more was put since
 pub did_later : (cs : List Call) (seen : List Entry) (us vs : List Wire) → AllZip IsLater us vs → Did cs seen us → Did cs seen vs
 did_later cs seen us vs p d = record { entries = d.entries; are = d.are; stand = d.stand; put = each_later d.entries us vs p d.put }
+
+sent_one : (es : List Entry) (u v : Wire) (s : Sent) → IsLater u v → IsEnded v s → HasLetters es v → HasSent es u s
+sent_one es u v s p e h = record {
+  link = e.link ∙ p.link;
+  script = e.script ∙ p.script;
+  letters = subst (λ n. Sublist (letters_to n es) (sent_put s)) p.to (subst (Sublist (letters_to v.to es)) (sym e.put) h);
+}
+
+-- what was sent, once the links are ended
+pub sent_all : (es : List Entry) (us vs : List Wire) (ss : List Sent) → AllZip IsLater us vs → AllZip IsEnded vs ss → Each (HasLetters es) vs → AllZip (HasSent es) us ss
+sent_all es [] [] [] p e h = tt
+sent_all es [] [] (s ∷ ss) p e h = absurd e
+sent_all es [] (v ∷ vs) ss p e h = absurd p
+sent_all es (u ∷ us) [] ss p e h = absurd p
+sent_all es (u ∷ us) (v ∷ vs) [] p e h = absurd e
+sent_all es (u ∷ us) (v ∷ vs) (s ∷ ss) p e h = (sent_one es u v s p.0 e.0 h.0, sent_all es us vs ss p.1 e.1 h.1)
+
+-- a list that was lent whole, and given back as long as it was
+pub whole : (us vs : List Wire) → AllZip IsLater us vs → take (length us) (vs ++ drop (length vs) us) ≡ vs
+whole [] [] p = refl
+whole [] (v ∷ vs) p = absurd p
+whole (u ∷ us) [] p = absurd p
+whole (u ∷ us) (v ∷ vs) p = ap (λ l. v ∷ l) (whole us vs p.1)

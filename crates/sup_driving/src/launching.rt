@@ -43,6 +43,7 @@ pub fn launch<
     let field = Field {
         rt,
         alloc,
+        posts,
         weigher,
         runner,
         checkpoint,

@@ -1,37 +1,22 @@
 //! A run of a plan.
-ghost use Rattle.std.specs.Prelude.{◌≡◌, ◌≢◌, All, Err, IfOk};
-ghost use Rattle.std.specs.List.{AllZip};
+ghost use Rattle.std.specs.Prelude.{◌≡◌, ◌≢◌, Err, IfOk};
 ghost use Rattle.sup_plan.specs.Plans.{IsPlan};
-ghost use Rattle.sup_posts.specs.Jobs.{Takes, Gives};
 ghost use Rattle.sup_posts.specs.declared.fault.RunFault.TheVariants.{BadPlan};
 ghost use Rattle.sup_cluster.specs.Runs.{IsRunOf};
 
 use crate::closing::finish;
 use crate::launching::make_drives;
 use crate::opening::open_posts;
-use std::alloc::{AllocError, Global};
+use std::alloc::Global;
+use std::sync::Wait;
+use std::thread::Threads;
+use sup_driving::{Checkpoint, Runner, launch};
 use sup_placement::Weigh;
 use sup_plan::{Histories, Plan, is_plan};
-use sup_posts::{Drive, Driven, Post, RunFault};
+use sup_posts::RunFault;
 
-/// What does the drivers' jobs, all at once.
-pub trait Launch<W: Weigh> {
-    /// Does the jobs of the drivers of these nodes, and gives what each hands back, in their order.
-    ///
-    /// # Errors
-    ///
-    /// Where memory was refused, or a thread couldn't be made.
-    fn launch(
-        &self,
-        alloc: Global,
-        posts: &[Post<W>],
-        drives: Vec<Drive<W>>,
-    ) -> Result<Vec<Result<Driven<W>, RunFault>>, AllocError>
-        requires { All (Takes posts.now) drives.items }
-        ensures { IfOk result (λ results. AllZip (Gives posts.now) drives.items results.items) };
-}
-
-/// Runs a plan: each of its nodes is driven by the plan's commands, over links by its scripts. Gives what happened at each node.
+/// Runs a plan: each of its nodes is driven by the plan's commands, over links by its scripts, in threads of their own. What nodes have
+/// done with children is told the runner, and the checkpoint stands by each command. Gives what happened at each node.
 ///
 /// # Errors
 ///
@@ -39,10 +24,18 @@ pub trait Launch<W: Weigh> {
 /// - `HistoryFull` where a node's history came to its bound.
 /// - `LinkClosed` where a link's other end was gone.
 /// - `OutOfMemory` where memory was refused, or a thread couldn't be made. Of several faults this is told first, and a closed link last.
-pub fn run_by<W: Weigh, L: Launch<W>>(
+pub fn run<
+    R: Threads + Wait + Sync,
+    W: Weigh + Send + Sync,
+    N: Runner + Sync,
+    C: Checkpoint + Sync,
+>(
+    rt: &R,
     alloc: Global,
     plan: &Plan,
-    launch: &L,
+    runner: &N,
+    checkpoint: &C,
+    weigher: &W,
 ) -> Result<Histories, RunFault>
     ensures bad { ¬ (IsPlan plan.now) → result ≡ Err BadPlan }
     ensures good { IsPlan plan.now → result ≢ Err BadPlan }
@@ -53,7 +46,7 @@ pub fn run_by<W: Weigh, L: Launch<W>>(
     }
     let (posts, seats) = open_posts(alloc, plan.config, &plan.nodes)?;
     let drives = make_drives(alloc, plan, &posts, seats)?;
-    let results = launch.launch(alloc, &posts, drives)?;
+    let results = launch(rt, alloc, weigher, runner, checkpoint, &posts, drives)?;
     let histories = finish(alloc, posts, results)?;
     Ok(Histories::new(histories))
 }

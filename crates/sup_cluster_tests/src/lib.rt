@@ -1,0 +1,5 @@
+//! The tests of running clusters.
+#![tactic(auto)]
+
+#[cfg(test)]
+mod quiet;

@@ -1,0 +1,8 @@
+use Rattle.std.proofs.Common.{subst, sym}
+use Rattle.std.specs.List.{AllZip}
+use Rattle.sup_driving.specs.Wires.{HasPut}
+use Rattle.sup_driving.proofs.Puts.{none_put}
+use Rattle.sup_driving.proofs.field.Field.put.Goals as goal
+
+pub returns-in-None : goal.returns-in-None
+returns-in-None g c = subst (λ l. AllZip (HasPut l) c.args.wires.now c.args.wires.now) (sym c.in-None.is) (none_put c.args.wires.now)

@@ -1,0 +1,13 @@
+use Rattle.sup_station.specs.Opening.{kept_by}
+use Rattle.sup_node_gate.specs.Gates.{IsOf, view_of}
+use Rattle.sup_links.specs.Ends.{SameOut, taken_of}
+use Rattle.sup_plan.specs.Calls.{deliveries}
+use Rattle.sup_plan.specs.Sublists.{Sublist}
+use Rattle.sup_driving.proofs.field.Field.receive.Given as goal
+
+abbrev pub invariant-loop : goal.invariant-loop
+invariant-loop g l =
+    (goal.iterator-loop g).can_next l.iterator' × (goal.iterator-loop g).is_finite l.iterator'
+    × IsOf kept_by l.post.gate l.seat
+    × SameOut l.fn.exit l.exit
+    × Sublist (taken_of l.exit) (deliveries (view_of l.seat).seen)
