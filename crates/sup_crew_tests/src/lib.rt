@@ -8,3 +8,5 @@ mod nested;
 mod orders;
 #[cfg(test)]
 mod talks;
+#[cfg(test)]
+mod teams;

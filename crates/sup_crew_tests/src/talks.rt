@@ -3,7 +3,7 @@ ghost use Rattle.std.specs.Prelude.{⊤};
 
 use crossbeam_channel::{Receiver, Sender, unbounded};
 use std::sync::Wait;
-use sup_crew::{Work, run_all, run_beside};
+use sup_crew::{Team, Work, run_all, run_beside, run_teams};
 
 #[derive(Drop)]
 enum Side {
@@ -67,4 +67,33 @@ fn the_own_job_waits_for_a_thread(rt: HostRuntime) {
     );
     assert!(rt; done.as_slice() == [Some(7)].as_slice());
     assert!(rt; own == Some(7));
+}
+
+#[test]
+fn jobs_of_two_teams_wait_for_one_another(rt: HostRuntime) {
+    let (to_first, from_second) = unbounded(rt.alloc()).expect(&rt, "room");
+    let (to_second, from_first) = unbounded(rt.alloc()).expect(&rt, "room");
+    let mut first = Vec::new(rt.alloc());
+    first.push(Side::Tells(to_second)).expect(&rt, "room");
+    let mut second = Vec::new(rt.alloc());
+    second.push(Side::Tells(to_first)).expect(&rt, "room");
+    let mut teams = Vec::new(rt.alloc());
+    teams
+        .push(Team {
+            lead: Side::Hears(from_second),
+            others: first,
+        })
+        .expect(&rt, "room");
+    teams
+        .push(Team {
+            lead: Side::Hears(from_first),
+            others: second,
+        })
+        .expect(&rt, "room");
+    let done = run_teams(&rt, rt.alloc(), teams, &Talks { rt: &rt }).expect(&rt, "room");
+    assert!(rt; done.len() == 2);
+    for team in &done {
+        assert!(rt; team.lead == Some(7));
+        assert!(rt; team.others.as_slice() == [Some(7)].as_slice());
+    }
 }
