@@ -9,9 +9,10 @@ use Rattle.sup_cluster.proofs.running.run.Goals as goal
 
 pub launch-requires : goal.launch-requires
 launch-requires g c =
-    subst (λ l. All (Takes l) c.in_ok-drives.drives.items) (sym c.deref-3.ensures.value)
+    let takes = subst (λ l. All (Takes l) c.in_ok-drives.drives.items) (sym c.deref-3.ensures.value)
     (drives_take c.args.plan.now c.in_ok-posts.posts.items c.in_ok-drives.drives.items
-    (subst (λ l. AllZip (IsDriveOf c.args.plan.now l) l c.in_ok-drives.drives.items) c.deref-2.ensures.value c.in_ok-drives.ensures))
+    (subst (λ l. AllZip (IsDriveOf c.args.plan.now l) l c.in_ok-drives.drives.items) c.deref-2.ensures.value c.in_ok-drives.ensures)) in
+    (c.type_bounds.send-W, (c.type_bounds.sync-R, (c.type_bounds.sync-W, (c.type_bounds.sync-N, (c.type_bounds.sync-C, takes)))))
 
 pub finish-requires : goal.finish-requires
 finish-requires g c =
