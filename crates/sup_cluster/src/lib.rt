@@ -10,6 +10,8 @@ mod dealing;
 mod joining;
 mod launching;
 mod opening;
-pub mod run;
+pub mod running;
+pub mod stand_in;
 
-pub use run::{Launch, run_by};
+pub use running::{Launch, run_by};
+pub use stand_in::{Checkpoint, Quiet, Runner, run};

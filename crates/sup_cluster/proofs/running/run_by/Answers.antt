@@ -5,7 +5,7 @@ use Rattle.sup_cluster.specs.Runs.{IsRunOf}
 use Rattle.sup_cluster.specs.Steps.{IsPostOf, IsDriveOf}
 use Rattle.sup_cluster.proofs.Returning.{drives_take, returned}
 use Rattle.sup_cluster.proofs.Finishing.{is_run}
-use Rattle.sup_cluster.proofs.run.run_by.Goals as goal
+use Rattle.sup_cluster.proofs.running.run_by.Goals as goal
 
 pub launch-requires : goal.launch-requires
 launch-requires g c =
