@@ -46,12 +46,7 @@ pub fn run_cluster<
 }
 
 // Reads a script, and runs it.
-fn run_input<
-    T: Threads + Wait + Sync,
-    G: Weigh + Copy + Drop + Send + Sync,
-    R: Read,
-    W: Write,
->(
+fn run_input<T: Threads + Wait + Sync, G: Weigh + Copy + Drop + Send + Sync, R: Read, W: Write>(
     rt: &T,
     alloc: Global,
     weigher: &G,

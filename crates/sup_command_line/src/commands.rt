@@ -48,7 +48,8 @@ fn cluster_command<'a>(alloc: Global) -> Result<Command<'a>, AllocError>
     ensures app { IfOk result (λ c. app_of c ≡ cluster_command) }
     ensures local { IfOk result (λ c. (fields_of c).has_globals ≡ false) }
 {
-    let about = "Runs the script on standard input by threads, and prints what its nodes know at the end";
+    let about =
+        "Runs the script on standard input by threads, and prints what its nodes know at the end";
     with_settings(alloc, weighing_command(alloc, "cluster", about)?)
 }
 

@@ -31,7 +31,11 @@ impl Case {
     }
 
     /// Runs the program, and answers what came of it.
-    pub(crate) fn play(&self, rt: &(impl Threads + Wait + Sync), alloc: Global) -> io::Result<Outcome> {
+    pub(crate) fn play(
+        &self,
+        rt: &(impl Threads + Wait + Sync),
+        alloc: Global,
+    ) -> io::Result<Outcome> {
         let words: Vec<&str> = self.words.lines().collect(alloc)?;
         let mut reader = self.input.as_slice();
         let mut output = Vec::new(alloc);
