@@ -9,20 +9,12 @@ use Rattle.sup_jobs.specs.declared.fault.Fault.TheVariants as job
 use Rattle.sup_jobs.specs.Ends.{Bytes, IsTaken}
 use Rattle.sup_jobs.specs.Tells.{Tells}
 use Rattle.sup_plan.specs.declared.plan.Plan.{Plan}
-use Rattle.sup_lines.specs.Words.{Name}
-use Rattle.sup_cluster_lines.specs.Script.{Asked, plan_script_of}
+use Rattle.sup_cluster_lines.specs.Script.{plan_script_of}
 use Rattle.sup_clustering.specs.Faults.{fault_line_at, status_at}
-use Rattle.sup_clustering.specs.Plans.{IsPlanOf}
+use Rattle.sup_clustering.specs.Plans.{Says}
 use Rattle.sup_clustering.specs.Certifying.{IsRefused, PrintsCluster}
 use Rattle.sup_clustering.specs.declared.fault.ClusterFault.{ClusterFault}
 use Rattle.sup_clustering.specs.declared.fault.ClusterFault.TheVariants.{Job, HistoryFull, LinkClosed, Stuck, Differs}
-
--- the input isn't too long, and says this plan of nodes with this setting
-pub record Says (config : Config) (input : List ℕ) (plan : Plan) : Type 0 where
-  pub short : length input ≤ 1048576
-  pub script : List Name × Asked
-  pub read : plan_script_of input ≡ Ok script
-  pub is_plan : IsPlanOf config script plan
 
 -- what is printed of a certified run of the plan that the input says
 abbrev pub MayPrint : Weigher → Config → List ℕ → List ℕ → Type 0

@@ -6,16 +6,14 @@ ghost use Rattle.sup_clustering.specs.Clustering.{Clusters, ClustersTo, TakesFor
 
 use crate::certified::plan_text;
 use crate::fault::ClusterFault;
-use crate::plan::plan_of;
+use crate::plan::read_plan;
 use crate::telling::finish;
 use std::alloc::Global;
 use std::io::{Read, Write};
 use std::sync::Wait;
 use std::thread::Threads;
-use sup_cluster_lines::read_plan_script;
 use sup_jobs::{Ended, Fault, LIMIT, put_all, read_input};
 use sup_placement::Weigh;
-use sup_placing::fault_of;
 use sup_replica::Config;
 
 /// Runs the script that the reader has by threads, each of its nodes with this setting: writes what its nodes know at the end, and
@@ -77,11 +75,10 @@ fn run_bytes<T: Threads + Wait + Sync, G: Weigh + Copy + Drop + Send + Sync, W: 
     requires { length input.now ≤ LIMIT }
     ensures { ClustersTo G.weight_of config input.now (W.contents writer.old) (W.contents writer.new) result }
 {
-    let script = match read_plan_script(alloc, input) {
-        Ok(script) => script,
-        Err(fault) => return Err(ClusterFault::Job(fault_of(fault))),
+    let plan = match read_plan(alloc, config, input) {
+        Ok(plan) => plan,
+        Err(fault) => return Err(ClusterFault::Job(fault)),
     };
-    let plan = plan_of(config, script);
     let text = plan_text(rt, alloc, weigher, &plan)?;
     put_all(writer, text.as_bytes())?;
     Ok(())
