@@ -39,13 +39,13 @@ one_more nodes (links, []) next (link l) fits h can =
     let taken = left_out (list_any (is_same_pair l) links) (Some (links ++ l ∷ [], [])) next h in
     subst (CanDo nodes) (same_Some {A = Asked} (links ++ l ∷ [], []) next taken.1) (record {
       told = can.told;
-      linked = All-push _ links l can.linked fits;
+      linked = All-push (λ k. has_ends nodes k ≡ true) links l can.linked fits;
       single = distinct_push is_same_pair pair_turns links l can.single taken.0;
     })
 one_more nodes (links, first ∷ commands) next (link l) fits h can = absurd (none-some next h)
 one_more nodes (links, commands) next (command c) fits h can =
     subst (CanDo nodes) (same_Some {A = Asked} (links, commands ++ c ∷ []) next h) (record {
-      told = All-push _ commands c can.told fits;
+      told = All-push (λ d. may_tell nodes d ≡ true) commands c can.told fits;
       linked = can.linked;
       single = can.single;
     })
@@ -56,11 +56,12 @@ one_line nodes asked next bytes h can =
 
 all_lines : (nodes : List Bytes) (asked final : Asked) (lines : List (ℕ × List ℕ)) → all_behind nodes asked lines ≡ Ok final → CanDo nodes asked → CanDo nodes final
 all_lines nodes asked final [] h can = subst (CanDo nodes) (same_ok {E = ℕ} asked final h) can
-all_lines nodes asked final (line ∷ lines) h can = by_line (said_of nodes line.1 >>= behind asked) refl h
+all_lines nodes asked final (line ∷ lines) h can = by_line (said_of nodes line.1 >>= behind asked) refl h (λ next e c. all_lines nodes next final lines e c)
   where
-    by_line : (o : Option Asked) → (said_of nodes line.1 >>= behind asked) ≡ o → after_line line.0 o (λ next. all_behind nodes next lines) ≡ Ok final → CanDo nodes final
-    by_line None is e = absurd (not_err line.0 final e)
-    by_line (Some next) is e = all_lines nodes next final lines e (one_line nodes asked next line.1 is can)
+    by_line : (o : Option Asked) → (said_of nodes line.1 >>= behind asked) ≡ o → after_line line.0 o (λ next. all_behind nodes next lines) ≡ Ok final
+        → ((next : Asked) → all_behind nodes next lines ≡ Ok final → CanDo nodes next → CanDo nodes final) → CanDo nodes final
+    by_line None is e more = absurd (not_err line.0 final e)
+    by_line (Some next) is e more = more next e (one_line nodes asked next line.1 is can)
 
 -- the nodes are few and differ, and what is asked of them can be done
 record CanRun (script : List Name × Asked) : Type 0 where
@@ -84,13 +85,9 @@ read_script bytes script h = read_lines (numbered_lines bytes) script h
 
 linked_routes : (nodes : List Bytes) (routes : List Route) → AllPass (has_ends nodes) (map link_in routes) → AllPass (plans.has_ends nodes) routes
 linked_routes nodes [] h = All-nil _
-linked_routes nodes (r ∷ routes) h = parts (unconsed h)
-  where
-    unconsed : AllPass (has_ends nodes) (link_in r ∷ map link_in routes) → (has_ends nodes (link_in r) ≡ true) × AllPass (has_ends nodes) (map link_in routes)
-    unconsed k = (All-head _ (link_in r) (map link_in routes) k, All-tail _ (link_in r) (map link_in routes) k)
-
-    parts : (has_ends nodes (link_in r) ≡ true) × AllPass (has_ends nodes) (map link_in routes) → AllPass (plans.has_ends nodes) (r ∷ routes)
-    parts p = All-cons _ r routes p.0 (linked_routes nodes routes p.1)
+linked_routes nodes (r ∷ routes) h =
+    let P = λ (l : Link). has_ends nodes l ≡ true in
+    All-cons (λ s. plans.has_ends nodes s ≡ true) r routes (All-head P (link_in r) (map link_in routes) h) (linked_routes nodes routes (All-tail P (link_in r) (map link_in routes) h))
 
 pub read_plans_run : (config : Config) (bytes : List ℕ) (script : List Name × Asked) (plan : Plan) → plan_script_of bytes ≡ Ok script → IsPlanOf config script plan → IsPlan plan
 read_plans_run config bytes script plan read is =

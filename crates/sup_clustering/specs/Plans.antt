@@ -9,8 +9,8 @@ use Rattle.sup_cluster_lines.specs.Links.{link_in}
 use Rattle.sup_cluster_lines.specs.Script.{Asked, plan_script_of}
 
 -- the plan has the script's nodes, links and commands, and each node has this setting
-pub record IsPlanOf (config : Config) (script : List Name × Asked) (plan : Plan) : Type 0 where
-  pub config : plan.config ≡ config
+pub record IsPlanOf (setting : Config) (script : List Name × Asked) (plan : Plan) : Type 0 where
+  pub config : plan.config ≡ setting
   pub nodes : plan.nodes.items ≡ script.0
   pub links : map link_in plan.scripts.items ≡ script.1.0
   pub commands : plan.commands.items ≡ script.1.1

@@ -44,6 +44,10 @@ inspect_command = weighing_command (codes "inspect")
 abbrev pub with_commands : App → App
 with_commands a = record a { top = record a.top { subcommand_required = true; no_binary_name = true } }
 
+-- the commands that run scripts
+unfoldable pub script_commands : App
+script_commands = with_subcommand (with_subcommand (with_commands (new_app (codes "supctl"))) simulate_command.top) cluster_command.top
+
 -- supctl simulate|cluster|place|inspect
 unfoldable pub supctl_app : App
-supctl_app = with_subcommand (with_subcommand (with_subcommand (with_subcommand (with_commands (new_app (codes "supctl"))) simulate_command.top) cluster_command.top) place_command.top) inspect_command.top
+supctl_app = with_subcommand (with_subcommand script_commands place_command.top) inspect_command.top

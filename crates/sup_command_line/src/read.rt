@@ -34,7 +34,7 @@ pub fn is_want_of_memory(error: &Error) -> bool
     error.kind() == ErrorKind::OutOfMemory
 }
 
-#[tactic(auto, unfolding(crate::specs::Words::supctl_app, crate::specs::Words::simulate_command, crate::specs::Words::cluster_command, crate::specs::Words::place_command, crate::specs::Words::inspect_command))]
+#[tactic(auto, unfolding(crate::specs::Words::supctl_app, crate::specs::Words::script_commands, crate::specs::Words::simulate_command, crate::specs::Words::cluster_command, crate::specs::Words::place_command, crate::specs::Words::inspect_command))]
 fn matches_of<'a, S: AsStr>(alloc: Global, words: &'a [S]) -> Result<ArgMatches<'a>, Error>
     ensures found { IfOk result (λ m. subcommand_rows_of m
         ≡ subcommand_of supctl_app (map S.text words.entry.now)) }

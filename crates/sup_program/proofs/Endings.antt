@@ -28,7 +28,7 @@ unlooked weigher (Some bytes) before errors_before errors_written ended h = (Err
 pub unperformed : (asked : Option Request) (input before errors_before errors_written : Bytes) (ended : Ended) → WantsMemory errors_before errors_written ended → Performs asked input input before before errors_before errors_written ended
 unperformed None input before errors_before errors_written ended h = inr h
 unperformed (Some (Simulate weighing config)) input before errors_before errors_written ended h = unstarted (simulation (weight_of weighing) config) input before errors_before errors_written ended h
-unperformed (Some (Cluster weighing config)) input before errors_before errors_written ended h = (h, Keeps-refl before)
+unperformed (Some (Cluster weighing config)) input before errors_before errors_written ended h = (h, Keeps-refl input, Keeps-refl before)
 unperformed (Some (Place weighing)) input before errors_before errors_written ended h = unstarted (placement (weight_of weighing)) input before errors_before errors_written ended h
 unperformed (Some (Inspect weighing)) input before errors_before errors_written ended h = unlooked (weight_of weighing) input before errors_before errors_written ended h
 

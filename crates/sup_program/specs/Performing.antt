@@ -32,7 +32,7 @@ abbrev pub Performs : Option Request → Bytes → Bytes → Bytes → Bytes →
 Performs (Some (Simulate weighing config)) input left before written errors_before errors_written ended =
     Simulates (weight_of weighing) config input left before written errors_before errors_written ended
 Performs (Some (Cluster weighing config)) input left before written errors_before errors_written ended =
-    WantsMemory errors_before errors_written ended × Keeps before written
+    WantsMemory errors_before errors_written ended × Keeps input left × Keeps before written
 Performs (Some (Place weighing)) input left before written errors_before errors_written ended =
     Places (weight_of weighing) input left before written errors_before errors_written ended
 Performs (Some (Inspect weighing)) input left before written errors_before errors_written ended =

@@ -1,5 +1,5 @@
 use Rattle.std.proofs.Common.{refl}
-use Rattle.sup_program.proofs.Endings.{ended_so}
+use Rattle.sup_supctl.proofs.Wordless.{ended_so}
 use Rattle.sup_supctl.proofs.words.run_with.Goals as goal
 
 pub returns-in-Err-clause-without : goal.returns-in-Err-clause-without
