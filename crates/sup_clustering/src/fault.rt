@@ -55,8 +55,8 @@ impl From<DeviceFault> for ClusterFault {
 
 impl ClusterFault {
     /// The exit status: that of the job's fault; 3 where a history is full or a link closed; 4 where what the threads did is no run.
-    pub fn status(self) -> u8
-        ensures { result ≡ status_of self }
+    pub fn status(&self) -> u8
+        ensures { result ≡ status_of self.now }
     {
         match self {
             ClusterFault::Job(fault) => fault.status(),

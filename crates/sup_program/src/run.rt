@@ -79,15 +79,18 @@ fn perform<R: Read, W: Write, E: Write>(
     ensures unwritten { IfCluster result (λ _. writer.new ≡ writer.old) }
     ensures untold { IfCluster result (λ _. errors.new ≡ errors.old) }
 {
-    let ended = match request {
+    match request {
         Request::Simulate { weighing, config } => {
-            simulate_by(alloc, weighing, config, reader, writer, errors)
+            Ran::Status(simulate_by(alloc, weighing, config, reader, writer, errors).status)
         }
-        Request::Cluster { weighing, config } => return Ran::Cluster(Options { weighing, config }),
-        Request::Place { weighing } => place_by(alloc, weighing, reader, writer, errors),
-        Request::Inspect { weighing } => inspect_by(alloc, weighing, reader, writer, errors),
-    };
-    Ran::Status(ended.status)
+        Request::Cluster { weighing, config } => Ran::Cluster(Options { weighing, config }),
+        Request::Place { weighing } => {
+            Ran::Status(place_by(alloc, weighing, reader, writer, errors).status)
+        }
+        Request::Inspect { weighing } => {
+            Ran::Status(inspect_by(alloc, weighing, reader, writer, errors).status)
+        }
+    }
 }
 
 // Runs a script, with the weights that are asked for.

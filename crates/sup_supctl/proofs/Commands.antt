@@ -32,26 +32,32 @@ unbegun weigher config (Some bytes) left before written errors_before errors_wri
 performed : (asked : Option Request) (input left before written errors_before errors_written : Bytes) (ended : Ended) → Performs asked input left before written errors_before errors_written ended → PerformsAll asked input left before written errors_before errors_written ended
 performed None input left before written errors_before errors_written ended h = h
 performed (Some (Simulate weighing config)) input left before written errors_before errors_written ended h = h
-performed (Some (Cluster weighing config)) input left before written errors_before errors_written ended h = unbegun (weight_of weighing) config input left before written errors_before errors_written ended h.0 h.1.0 h.1.1
+performed (Some (Cluster weighing config)) input left before written errors_before errors_written ended h = unbegun (weight_of weighing) config input left before written errors_before errors_written ended h.0 h.1 h.2
 performed (Some (Place weighing)) input left before written errors_before errors_written ended h = h
 performed (Some (Inspect weighing)) input left before written errors_before errors_written ended h = h
 
 module _ {R W E : Type 0} (remaining : R → Bytes) (contents : W → Bytes) (told : E → Bytes) (words : List Text) (old left : R) (before written : W) (errors_before errors_written : E) where
   pub all : (status : ℕ) → Runs remaining contents told words old left before written errors_before errors_written status → RunsAll remaining contents told words old left before written errors_before errors_written status
   all status h = record {
-    performs = (h.performs.0, h.performs.1.0, performed (request_of words) (remaining old) (remaining left) (contents before) (contents written) (told errors_before) (told errors_written) h.performs.0 h.performs.1.1);
+    performs = (h.performs.0, h.performs.1, performed (request_of words) (remaining old) (remaining left) (contents before) (contents written) (told errors_before) (told errors_written) h.performs.0 h.performs.2);
     taken = h.taken;
     unread = h.unread;
     unwritten = h.unwritten;
   }
 
-  pub clustered : (weighing : Weighing) (config : Config) (ended : Ended) → request_of words ≡ Some (Cluster weighing config)
-      → Clusters (weight_of weighing) config (remaining old) (remaining left) (contents before) (contents written) (told errors_before) (told errors_written) ended
-      → TakesAtMost 1048577 (remaining old) (remaining left)
+  -- a cluster began where nothing was read or written
+  pub clustered : (mid : R) (kept : W) (quiet : E) (weighing : Weighing) (config : Config) (ended : Ended) → request_of words ≡ Some (Cluster weighing config)
+      → mid ≡ old → kept ≡ before → quiet ≡ errors_before
+      → Clusters (weight_of weighing) config (remaining mid) (remaining left) (contents kept) (contents written) (told quiet) (told errors_written) ended
+      → TakesAtMost 1048577 (remaining mid) (remaining left)
       → RunsAll remaining contents told words old left before written errors_before errors_written ended.status
-  clustered weighing config ended asked does taken = record {
-    performs = (ended, refl, subst (λ a. PerformsAll a (remaining old) (remaining left) (contents before) (contents written) (told errors_before) (told errors_written) ended) (sym asked) does);
-    taken = taken;
-    unread = λ none. absurd (none-some (Cluster weighing config) (sym none ∙ asked));
-    unwritten = λ none. absurd (none-some (Cluster weighing config) (sym none ∙ asked));
-  }
+  clustered mid kept quiet weighing config ended asked unread unwritten untold does taken =
+      let read = subst (λ r. Clusters (weight_of weighing) config (remaining r) (remaining left) (contents kept) (contents written) (told quiet) (told errors_written) ended) unread does in
+      let wrote = subst (λ w. Clusters (weight_of weighing) config (remaining old) (remaining left) (contents w) (contents written) (told quiet) (told errors_written) ended) unwritten read in
+      let tells = subst (λ e. Clusters (weight_of weighing) config (remaining old) (remaining left) (contents before) (contents written) (told e) (told errors_written) ended) untold wrote in
+      record {
+        performs = (ended, refl, subst (λ a. PerformsAll a (remaining old) (remaining left) (contents before) (contents written) (told errors_before) (told errors_written) ended) (sym asked) tells);
+        taken = subst (λ r. TakesAtMost 1048577 (remaining r) (remaining left)) unread taken;
+        unread = λ none. absurd (none-some (Cluster weighing config) (sym none ∙ asked));
+        unwritten = λ none. absurd (none-some (Cluster weighing config) (sym none ∙ asked));
+      }

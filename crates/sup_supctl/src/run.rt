@@ -1,6 +1,6 @@
 //! The program's run, from its words and input to its output and status.
 
-ghost use Rattle.std.specs.Prelude.{map};
+ghost use Rattle.std.specs.Prelude.{◌+◌, map};
 ghost use Rattle.sup_command_line.specs.Weighings.{weight_of};
 ghost use Rattle.sup_clustering.specs.Clustering.{Clusters};
 ghost use Rattle.sup_jobs.specs.Ends.{TakesAtMost};
