@@ -1,6 +1,6 @@
 #!/usr/bin/env bash
-# Runs `supctl simulate` on scripts, `supctl place` on files that end in .members and `supctl inspect` on those that end in .image, with each
-# allocation refused in turn, and with each save failing in turn, and looks at what comes of it:
+# Runs `supctl simulate` on scripts, and on files that end in .cluster, .members and .image `supctl cluster`, `place` and `inspect`, with each
+# allocation refused in turn, and the saves of scripts with each failing in turn, and looks at what comes of it:
 # - status 3: `out of memory` on standard error, and a front of the run's output;
 # - status 0 and one step answered `refused 19 OutOfMemory`: where its line is repeated, all else is as without that answer (of `settle`,
 #   whose steps before stand, what is shown at the end);
@@ -13,7 +13,7 @@ top=$(cd "$(dirname "$0")/.." && pwd)
 work=$(mktemp -d)
 trap 'rm -rf "$work"' EXIT
 rows=$top/crates/sup_rows/data
-[ $# -gt 0 ] || set -- "$top/crates/supctl/stdin" "$top"/examples/*.script "$top"/examples/*.{members,image} \
+[ $# -gt 0 ] || set -- "$top/crates/supctl/stdin" "$top"/examples/*.script "$top"/examples/*.{cluster,members,image} \
   "$rows"/{cut-and-misdirected-messages,delivery-at-a-stopped-node,interval-after-restart-without-its-text,member-leaves-rejoins-and-restarts}/stdin \
   "$rows"/{least-dot-wins,finish-removes-the-one-dot-that-ran,restart-keeps-its-place,each-refusal-in-order,names-follow-their-child}/stdin \
   "$rows"/{interval-after-restart-version-1,image-printed-version-1,inspected-node-tells-what-its-peers-acknowledged,removal-overtakes-its-add}/stdin
@@ -131,6 +131,7 @@ for script in "$@"; do
   rm -f "$work"/before.*
   more=()
   command=simulate
+  [ "$script" = "${script%.cluster}" ] || command=cluster
   [ "$script" = "${script%.members}" ] || command=place
   [ "$script" = "${script%.image}" ] || command=inspect
   name=$(basename "$script")

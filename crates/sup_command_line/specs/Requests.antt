@@ -10,7 +10,7 @@ use Rattle.sup_command_line.specs.Words.{supctl_app}
 use Rattle.sup_command_line.specs.Numbers.{number_of}
 use Rattle.sup_command_line.specs.Weighings.{weighing_of}
 use Rattle.sup_command_line.specs.declared.request.Request.{Request}
-use Rattle.sup_command_line.specs.declared.request.Request.TheVariants.{Simulate, Place, Inspect}
+use Rattle.sup_command_line.specs.declared.request.Request.TheVariants.{Simulate, Cluster, Place, Inspect}
 use Rattle.sup_command_line.specs.declared.request.Weighing.{Weighing}
 
 -- first one reading, then what depends on it
@@ -39,6 +39,12 @@ simulation_in options = do
   config ← config_in options
   Some (Simulate weighing config)
 
+unfoldable pub clustering_in : List Row → Option Request
+clustering_in options = do
+  weighing ← weighing_in options
+  config ← config_in options
+  Some (Cluster weighing config)
+
 unfoldable pub placing_in : List Row → Option Request
 placing_in options = do
   weighing ← weighing_in options
@@ -54,8 +60,9 @@ unfoldable pub request_in : Option (Text × List Row) → Option Request
 request_in None = None
 request_in (Some command) =
     if bytes_eq command.0 (codes "simulate") then simulation_in command.1 else
+    (if bytes_eq command.0 (codes "cluster") then clustering_in command.1 else
     (if bytes_eq command.0 (codes "place") then placing_in command.1 else
-    (if bytes_eq command.0 (codes "inspect") then inspection_in command.1 else None))
+    (if bytes_eq command.0 (codes "inspect") then inspection_in command.1 else None)))
 
 -- nothing is asked for by words in which `clap` finds a fault
 abbrev pub unless_faulty : Kinds → Option Request → Option Request

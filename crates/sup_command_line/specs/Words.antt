@@ -31,6 +31,9 @@ with_settings a = with_rule (with_rule (with_rule a intensity_rule) period_rule)
 unfoldable pub simulate_command : App
 simulate_command = with_settings (weighing_command (codes "simulate"))
 
+unfoldable pub cluster_command : App
+cluster_command = with_settings (weighing_command (codes "cluster"))
+
 unfoldable pub place_command : App
 place_command = weighing_command (codes "place")
 
@@ -41,6 +44,10 @@ inspect_command = weighing_command (codes "inspect")
 abbrev pub with_commands : App → App
 with_commands a = record a { top = record a.top { subcommand_required = true; no_binary_name = true } }
 
--- supctl simulate|place|inspect
+-- the commands that run scripts
+unfoldable pub script_commands : App
+script_commands = with_subcommand (with_subcommand (with_commands (new_app (codes "supctl"))) simulate_command.top) cluster_command.top
+
+-- supctl simulate|cluster|place|inspect
 unfoldable pub supctl_app : App
-supctl_app = with_subcommand (with_subcommand (with_subcommand (with_commands (new_app (codes "supctl"))) simulate_command.top) place_command.top) inspect_command.top
+supctl_app = with_subcommand (with_subcommand script_commands place_command.top) inspect_command.top

@@ -3,7 +3,7 @@
 ghost use Rattle.std.specs.Prelude.{◌≡◌, IfOk, codes, false};
 ghost use Rattle.clap.specs.Words.{app_of, new_app, rule_of, with_rule, with_subcommand};
 ghost use Rattle.clap.specs.declared.builder.command.Command.TheViews.{out-Command as fields_of};
-ghost use Rattle.sup_command_line.specs.Words.{buffer_rule, inspect_command, intensity_rule, option_rule, period_rule, place_command, simulate_command, supctl_app, weigh_rule, weighing_command, with_commands, with_settings};
+ghost use Rattle.sup_command_line.specs.Words.{buffer_rule, cluster_command, inspect_command, intensity_rule, option_rule, period_rule, place_command, script_commands, simulate_command, supctl_app, weigh_rule, weighing_command, with_commands, with_settings};
 
 use clap::{Arg, ArgAction, Command};
 use std::alloc::{AllocError, Global};
@@ -14,9 +14,18 @@ pub fn supctl<'a>(alloc: Global) -> Result<Command<'a>, AllocError>
     ensures app { IfOk result (λ c. app_of c ≡ supctl_app) }
     ensures local { IfOk result (λ c. (fields_of c).has_globals ≡ false) }
 {
-    let command = with_command(top_command(alloc)?, simulate_command(alloc)?)?;
-    let command = with_command(command, place_command(alloc)?)?;
+    let command = with_command(script_commands(alloc)?, place_command(alloc)?)?;
     with_command(command, inspect_command(alloc)?)
+}
+
+// With the commands that run scripts.
+#[tactic(auto, unfolding(crate::specs::Words::script_commands))]
+fn script_commands<'a>(alloc: Global) -> Result<Command<'a>, AllocError>
+    ensures app { IfOk result (λ c. app_of c ≡ script_commands) }
+    ensures local { IfOk result (λ c. (fields_of c).has_globals ≡ false) }
+{
+    let command = with_command(top_command(alloc)?, simulate_command(alloc)?)?;
+    with_command(command, cluster_command(alloc)?)
 }
 
 // Its name stands before each command's in what is told of usage.
@@ -26,7 +35,7 @@ fn top_command<'a>(alloc: Global) -> Result<Command<'a>, AllocError>
 {
     Command::new(alloc, "supctl")
         .about(
-            "A replicated supervisor: scripts over a cluster of nodes, placement, and stored images",
+            "A replicated supervisor: scripts over a cluster of nodes, runs by threads, placement, and stored images",
         )
         .no_binary_name(true)
         .subcommand_required(true)
@@ -40,6 +49,16 @@ fn simulate_command<'a>(alloc: Global) -> Result<Command<'a>, AllocError>
 {
     let about = "Runs the script on standard input, and prints what each of its lines is answered";
     with_settings(alloc, weighing_command(alloc, "simulate", about)?)
+}
+
+#[tactic(auto, unfolding(crate::specs::Words::cluster_command))]
+fn cluster_command<'a>(alloc: Global) -> Result<Command<'a>, AllocError>
+    ensures app { IfOk result (λ c. app_of c ≡ cluster_command) }
+    ensures local { IfOk result (λ c. (fields_of c).has_globals ≡ false) }
+{
+    let about =
+        "Runs the script on standard input by threads, and prints what its nodes know at the end";
+    with_settings(alloc, weighing_command(alloc, "cluster", about)?)
 }
 
 #[tactic(auto, unfolding(crate::specs::Words::place_command))]

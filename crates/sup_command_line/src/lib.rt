@@ -5,6 +5,7 @@
 //!
 //! match read_words(alloc, words.as_slice()) {
 //!     Ok(Request::Simulate { weighing, config }) => simulate(weighing, config),
+//!     Ok(Request::Cluster { weighing, config }) => cluster(weighing, config),
 //!     Ok(Request::Place { weighing }) => place(weighing),
 //!     Ok(Request::Inspect { weighing }) => inspect(weighing),
 //!     Err(error) if is_want_of_memory(&error) => end(3),

@@ -2,7 +2,7 @@
 
 ghost use Rattle.std.specs.Prelude.{◌≡◌, ◌≢◌, ◌↔◌, [], IfOk, IfErr, IsTrue, OnOk, map, option_map, codes};
 ghost use Rattle.clap.specs.Words.{fault_of, found_of, kind_of, rows_of, subcommand_of, subcommand_rows_of};
-ghost use Rattle.sup_command_line.specs.Requests.{ReadsTo, inspection_in, placing_in, request_in, request_of, simulation_in};
+ghost use Rattle.sup_command_line.specs.Requests.{ReadsTo, clustering_in, inspection_in, placing_in, request_in, request_of, simulation_in};
 ghost use Rattle.sup_command_line.specs.Words.{supctl_app};
 
 use crate::commands::supctl;
@@ -34,7 +34,7 @@ pub fn is_want_of_memory(error: &Error) -> bool
     error.kind() == ErrorKind::OutOfMemory
 }
 
-#[tactic(auto, unfolding(crate::specs::Words::supctl_app, crate::specs::Words::simulate_command, crate::specs::Words::place_command, crate::specs::Words::inspect_command))]
+#[tactic(auto, unfolding(crate::specs::Words::supctl_app, crate::specs::Words::script_commands, crate::specs::Words::simulate_command, crate::specs::Words::cluster_command, crate::specs::Words::place_command, crate::specs::Words::inspect_command))]
 fn matches_of<'a, S: AsStr>(alloc: Global, words: &'a [S]) -> Result<ArgMatches<'a>, Error>
     ensures found { IfOk result (λ m. subcommand_rows_of m
         ≡ subcommand_of supctl_app (map S.text words.entry.now)) }
@@ -78,6 +78,7 @@ fn request_in(matches: &ArgMatches<'_>) -> Option<Request>
     let (name, options) = command_in(matches)?;
     match name {
         "simulate" => simulation_in(options),
+        "cluster" => clustering_in(options),
         "place" => placing_in(options),
         "inspect" => inspection_in(options),
         _ => None,
@@ -98,6 +99,15 @@ fn simulation_in(options: &ArgMatches<'_>) -> Option<Request>
     let weighing = weighing_in(options)?;
     let config = config_in(options)?;
     Some(Request::Simulate { weighing, config })
+}
+
+#[tactic(auto, unfolding(crate::specs::Requests::clustering_in))]
+fn clustering_in(options: &ArgMatches<'_>) -> Option<Request>
+    ensures { result ≡ clustering_in (rows_of (found_of options.now)) }
+{
+    let weighing = weighing_in(options)?;
+    let config = config_in(options)?;
+    Some(Request::Cluster { weighing, config })
 }
 
 #[tactic(auto, unfolding(crate::specs::Requests::placing_in))]

@@ -21,6 +21,13 @@ pub enum Request {
         /// What is set for each of its nodes.
         config: Config,
     },
+    /// To run a script by threads.
+    Cluster {
+        /// How its nodes weigh members.
+        weighing: Weighing,
+        /// What is set for each of its nodes.
+        config: Config,
+    },
     /// To place children among members.
     Place {
         /// How the members are weighed.

@@ -18,11 +18,14 @@ fn check_refused(rt: &impl Abort, alloc: Global, words: &[&str], kind: ErrorKind
 
 #[test]
 fn words_that_no_command_takes_are_refused(rt: HostRuntime) {
-    let cases: [(&[&str], ErrorKind); 19] = [
+    let cases: [(&[&str], ErrorKind); 22] = [
         (&[], ErrorKind::MissingSubcommand),
         (&["simulated"], ErrorKind::InvalidSubcommand),
         (&["--weigh", "flat", "simulate"], ErrorKind::UnknownArgument),
         (&["simulate", "place"], ErrorKind::UnknownArgument),
+        (&["clusters"], ErrorKind::InvalidSubcommand),
+        (&["cluster", "place"], ErrorKind::UnknownArgument),
+        (&["cluster", "--help"], ErrorKind::DisplayHelp),
         (&["--help"], ErrorKind::DisplayHelp),
         (&["place", "--help"], ErrorKind::DisplayHelp),
         (&["inspect", "--help"], ErrorKind::DisplayHelp),
@@ -70,6 +73,10 @@ fn a_value_that_an_option_does_not_take_is_refused(rt: HostRuntime) {
         ["place", "--weigh", "sha-256"],
         ["place", "--weigh", "sha256 "],
         ["inspect", "--weigh", "x"],
+        ["cluster", "--weigh", "x"],
+        ["cluster", "--intensity", "1001"],
+        ["cluster", "--period", "0"],
+        ["cluster", "--buffer", "0"],
         ["simulate", "--intensity", "1001"],
         ["simulate", "--intensity", "65536"],
         ["simulate", "--period", "0"],
@@ -141,9 +148,11 @@ fn what_is_wrong_with_words_is_told_by_its_name(rt: HostRuntime) -> Result<(), F
 
 #[test]
 fn help_names_the_program_its_commands_and_their_options(rt: HostRuntime) -> Result<(), Fail> {
-    let cases: [(&[&str], &str); 8] = [
+    let cases: [(&[&str], &str); 10] = [
         (&["--help"], "Usage: supctl <COMMAND>"),
         (&["--help"], "inspect"),
+        (&["--help"], "cluster"),
+        (&["cluster", "--help"], "Usage: supctl cluster [OPTIONS]"),
         (&["simulate", "--help"], "Usage: supctl simulate [OPTIONS]"),
         (&["place", "--help"], "Usage: supctl place [OPTIONS]"),
         (&["inspect", "--help"], "Usage: supctl inspect [OPTIONS]"),

@@ -105,6 +105,45 @@ fn each_option_sets_its_own_value(rt: HostRuntime) {
     }
 }
 
+fn check_runs(
+    rt: &impl Abort,
+    alloc: Global,
+    words: &[&str],
+    weighing: Weighing,
+    numbers: (u16, u32, u16),
+) {
+    match Config::new(numbers.0, numbers.1, numbers.2) {
+        Some(config) => check_asks(rt, alloc, words, Request::Cluster { weighing, config }),
+        None => assert!(rt; false),
+    }
+}
+
+#[test]
+fn a_cluster_is_set_as_a_simulation_is(rt: HostRuntime) {
+    let cases: [(&[&str], Weighing, (u16, u32, u16)); 5] = [
+        (&["cluster"], Weighing::Sha256, (1, 5, 64)),
+        (&["cluster", "--weigh=flat"], Weighing::Flat, (1, 5, 64)),
+        (
+            &["cluster", "--intensity", "0"],
+            Weighing::Sha256,
+            (0, 5, 64),
+        ),
+        (
+            &["cluster", "--period", "1000000"],
+            Weighing::Sha256,
+            (1, 1_000_000, 64),
+        ),
+        (
+            &["cluster", "--buffer", "4", "--weigh", "flat"],
+            Weighing::Flat,
+            (1, 5, 4),
+        ),
+    ];
+    for (words, weighing, numbers) in cases {
+        check_runs(&rt, rt.alloc(), words, weighing, numbers);
+    }
+}
+
 #[test]
 fn place_has_both_weighers(rt: HostRuntime) {
     let cases: [(&[&str], Weighing); 4] = [

@@ -1,19 +1,25 @@
 -- Runs that end before their input is read.
-use Rattle.std.proofs.Common.{[], Some, None, inl, inr, refl, arith}
+use Rattle.std.proofs.Common.{◌≡◌, ◌∙◌, List, [], Some, None, inl, inr, refl, sym, subst, arith}
 use Rattle.std.specs.Prelude.{Option, Err}
+use Rattle.std.specs.Io.KnownBytes.{Consumes}
+use Rattle.std.proofs.lemmas.Option.{none-some}
+use Rattle.clap.specs.Words.{Text}
+use Rattle.sup_command_line.specs.Requests.{request_of}
 use Rattle.std.proofs.KnownBytes.{Keeps-refl}
 use Rattle.sup_command_line.specs.declared.request.Request.{Request}
-use Rattle.sup_command_line.specs.declared.request.Request.TheVariants.{Simulate, Place, Inspect}
+use Rattle.sup_command_line.specs.declared.request.Request.TheVariants.{Simulate, Cluster, Place, Inspect}
 use Rattle.sup_command_line.specs.Weighings.{weight_of}
 use Rattle.sup_jobs.specs.declared.fault.Ended.{Ended}
 use Rattle.sup_jobs.specs.declared.fault.Fault.TheVariants.{OutOfMemory}
-use Rattle.sup_jobs.specs.Ends.{Bytes, Job, Does}
+use Rattle.sup_jobs.specs.Ends.{Bytes, Job, Does, TakesAtMost}
 use Rattle.sup_placement.specs.Place.{Weigher}
 use Rattle.sup_placing.specs.Placing.{placement}
 use Rattle.sup_inspecting.specs.Inspecting.{Inspects}
 use Rattle.sup_program.specs.Simulating.{simulation}
-use Rattle.sup_program.specs.Performing.{Performs, WantsMemory}
-use Rattle.sup_program.specs.Runs.{EndsWith}
+use Rattle.sup_program.specs.Performing.{Performs, Refuses, WantsMemory}
+use Rattle.sup_program.specs.Runs.{EndsWith, IfStatus, Runs}
+use Rattle.sup_program.specs.declared.run.Ran.{Ran}
+use Rattle.sup_program.specs.declared.run.Ran.TheVariants as Ran
 
 -- a run that was refused memory at once has taken and written nothing, whatever its input is
 unstarted : {A : Type 0} (job : Job A) (input before errors_before errors_written : Bytes) (ended : Ended) → WantsMemory errors_before errors_written ended → Does job input input before before errors_before errors_written ended
@@ -28,8 +34,42 @@ unlooked weigher (Some bytes) before errors_before errors_written ended h = (Err
 pub unperformed : (asked : Option Request) (input before errors_before errors_written : Bytes) (ended : Ended) → WantsMemory errors_before errors_written ended → Performs asked input input before before errors_before errors_written ended
 unperformed None input before errors_before errors_written ended h = inr h
 unperformed (Some (Simulate weighing config)) input before errors_before errors_written ended h = unstarted (simulation (weight_of weighing) config) input before errors_before errors_written ended h
+unperformed (Some (Cluster weighing config)) input before errors_before errors_written ended h = (h, Keeps-refl input, Keeps-refl before)
 unperformed (Some (Place weighing)) input before errors_before errors_written ended h = unstarted (placement (weight_of weighing)) input before errors_before errors_written ended h
 unperformed (Some (Inspect weighing)) input before errors_before errors_written ended h = unlooked (weight_of weighing) input before errors_before errors_written ended h
+
+-- words that ask for nothing
+pub refused : (asked : Option Request) (input left before written errors_before errors_written : Bytes) (ended : Ended) → asked ≡ None → Refuses errors_before errors_written ended → Performs asked input left before written errors_before errors_written ended
+refused asked input left before written errors_before errors_written ended none h = subst (λ a. Performs a input left before written errors_before errors_written ended) (sym none) h
+
+none_taken : (input : Bytes) → Consumes input input []
+none_taken None = tt
+none_taken (Some bytes) = refl
+
+module _ {R W E : Type 0} (remaining : R → Bytes) (contents : W → Bytes) (told : E → Bytes) (words : List Text) (old left : R) (before written : W) (errors_before errors_written : E) where
+  -- what was asked for was done, if that waits for nobody
+  pub ran_so : (ran : Ran) (request : Request) → request_of words ≡ Some request
+      → IfStatus ran (λ status. EndsWith status (Performs (Some request) (remaining old) (remaining left) (contents before) (contents written) (told errors_before) (told errors_written)))
+      → TakesAtMost 1048577 (remaining old) (remaining left)
+      → IfStatus ran (Runs remaining contents told words old left before written errors_before errors_written)
+  ran_so (Ran.Status status) request asked h taken = record {
+    performs = subst (λ a. EndsWith status (Performs a (remaining old) (remaining left) (contents before) (contents written) (told errors_before) (told errors_written))) (sym asked) h;
+    taken = taken;
+    unread = λ none. absurd (none-some request (sym none ∙ asked));
+    unwritten = λ none. absurd (none-some request (sym none ∙ asked));
+  }
+  ran_so (Ran.Cluster options) request asked h taken = tt
+
+module _ {R W E : Type 0} (remaining : R → Bytes) (contents : W → Bytes) (told : E → Bytes) (words : List Text) (reader : R) (writer : W) (errors_before errors_written : E) where
+  -- nothing was read or written
+  pub unstarted_run : (ended : Ended) → Performs (request_of words) (remaining reader) (remaining reader) (contents writer) (contents writer) (told errors_before) (told errors_written) ended
+      → Runs remaining contents told words reader reader writer writer errors_before errors_written ended.status
+  unstarted_run ended h = record {
+    performs = (ended, refl, h);
+    taken = ([], omega arith, none_taken (remaining reader));
+    unread = λ _. refl;
+    unwritten = λ _. refl;
+  }
 
 -- an end of which only the status is told
 pub ended_so : (Is : Ended → Type 0) (ended : Ended) → Is ended → EndsWith ended.status Is

@@ -1,8 +1,9 @@
 -- What is done for the words of the command line, by what they ask for (this project).
 use Rattle.std.specs.Prelude.{◌≡◌, ◌⊎◌, ℕ, List, Option, Some, None}
+use Rattle.std.specs.Io.KnownBytes.{Keeps}
 use Rattle.sup_command_line.specs.Weighings.{weight_of}
 use Rattle.sup_command_line.specs.declared.request.Request.{Request}
-use Rattle.sup_command_line.specs.declared.request.Request.TheVariants.{Simulate, Place, Inspect}
+use Rattle.sup_command_line.specs.declared.request.Request.TheVariants.{Simulate, Cluster, Place, Inspect}
 use Rattle.sup_jobs.specs.declared.fault.Ended.{Ended}
 use Rattle.sup_jobs.specs.declared.fault.Fault.TheVariants.{OutOfMemory}
 use Rattle.sup_jobs.specs.Ends.{Bytes}
@@ -26,10 +27,12 @@ abbrev pub Refuses : Bytes → Bytes → Ended → Type 0
 Refuses errors_before errors_written ended =
     ((said : List ℕ) × TellsUsage said errors_before errors_written ended) ⊎ WantsMemory errors_before errors_written ended
 
--- What is asked for is done, and words that ask for nothing are refused.
+-- What is asked for is done, and words that ask for nothing are refused. A cluster isn't run here: an end tells that memory was refused before.
 abbrev pub Performs : Option Request → Bytes → Bytes → Bytes → Bytes → Bytes → Bytes → Ended → Type 0
 Performs (Some (Simulate weighing config)) input left before written errors_before errors_written ended =
     Simulates (weight_of weighing) config input left before written errors_before errors_written ended
+Performs (Some (Cluster weighing config)) input left before written errors_before errors_written ended =
+    WantsMemory errors_before errors_written ended × Keeps input left × Keeps before written
 Performs (Some (Place weighing)) input left before written errors_before errors_written ended =
     Places (weight_of weighing) input left before written errors_before errors_written ended
 Performs (Some (Inspect weighing)) input left before written errors_before errors_written ended =

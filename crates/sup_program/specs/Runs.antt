@@ -1,22 +1,23 @@
--- What a run of the program does, by its words (this project).
-use Rattle.std.specs.Prelude.{◌≡◌, ◌≢◌, ℕ, List, None, codes}
-use Rattle.std.specs.IoError.{error_kind}
-use Rattle.std.specs.declared.io.Error.{Error}
-use Rattle.std.specs.declared.io.ErrorKind.TheVariants as kind
+-- What a run of the commands that wait for nobody does, by its words (this project).
+use Rattle.std.specs.Prelude.{◌≡◌, ℕ, List, None}
 use Rattle.clap.specs.Words.{Text}
 use Rattle.sup_command_line.specs.Requests.{request_of}
 use Rattle.sup_jobs.specs.declared.fault.Ended.{Ended}
 use Rattle.sup_jobs.specs.Ends.{Bytes, TakesAtMost}
-use Rattle.sup_program.specs.Performing.{Performs, TellsUsage, WantsMemory}
+use Rattle.sup_program.specs.Performing.{Performs}
 use Rattle.sup_program.specs.declared.run.Ran.{Ran}
-use Rattle.sup_program.specs.declared.run.Ran.TheVariants.{Status}
+use Rattle.sup_program.specs.declared.run.Ran.TheVariants.{Status, Cluster}
+use Rattle.sup_program.specs.declared.run.Options.{Options}
 
--- the line on standard error where the words of the command line are no text
-abbrev pub no_text_line : List ℕ
-no_text_line = codes "error: invalid UTF-8 was detected in one or more arguments\n"
+-- a run that ended with a status
+abbrev pub IfStatus : Ran → (ℕ → Type 0) → Type 0
+IfStatus (Status status) Is = Is status
+IfStatus (Cluster options) Is = Unit {0}
 
-abbrev pub status_in : Ran → ℕ
-status_in (Status status) = status
+-- a run that is still to be done by threads
+abbrev pub IfCluster : Ran → (Options → Type 0) → Type 0
+IfCluster (Status status) Is = Unit {0}
+IfCluster (Cluster options) Is = Is options
 
 -- The run ended so, with this status; whether the error writer took all that it was told is passed over.
 abbrev pub EndsWith : ℕ → (Ended → Type 0) → Type 0
@@ -29,10 +30,3 @@ module _ {R W E : Type 0} (remaining : R → Bytes) (contents : W → Bytes) (to
     pub taken : TakesAtMost 1048577 (remaining old) (remaining left)
     pub unread : request_of words ≡ None → left ≡ old
     pub unwritten : request_of words ≡ None → written ≡ before
-
-  -- What it does that was to be started with words that can't be had.
-  pub record RunsWithout (error : Error) (old left : R) (before written : W) (errors_before errors_written : E) (status : ℕ) : Type 0 where
-    pub usage : error_kind error ≢ kind.OutOfMemory → EndsWith status (TellsUsage no_text_line (told errors_before) (told errors_written))
-    pub memory : error_kind error ≡ kind.OutOfMemory → EndsWith status (WantsMemory (told errors_before) (told errors_written))
-    pub unread : left ≡ old
-    pub unwritten : written ≡ before

@@ -1,4 +1,4 @@
-//! The program `supctl` but for its `main`: from its words and its input to its output and status.
+//! The commands of `supctl` that wait for nobody: from its words and its input to its output and status.
 #![tactic(auto)]
 
 pub mod laws;
@@ -6,4 +6,3 @@ mod line;
 mod play;
 pub mod run;
 mod simulate;
-pub mod words;

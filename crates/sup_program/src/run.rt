@@ -4,7 +4,7 @@ ghost use Rattle.std.specs.Prelude.{◌≡◌, ◌+◌, None, Some, map};
 ghost use Rattle.sup_command_line.specs.Requests.{request_of};
 ghost use Rattle.sup_jobs.specs.Ends.{TakesAtMost};
 ghost use Rattle.sup_program.specs.Performing.{Performs, Refuses, WantsMemory};
-ghost use Rattle.sup_program.specs.Runs.{Runs, status_in};
+ghost use Rattle.sup_program.specs.Runs.{EndsWith, IfCluster, IfStatus, Runs};
 
 use crate::simulate::simulate;
 use clap::Error;
@@ -21,31 +21,27 @@ use sup_replica::Config;
 /// The exit status where the words are refused.
 pub const USAGE: u8 = 2;
 
+/// What is set for a cluster that runs by threads.
+#[derive(Clone, Copy, Debug, PartialEq, Eq)]
+pub struct Options {
+    /// How its nodes weigh members.
+    pub weighing: Weighing,
+    /// What is set for each of its nodes.
+    pub config: Config,
+}
+
 /// How a run ended that waits for nobody.
 #[derive(Clone, Copy, Debug, PartialEq, Eq)]
 pub enum Ran {
     /// With this exit status.
     Status(u8),
+    /// It is still to be done: the words ask for a cluster with these options, which only threads can run.
+    Cluster(Options),
 }
 
-/// Runs the program, and answers its exit status: 0, or 1 where the input is bad, `USAGE` where the words are refused, and 3 where the
-/// device or memory ended it. The words are those after the program's name. Faults of the error writer are passed over.
-pub fn run<S: AsStr, R: Read, W: Write, E: Write>(
-    alloc: Global,
-    words: &[S],
-    reader: &mut R,
-    writer: &mut W,
-    errors: &mut E,
-) -> u8
-    ensures { Runs R.remaining W.contents E.contents (map S.text words.now) reader.old reader.new
-        writer.old writer.new errors.old errors.new result }
-{
-    match run_plain(alloc, words, reader, writer, errors) {
-        Ran::Status(status) => status,
-    }
-}
-
-/// Runs the commands that wait for nobody, as `run` does, and answers how that ended.
+/// Runs the commands that wait for nobody, and answers how that ended: with exit status 0, or 1 where the input is bad, `USAGE` where
+/// the words are refused, and 3 where the device or memory ended it; or that the words ask for a cluster, with nothing read or written.
+/// The words are those after the program's name. Faults of the error writer are passed over.
 pub fn run_plain<S: AsStr, R: Read, W: Write, E: Write>(
     alloc: Global,
     words: &[S],
@@ -53,52 +49,47 @@ pub fn run_plain<S: AsStr, R: Read, W: Write, E: Write>(
     writer: &mut W,
     errors: &mut E,
 ) -> Ran
-    ensures { Runs R.remaining W.contents E.contents (map S.text words.now) reader.old reader.new
-        writer.old writer.new errors.old errors.new (status_in result) }
-{
-    let ended = run_words(alloc, words, reader, writer, errors);
-    Ran::Status(ended.status)
-}
-
-// Does what the words ask for, or tells why they are refused.
-fn run_words<S: AsStr, R: Read, W: Write, E: Write>(
-    alloc: Global,
-    words: &[S],
-    reader: &mut R,
-    writer: &mut W,
-    errors: &mut E,
-) -> Ended
-    ensures performs { Performs (request_of (map S.text words.now)) (R.remaining reader.old) (R.remaining reader.new)
-        (W.contents writer.old) (W.contents writer.new) (E.contents errors.old) (E.contents errors.new) result }
-    ensures taken { TakesAtMost (LIMIT + 1) (R.remaining reader.old) (R.remaining reader.new) }
-    ensures unread { request_of (map S.text words.now) ≡ None → reader.new ≡ reader.old }
-    ensures unwritten { request_of (map S.text words.now) ≡ None → writer.new ≡ writer.old }
+    ensures status { IfStatus result (Runs R.remaining W.contents E.contents (map S.text words.now) reader.old reader.new
+        writer.old writer.new errors.old errors.new) }
+    ensures asked { IfCluster result (λ o. request_of (map S.text words.now) ≡ Some (Request.Cluster o.weighing o.config)) }
+    ensures unread { IfCluster result (λ _. reader.new ≡ reader.old) }
+    ensures unwritten { IfCluster result (λ _. writer.new ≡ writer.old) }
+    ensures untold { IfCluster result (λ _. errors.new ≡ errors.old) }
 {
     match read_words(alloc, words) {
         Ok(request) => perform(alloc, request, reader, writer, errors),
-        Err(error) if is_want_of_memory(&error) => want_of_memory(errors),
-        Err(error) => refuse(alloc, &error, errors),
+        Err(error) if is_want_of_memory(&error) => Ran::Status(want_of_memory(errors).status),
+        Err(error) => Ran::Status(refuse(alloc, &error, errors).status),
     }
 }
 
-// Does what is asked for.
+// Does what is asked for, if that waits for nobody.
 fn perform<R: Read, W: Write, E: Write>(
     alloc: Global,
     request: Request,
     reader: &mut R,
     writer: &mut W,
     errors: &mut E,
-) -> Ended
-    ensures performs { Performs (Some request) (R.remaining reader.old) (R.remaining reader.new)
-        (W.contents writer.old) (W.contents writer.new) (E.contents errors.old) (E.contents errors.new) result }
+) -> Ran
+    ensures status { IfStatus result (λ status. EndsWith status (Performs (Some request) (R.remaining reader.old) (R.remaining reader.new)
+        (W.contents writer.old) (W.contents writer.new) (E.contents errors.old) (E.contents errors.new))) }
     ensures taken { TakesAtMost (LIMIT + 1) (R.remaining reader.old) (R.remaining reader.new) }
+    ensures asked { IfCluster result (λ o. request ≡ Request.Cluster o.weighing o.config) }
+    ensures unread { IfCluster result (λ _. reader.new ≡ reader.old) }
+    ensures unwritten { IfCluster result (λ _. writer.new ≡ writer.old) }
+    ensures untold { IfCluster result (λ _. errors.new ≡ errors.old) }
 {
     match request {
         Request::Simulate { weighing, config } => {
-            simulate_by(alloc, weighing, config, reader, writer, errors)
+            Ran::Status(simulate_by(alloc, weighing, config, reader, writer, errors).status)
         }
-        Request::Place { weighing } => place_by(alloc, weighing, reader, writer, errors),
-        Request::Inspect { weighing } => inspect_by(alloc, weighing, reader, writer, errors),
+        Request::Cluster { weighing, config } => Ran::Cluster(Options { weighing, config }),
+        Request::Place { weighing } => {
+            Ran::Status(place_by(alloc, weighing, reader, writer, errors).status)
+        }
+        Request::Inspect { weighing } => {
+            Ran::Status(inspect_by(alloc, weighing, reader, writer, errors).status)
+        }
     }
 }
 

@@ -3,7 +3,9 @@ use crate::runs::{OUTPUT, SCRIPT, expect_run, simulate};
 use std::alloc::Global;
 use std::io::{self, ErrorKind, Read, Write};
 use std::process::Abort;
-use sup_program::run::run;
+use std::sync::Wait;
+use std::thread::Threads;
+use sup_supctl::run::run;
 
 /// A script of steps, and what it prints: answers, effects and letters.
 const STEPS: &[u8] = b"nodes a b\njoin b\nstart b web\nship b a\nsettle\nshow a\nwhere a www\n";
@@ -113,12 +115,24 @@ fn a_reader_that_fails_behind_a_bad_line_is_a_device_fault(rt: HostRuntime) {
 }
 
 // Expects the front of a simulation's output that there is room for.
-fn expect_front(rt: &(impl Abort + AllocGlobal), input: &[u8], output: &[u8], room: usize) {
+fn expect_front(
+    rt: &(impl Abort + Threads + Wait + Sync + AllocGlobal),
+    input: &[u8],
+    output: &[u8],
+    room: usize,
+) {
     let mut reader = input;
     let mut writer = Short::new(rt.alloc(), room);
     let mut errors = Vec::new(rt.alloc());
     let words = ["simulate", "--weigh", "flat"];
-    let status = run(rt.alloc(), &words, &mut reader, &mut writer, &mut errors);
+    let status = run(
+        rt,
+        rt.alloc(),
+        &words,
+        &mut reader,
+        &mut writer,
+        &mut errors,
+    );
     let count = output.len().min(room);
     assert!(rt; writer.bytes.as_slice() == &output[..count]);
     if room < output.len() {
@@ -150,7 +164,14 @@ fn what_a_placement_wrote_before_a_fault_stays(rt: HostRuntime) {
         let mut writer = Short::new(rt.alloc(), room);
         let mut errors = Vec::new(rt.alloc());
         let words = ["place", "--weigh", "flat"];
-        let status = run(rt.alloc(), &words, &mut reader, &mut writer, &mut errors);
+        let status = run(
+            &rt,
+            rt.alloc(),
+            &words,
+            &mut reader,
+            &mut writer,
+            &mut errors,
+        );
         assert!(rt; writer.bytes.as_slice() == &output[..room]);
         assert!(rt; status == 3 && errors.as_slice() == b"device\n".as_slice());
     }
@@ -163,7 +184,7 @@ fn faults_of_the_error_writer_are_passed_over(rt: HostRuntime) {
         let mut reader = b"\n\n\n\n\n\n\n\n\n\n\nshow\n".as_slice();
         let mut writer = Vec::new(rt.alloc());
         let mut errors = Short::new(rt.alloc(), room);
-        let status = simulate(rt.alloc(), &mut reader, &mut writer, &mut errors);
+        let status = simulate(&rt, rt.alloc(), &mut reader, &mut writer, &mut errors);
         assert!(rt; status == 1 && writer.is_empty());
         assert!(rt; errors.bytes.as_slice() == &line[..room]);
     }
@@ -175,6 +196,7 @@ fn usage_that_cant_be_told_keeps_its_status(rt: HostRuntime) {
     let mut writer = Vec::new(rt.alloc());
     let mut errors = Short::new(rt.alloc(), 0);
     let status = run(
+        &rt,
         rt.alloc(),
         &["simulat"],
         &mut reader,

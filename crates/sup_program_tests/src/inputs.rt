@@ -20,10 +20,12 @@ fn an_input_has_at_most_1048576_bytes(rt: HostRuntime) -> Result<(), Fail> {
 fn an_input_that_is_too_long_has_no_bad_line(rt: HostRuntime) -> Result<(), Fail> {
     let input = vec![in rt.alloc(); b'x'; 1_048_577]?;
     expect(&rt, &["simulate"], input.as_slice(), 1, b"", b"bad input\n");
+    expect(&rt, &["cluster"], input.as_slice(), 1, b"", b"bad input\n");
     expect(&rt, &["place"], input.as_slice(), 1, b"", b"bad input\n");
     expect(&rt, &["inspect"], input.as_slice(), 1, b"", b"bad input\n");
     let shorter = &input.as_slice()[1..];
     expect(&rt, &["simulate"], shorter, 1, b"", b"bad line 1\n");
+    expect(&rt, &["cluster"], shorter, 1, b"", b"bad line 1\n");
     expect(&rt, &["place"], shorter, 1, b"", b"bad line 1\n");
     expect(&rt, &["inspect"], shorter, 1, b"", b"bad image NotJson\n");
     Ok(())

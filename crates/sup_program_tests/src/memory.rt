@@ -2,7 +2,9 @@
 //! no memory of their own.
 use crate::runs::{OUTPUT, SCRIPT};
 use std::process::Abort;
-use sup_program::run::run;
+use std::sync::Wait;
+use std::thread::Threads;
+use sup_supctl::run::run;
 
 const STEP: &[u8] = b"nodes a\nstart a x\nshow a\n";
 
@@ -27,7 +29,7 @@ struct Outcome {
 
 // Runs over devices that take no memory.
 fn run_lean(
-    rt: &impl AllocGlobal,
+    rt: &(impl Threads + Wait + Sync + AllocGlobal),
     words: &[&str],
     input: &[u8],
     printed: &mut [u8],
@@ -39,6 +41,7 @@ fn run_lean(
     let mut writer = printed;
     let mut error_writer = errors;
     let status = run(
+        rt,
         rt.alloc(),
         words,
         &mut reader,

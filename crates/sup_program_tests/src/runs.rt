@@ -2,25 +2,29 @@
 use std::alloc::Global;
 use std::io::{Read, Write};
 use std::process::Abort;
-use sup_program::run::{USAGE, run};
+use std::sync::Wait;
+use std::thread::Threads;
+use sup_program::run::USAGE;
+use sup_supctl::run::run;
 
 /// A script with skipped lines, and what it prints.
 pub(crate) const SCRIPT: &[u8] = b"# two nodes\nnodes a b\n\nshow b\nshow z\nshow a\n";
 
 pub(crate) const OUTPUT: &[u8] = b"node b boot 1\nrefused 3 UnknownNode\nnode a boot 1\n";
 
-pub(crate) fn simulate<R: Read, W: Write, E: Write>(
+pub(crate) fn simulate<T: Threads + Wait + Sync, R: Read, W: Write, E: Write>(
+    rt: &T,
     alloc: Global,
     reader: &mut R,
     writer: &mut W,
     errors: &mut E,
 ) -> u8 {
-    run(alloc, &["simulate"], reader, writer, errors)
+    run(rt, alloc, &["simulate"], reader, writer, errors)
 }
 
 /// Expects what a simulation over this reader writes, and its status.
 pub(crate) fn expect_run<R: Read>(
-    rt: &(impl Abort + AllocGlobal),
+    rt: &(impl Abort + Threads + Wait + Sync + AllocGlobal),
     reader: &mut R,
     status: u8,
     output: &[u8],
@@ -28,13 +32,13 @@ pub(crate) fn expect_run<R: Read>(
 ) {
     let mut written = Vec::new(rt.alloc());
     let mut told = Vec::new(rt.alloc());
-    assert!(rt; simulate(rt.alloc(), reader, &mut written, &mut told) == status);
+    assert!(rt; simulate(rt, rt.alloc(), reader, &mut written, &mut told) == status);
     assert!(rt; written.as_slice() == output && told.as_slice() == errors);
 }
 
 /// Expects what a run with these words over this input writes, and its status.
 pub(crate) fn expect(
-    rt: &(impl Abort + AllocGlobal),
+    rt: &(impl Abort + Threads + Wait + Sync + AllocGlobal),
     words: &[&str],
     input: &[u8],
     status: u8,
@@ -44,7 +48,7 @@ pub(crate) fn expect(
     let mut reader = input;
     let mut written = Vec::new(rt.alloc());
     let mut told = Vec::new(rt.alloc());
-    let ended = run(rt.alloc(), words, &mut reader, &mut written, &mut told);
+    let ended = run(rt, rt.alloc(), words, &mut reader, &mut written, &mut told);
     assert!(rt; ended == status, "{ended}");
     let text = std::str::from_utf8(written.as_slice()).unwrap_or("");
     assert!(rt; written.as_slice() == output, "{text}");
@@ -52,21 +56,33 @@ pub(crate) fn expect(
 }
 
 /// Expects what a simulation writes in which all members weigh alike.
-pub(crate) fn expect_flat(rt: &(impl Abort + AllocGlobal), input: &[u8], output: &[u8]) {
+pub(crate) fn expect_flat(
+    rt: &(impl Abort + Threads + Wait + Sync + AllocGlobal),
+    input: &[u8],
+    output: &[u8],
+) {
     expect(rt, &["simulate", "--weigh", "flat"], input, 0, output, b"");
 }
 
 /// Expects a simulation that is refused for its input.
-pub(crate) fn expect_bad(rt: &(impl Abort + AllocGlobal), input: &[u8], errors: &[u8]) {
+pub(crate) fn expect_bad(
+    rt: &(impl Abort + Threads + Wait + Sync + AllocGlobal),
+    input: &[u8],
+    errors: &[u8],
+) {
     expect(rt, &["simulate"], input, 1, b"", errors);
 }
 
 /// Expects that these words are refused, for whatever reason is told.
-pub(crate) fn expect_usage(rt: &(impl Abort + AllocGlobal), words: &[&str], input: &[u8]) {
+pub(crate) fn expect_usage(
+    rt: &(impl Abort + Threads + Wait + Sync + AllocGlobal),
+    words: &[&str],
+    input: &[u8],
+) {
     let mut reader = input;
     let mut written = Vec::new(rt.alloc());
     let mut told = Vec::new(rt.alloc());
-    let ended = run(rt.alloc(), words, &mut reader, &mut written, &mut told);
+    let ended = run(rt, rt.alloc(), words, &mut reader, &mut written, &mut told);
     assert!(rt; ended == USAGE && ended == 2, "{ended}");
     assert!(rt; reader.len() == input.len());
     assert!(rt; written.is_empty() && !told.is_empty());

@@ -11,9 +11,9 @@ fn rows_of_refused_words(rt: HostRuntime) {
 }
 
 #[test]
-fn there_are_three_commands(rt: HostRuntime) {
+fn there_are_four_commands(rt: HostRuntime) {
     for word in [
-        "cluster",
+        "clusters",
         "inspected",
         "help",
         "supctl",
@@ -27,6 +27,7 @@ fn there_are_three_commands(rt: HostRuntime) {
     for word in ["--help", "-h", "--version", "-V", "--weigh", "-"] {
         expect_usage(&rt, &[word], b"nodes a\nshow a\n");
         expect_usage(&rt, &["place", word], b"members a\nx\n");
+        expect_usage(&rt, &["cluster", word], b"nodes a b\n");
         expect_usage(&rt, &["inspect", word], b"{");
     }
     for word in ["--help", "-h", "--version", "--weigh", "x", "simulate"] {

@@ -1,15 +1,22 @@
 //! Runs whose words can't be had.
 use std::io::{self, ErrorKind};
 use std::process::Abort;
-use sup_program::words::run_with;
+use std::sync::Wait;
+use std::thread::Threads;
+use sup_supctl::words::run_with;
 
 // Expects what a run tells that has this in the place of words, and its status. It reads and prints nothing.
-fn expect_wordless(rt: &(impl Abort + AllocGlobal), kind: ErrorKind, status: u8, errors: &[u8]) {
+fn expect_wordless(
+    rt: &(impl Abort + Threads + Wait + Sync + AllocGlobal),
+    kind: ErrorKind,
+    status: u8,
+    errors: &[u8],
+) {
     let mut reader = b"nodes a\nshow a\n".as_slice();
     let mut written = Vec::new(rt.alloc());
     let mut told = Vec::new(rt.alloc());
     let words = Err(io::Error::from(kind));
-    let ended = run_with(rt.alloc(), words, &mut reader, &mut written, &mut told);
+    let ended = run_with(rt, rt.alloc(), words, &mut reader, &mut written, &mut told);
     assert!(rt; ended == status);
     assert!(rt; reader.len() == 15 && written.is_empty());
     assert!(rt; told.as_slice() == errors);

@@ -2,7 +2,9 @@
 use std::env::{Env, FillError};
 use std::io::ErrorKind;
 use std::process::Abort;
-use sup_program::words::{run_with, words_of};
+use std::sync::Wait;
+use std::thread::Threads;
+use sup_supctl::words::{run_with, words_of};
 
 /// Arguments, the program's name first.
 #[derive(Clone, Copy)]
@@ -59,7 +61,7 @@ fn a_word_that_is_no_text_is_a_fault(rt: HostRuntime) {
 
 // Expects what a run writes that was started so, and its status.
 fn expect_started(
-    rt: &(impl Abort + AllocGlobal),
+    rt: &(impl Abort + Threads + Wait + Sync + AllocGlobal),
     arguments: &[&[u8]],
     status: u8,
     output: &[u8],
@@ -69,7 +71,7 @@ fn expect_started(
     let mut reader = b"nodes a\nshow a\n".as_slice();
     let mut written = Vec::new(rt.alloc());
     let mut told = Vec::new(rt.alloc());
-    let ended = run_with(rt.alloc(), words, &mut reader, &mut written, &mut told);
+    let ended = run_with(rt, rt.alloc(), words, &mut reader, &mut written, &mut told);
     assert!(rt; ended == status);
     assert!(rt; written.as_slice() == output && told.as_slice() == errors);
     assert!(rt; reader.is_empty() == (status == 0));

@@ -4,7 +4,10 @@ use std::alloc::Global;
 use std::fs;
 use std::io::{self, ErrorKind};
 use std::rt::Files;
-use sup_program::run::{USAGE, run};
+use std::sync::Wait;
+use std::thread::Threads;
+use sup_program::run::USAGE;
+use sup_supctl::run::run;
 
 #[derive(Drop)]
 pub(crate) struct Case {
@@ -28,12 +31,17 @@ impl Case {
     }
 
     /// Runs the program, and answers what came of it.
-    pub(crate) fn play(&self, alloc: Global) -> io::Result<Outcome> {
+    pub(crate) fn play(
+        &self,
+        rt: &(impl Threads + Wait + Sync),
+        alloc: Global,
+    ) -> io::Result<Outcome> {
         let words: Vec<&str> = self.words.lines().collect(alloc)?;
         let mut reader = self.input.as_slice();
         let mut output = Vec::new(alloc);
         let mut errors = Vec::new(alloc);
         let status = run(
+            rt,
             alloc,
             words.as_slice(),
             &mut reader,

@@ -14,13 +14,15 @@ use std::alloc::Global;
 use std::fs;
 use std::io::{self, Write};
 use std::process::ExitCode;
+use std::sync::Wait;
+use std::thread::Threads;
 
 fn main(rt: HostRuntime) -> io::Result<ExitCode> {
     let names = fs::read_to_string(&rt, "cases")?;
     let mut status = ExitCode::SUCCESS;
     for name in names.lines() {
         let case = Case::read(&rt, name)?;
-        if !goes_well(rt.alloc(), name, &case, &mut rt.stdout())? {
+        if !goes_well(&rt, rt.alloc(), name, &case, &mut rt.stdout())? {
             status = ExitCode::FAILURE;
         }
     }
@@ -28,8 +30,14 @@ fn main(rt: HostRuntime) -> io::Result<ExitCode> {
 }
 
 // Plays a case, and tells how it went.
-fn goes_well<W: Write>(alloc: Global, name: &str, case: &Case, writer: &mut W) -> io::Result<bool> {
-    let outcome = case.play(alloc)?;
+fn goes_well<T: Threads + Wait + Sync, W: Write>(
+    rt: &T,
+    alloc: Global,
+    name: &str,
+    case: &Case,
+    writer: &mut W,
+) -> io::Result<bool> {
+    let outcome = case.play(rt, alloc)?;
     let Some(difference) = case.wanted.difference(&outcome) else {
         writeln!(writer, "{name} ok")?;
         return Ok(true);

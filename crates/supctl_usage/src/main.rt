@@ -2,10 +2,11 @@
 #![tactic(auto)]
 
 use std::process::ExitCode;
-use sup_program::words::{run_with, words_of};
+use sup_supctl::words::{run_with, words_of};
 
 fn main(rt: HostRuntime) -> ExitCode {
     let status = run_with(
+        &rt,
         rt.alloc(),
         words_of(&rt),
         &mut rt.stdin(),

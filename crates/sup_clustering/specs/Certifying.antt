@@ -1,0 +1,59 @@
+-- A plan's run by threads, judged, and the world in which its nodes have settled (this project).
+use Rattle.std.specs.Prelude.{◌≡◌, ℕ, Bool, List, Ok}
+use Rattle.sup_specs.specs.Values.{Bytes}
+use Rattle.sup_placement.specs.Place.{Weigher}
+use Rattle.sup_jobs.specs.declared.fault.Fault.{Fault}
+use Rattle.sup_jobs.specs.declared.fault.Fault.TheVariants as job
+use Rattle.sup_plan.specs.declared.histories.History.{History}
+use Rattle.sup_plan.specs.declared.plan.Plan.{Plan}
+use Rattle.sup_model.specs.declared.step.Step.{Step}
+use Rattle.sup_model.specs.Worlds.{World, new}
+use Rattle.sup_world.specs.declared.settled.Settled.{Settled}
+use Rattle.sup_world.specs.Following.{StandsFor}
+use Rattle.sup_world.specs.Newness.{setting_in}
+use Rattle.sup_world.specs.Seen.{Seen}
+use Rattle.sup_world.specs.Settling.{SettlesTo}
+use Rattle.sup_cluster.specs.Runs as threads
+use Rattle.sup_certify.specs.Certified.{MakeRun}
+use Rattle.sup_certify.specs.Faults.{IsFaultOf}
+use Rattle.sup_certify.specs.Follows.{IsRunOf, KnowsAll}
+use Rattle.sup_certify.specs.declared.fault.CertifyFault.{CertifyFault}
+use Rattle.sup_certify.specs.declared.fault.CertifyFault.TheVariants as judged
+use Rattle.sup_clustering.specs.Texts.{cluster_text}
+use Rattle.sup_clustering.specs.declared.fault.ClusterFault.{ClusterFault}
+use Rattle.sup_clustering.specs.declared.fault.ClusterFault.TheVariants.{Job, HistoryFull, LinkClosed, Stuck, Differs}
+
+-- what the plan's threads did is a run of these steps, from a new world of the plan's nodes to this one, and follows the model
+pub record IsCertified (weigher : Weigher) (plan : Plan) (steps : List Step) (sites : List Seen) : Type 0 where
+  pub histories : List History
+  pub ran : threads.IsRunOf weigher plan histories
+  pub makes : MakeRun weigher plan.config plan.nodes.items histories steps sites
+  pub follows : (is_message : Bytes → Bool) → KnowsAll is_message steps
+      → IsRunOf weigher (new (setting_in weigher plan.config) is_message plan.nodes.items) histories steps sites
+
+-- the nodes settle, as the model's do
+abbrev pub SettlesFrom : Weigher → List Seen → List Seen → Type 0
+SettlesFrom weigher sites after = (model : World) → StandsFor weigher sites model → (settled : Settled) × SettlesTo weigher model (Ok settled) after
+
+-- the run is certified, its nodes settle, and this is what is printed of them
+pub record PrintsCluster (weigher : Weigher) (plan : Plan) (said : List ℕ) : Type 0 where
+  pub steps : List Step
+  pub sites : List Seen
+  pub certified : IsCertified weigher plan steps sites
+  pub after : List Seen
+  pub settles : SettlesFrom weigher sites after
+  pub says : said ≡ cluster_text weigher after plan.nodes.items
+
+-- what the plan's threads did is judged to be no run, for this fault
+pub record IsNoRun (weigher : Weigher) (plan : Plan) (fault : CertifyFault) : Type 0 where
+  pub histories : List History
+  pub ran : threads.IsRunOf weigher plan histories
+  pub judged : IsFaultOf weigher plan.config plan.nodes.items histories fault
+
+-- why nothing is printed of a plan's nodes
+abbrev pub IsRefused : Weigher → Plan → ClusterFault → Type 0
+IsRefused weigher plan (Job fault) = fault ≡ job.OutOfMemory
+IsRefused weigher plan HistoryFull = Unit {0}
+IsRefused weigher plan LinkClosed = Unit {0}
+IsRefused weigher plan Stuck = IsNoRun weigher plan judged.Stuck
+IsRefused weigher plan (Differs node place) = IsNoRun weigher plan (judged.Differs node place)

@@ -1,0 +1,5 @@
+pub mod Faults
+pub mod Plans
+pub mod Texts
+pub mod Certifying
+pub mod Clustering

@@ -1,0 +1,25 @@
+-- What is printed of a cluster that has settled (this project's output format).
+use Rattle.std.specs.Prelude.{ℕ, List, [], ◌∷◌, codes, Option, Some, None}
+use Rattle.std.specs.List.{flat_map}
+use Rattle.std.specs.Option.{option_and_then}
+use Rattle.sup_specs.specs.Values.{Bytes}
+use Rattle.sup_tables.specs.States.{State}
+use Rattle.sup_placement.specs.Place.{Weigher}
+use Rattle.sup_replica.specs.Stations.{Station}
+use Rattle.sup_world.specs.Carrying.{seen_at}
+use Rattle.sup_world.specs.Seen.{Seen}
+use Rattle.sup_text.specs.Words.{text}
+use Rattle.sup_node_text.specs.Shown.{down_text, tables_text}
+
+-- the node of this name, if it runs
+abbrev pub running_at : List Seen → Bytes → Option (Station State)
+running_at sites name = option_and_then (λ s. s.still.node) (seen_at sites name)
+
+-- node N, and then what its tables show: members, children and names, each with its losers; or node N down
+abbrev pub node_text : Weigher → Bytes → Option (Station State) → List ℕ
+node_text weigher name None = down_text name
+node_text weigher name (Some s) = text (codes "node " ∷ name ∷ codes "\n" ∷ tables_text weigher s.node.known.rows ∷ [])
+
+-- certified, and then each of these nodes
+abbrev pub cluster_text : Weigher → List Seen → List Bytes → List ℕ
+cluster_text weigher sites names = text (codes "certified\n" ∷ flat_map (λ name. node_text weigher name (running_at sites name)) names ∷ [])

@@ -1,0 +1,71 @@
+//! A plan's run by threads, judged, and what its nodes know once they have settled.
+
+ghost use Rattle.std.specs.Prelude.{◌≡◌, IfErr, IfOk, string_bytes};
+ghost use Rattle.sup_plan.specs.Plans.{IsPlan};
+ghost use Rattle.sup_world.specs.Seen.{sites_of};
+ghost use Rattle.sup_clustering.specs.Certifying.{IsCertified, IsRefused, PrintsCluster, SettlesFrom};
+
+use crate::fault::{ClusterFault, of_certify, of_run};
+use crate::text::cluster_text;
+use std::alloc::Global;
+use std::sync::Wait;
+use std::thread::Threads;
+use sup_certify::{Run, certify};
+use sup_cluster::Quiet;
+use sup_jobs::Fault;
+use sup_placement::Weigh;
+use sup_plan::Plan;
+use sup_world::World;
+
+/// Runs a plan by threads, and gives what is printed of its nodes once the run is certified and they have settled.
+///
+/// # Errors
+///
+/// Why the threads gave no histories; or why these are no run; or `OutOfMemory`, which stands also where settling is refused.
+pub fn plan_text<T: Threads + Wait + Sync, G: Weigh + Copy + Drop + Send + Sync>(
+    rt: &T,
+    alloc: Global,
+    weigher: &G,
+    plan: &Plan,
+) -> Result<String, ClusterFault>
+    requires { IsPlan plan.now }
+    ensures prints { IfOk result (λ s. PrintsCluster G.weight_of plan.now (string_bytes s)) }
+    ensures refused { IfErr result (IsRefused G.weight_of plan.now) }
+{
+    let Run { mut world, .. } = certified_run(rt, alloc, weigher, plan)?;
+    settle(&mut world)?;
+    let text = cluster_text(alloc, weigher, &world, plan.nodes.as_slice())?;
+    Ok(text)
+}
+
+// Runs a plan by threads, and judges what they did.
+fn certified_run<T: Threads + Wait + Sync, G: Weigh + Copy + Drop + Send + Sync>(
+    rt: &T,
+    alloc: Global,
+    weigher: &G,
+    plan: &Plan,
+) -> Result<Run<G>, ClusterFault>
+    requires { IsPlan plan.now }
+    ensures certified { IfOk result (λ run. IsCertified G.weight_of plan.now run.steps.items (sites_of run.world)) }
+    ensures refused { IfErr result (IsRefused G.weight_of plan.now) }
+{
+    let histories = match sup_cluster::run(rt, alloc, plan, &Quiet, &Quiet, weigher) {
+        Ok(histories) => histories,
+        Err(fault) => return Err(of_run(fault)),
+    };
+    match certify(alloc, plan, &histories, *weigher) {
+        Ok(run) => Ok(run),
+        Err(fault) => Err(of_certify(fault)),
+    }
+}
+
+// Has the nodes exchange all that they know. No step of that is refused but for want of memory while counts are far from their limit.
+fn settle<G: Weigh>(world: &mut World<G>) -> Result<(), ClusterFault>
+    ensures settles { IfOk result (λ _. SettlesFrom G.weight_of (sites_of world.old) (sites_of world.new)) }
+    ensures refused { IfErr result (λ fault. fault ≡ ClusterFault.Job Fault.OutOfMemory) }
+{
+    match world.settle() {
+        Ok(_) => Ok(()),
+        Err(_) => Err(ClusterFault::Job(Fault::OutOfMemory)),
+    }
+}

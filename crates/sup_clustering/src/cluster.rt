@@ -1,0 +1,85 @@
+//! The command `cluster`.
+
+ghost use Rattle.std.specs.Prelude.{◌≤◌, ◌+◌, length, IfSome};
+ghost use Rattle.sup_jobs.specs.Ends.{TakesAtMost};
+ghost use Rattle.sup_clustering.specs.Clustering.{Clusters, ClustersTo, TakesFor};
+
+use crate::certified::plan_text;
+use crate::fault::ClusterFault;
+use crate::plan::read_plan;
+use crate::telling::finish;
+use std::alloc::Global;
+use std::io::{Read, Write};
+use std::sync::Wait;
+use std::thread::Threads;
+use sup_jobs::{Ended, Fault, LIMIT, put_all, read_input};
+use sup_placement::Weigh;
+use sup_replica::Config;
+
+/// Runs the script that the reader has by threads, each of its nodes with this setting: writes what its nodes know at the end, and
+/// answers how that ended, once a fault is told. Nothing is written of a script with a bad line, of a longer one than may be read, or of
+/// a run that isn't certified.
+pub fn run_cluster<
+    T: Threads + Wait + Sync,
+    G: Weigh + Copy + Drop + Send + Sync,
+    R: Read,
+    W: Write,
+    E: Write,
+>(
+    rt: &T,
+    alloc: Global,
+    weigher: &G,
+    config: Config,
+    reader: &mut R,
+    writer: &mut W,
+    errors: &mut E,
+) -> Ended
+    ensures clusters { Clusters G.weight_of config (R.remaining reader.old) (R.remaining reader.new)
+        (W.contents writer.old) (W.contents writer.new) (E.contents errors.old)
+        (E.contents errors.new) result }
+    ensures taken { TakesAtMost (LIMIT + 1) (R.remaining reader.old) (R.remaining reader.new) }
+{
+    let end = run_input(rt, alloc, weigher, config, reader, writer);
+    finish(errors, end)
+}
+
+// Reads a script, and runs it.
+fn run_input<T: Threads + Wait + Sync, G: Weigh + Copy + Drop + Send + Sync, R: Read, W: Write>(
+    rt: &T,
+    alloc: Global,
+    weigher: &G,
+    config: Config,
+    reader: &mut R,
+    writer: &mut W,
+) -> Result<(), ClusterFault>
+    ensures ends { IfSome (R.remaining reader.old) (λ bytes.
+        ClustersTo G.weight_of config bytes (W.contents writer.old) (W.contents writer.new) result) }
+    ensures taken { TakesFor result (R.remaining reader.old) (R.remaining reader.new) }
+{
+    let input = match read_input(alloc, reader) {
+        Ok(input) => input,
+        Err(fault) => return Err(ClusterFault::Job(Fault::from(fault))),
+    };
+    run_bytes(rt, alloc, weigher, config, input.as_slice(), writer)
+}
+
+// The whole script is checked before its threads are made, and the whole text stands before anything is written.
+fn run_bytes<T: Threads + Wait + Sync, G: Weigh + Copy + Drop + Send + Sync, W: Write>(
+    rt: &T,
+    alloc: Global,
+    weigher: &G,
+    config: Config,
+    input: &[u8],
+    writer: &mut W,
+) -> Result<(), ClusterFault>
+    requires { length input.now ≤ LIMIT }
+    ensures { ClustersTo G.weight_of config input.now (W.contents writer.old) (W.contents writer.new) result }
+{
+    let plan = match read_plan(alloc, config, input) {
+        Ok(plan) => plan,
+        Err(fault) => return Err(ClusterFault::Job(fault)),
+    };
+    let text = plan_text(rt, alloc, weigher, &plan)?;
+    put_all(writer, text.as_bytes())?;
+    Ok(())
+}

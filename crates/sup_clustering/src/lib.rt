@@ -1,0 +1,19 @@
+//! The command `cluster`: a script's nodes run by threads, and what they know once they have settled.
+//!
+//! What the threads did is judged before anything is printed: only a run that the world of the script's nodes makes too is told, and what
+//! is told is what that world's nodes know after they have exchanged all.
+#![tactic(auto)]
+
+pub mod certified;
+mod cluster;
+pub mod fault;
+pub mod plan;
+pub mod telling;
+pub mod text;
+
+pub use certified::plan_text;
+pub use cluster::run_cluster;
+pub use fault::ClusterFault;
+pub use plan::{plan_of, read_plan};
+pub use telling::{finish, report};
+pub use text::cluster_text;

@@ -1,0 +1,12 @@
+use Rattle.sup_supctl.proofs.Commands.{all, clustered}
+use Rattle.sup_supctl.proofs.run.run.Goals as goal
+
+pub returns-in-Status : goal.returns-in-Status
+returns-in-Status g c = all _ _ _ _ _ _ _ _ _ _ c.in-Status.status c.in-Status.ensures.status
+
+pub returns-in-Cluster : goal.returns-in-Cluster
+returns-in-Cluster g c =
+    let options = c.in-Cluster.options in
+    let began = c.in-Cluster.ensures in
+    clustered _ _ _ _ _ _ _ _ _ _ c.run_plain.new.reader c.run_plain.new.writer c.run_plain.new.errors options.weighing options.config c.run_options.result
+    began.asked began.unread began.unwritten began.untold c.run_options.ensures.clusters c.run_options.ensures.taken

@@ -1,0 +1,47 @@
+-- What a run of the program does, by its words (this project).
+use Rattle.std.specs.Prelude.{◌≡◌, ◌≢◌, ℕ, List, Option, Some, None, codes}
+use Rattle.std.specs.IoError.{error_kind}
+use Rattle.std.specs.declared.io.Error.{Error}
+use Rattle.std.specs.declared.io.ErrorKind.TheVariants as kind
+use Rattle.clap.specs.Words.{Text}
+use Rattle.sup_command_line.specs.Requests.{request_of}
+use Rattle.sup_command_line.specs.Weighings.{weight_of}
+use Rattle.sup_command_line.specs.declared.request.Request.{Request}
+use Rattle.sup_command_line.specs.declared.request.Request.TheVariants.{Simulate, Cluster, Place, Inspect}
+use Rattle.sup_jobs.specs.declared.fault.Ended.{Ended}
+use Rattle.sup_jobs.specs.Ends.{Bytes, TakesAtMost}
+use Rattle.sup_clustering.specs.Clustering.{Clusters}
+use Rattle.sup_program.specs.Performing.{Performs, TellsUsage, WantsMemory}
+use Rattle.sup_program.specs.Runs.{EndsWith}
+
+-- A cluster is run by threads. All else is done as the commands do it that wait for nobody.
+abbrev pub PerformsAll : Option Request → Bytes → Bytes → Bytes → Bytes → Bytes → Bytes → Ended → Type 0
+PerformsAll (Some (Cluster weighing config)) input left before written errors_before errors_written ended =
+    Clusters (weight_of weighing) config input left before written errors_before errors_written ended
+PerformsAll (Some (Simulate weighing config)) input left before written errors_before errors_written ended =
+    Performs (Some (Simulate weighing config)) input left before written errors_before errors_written ended
+PerformsAll (Some (Place weighing)) input left before written errors_before errors_written ended =
+    Performs (Some (Place weighing)) input left before written errors_before errors_written ended
+PerformsAll (Some (Inspect weighing)) input left before written errors_before errors_written ended =
+    Performs (Some (Inspect weighing)) input left before written errors_before errors_written ended
+PerformsAll None input left before written errors_before errors_written ended =
+    Performs None input left before written errors_before errors_written ended
+
+-- the line on standard error where the words of the command line are no text
+abbrev pub no_text_line : List ℕ
+no_text_line = codes "error: invalid UTF-8 was detected in one or more arguments\n"
+
+module _ {R W E : Type 0} (remaining : R → Bytes) (contents : W → Bytes) (told : E → Bytes) where
+  -- What a run does that was started with these words.
+  pub record RunsAll (words : List Text) (old left : R) (before written : W) (errors_before errors_written : E) (status : ℕ) : Type 0 where
+    pub performs : EndsWith status (PerformsAll (request_of words) (remaining old) (remaining left) (contents before) (contents written) (told errors_before) (told errors_written))
+    pub taken : TakesAtMost 1048577 (remaining old) (remaining left)
+    pub unread : request_of words ≡ None → left ≡ old
+    pub unwritten : request_of words ≡ None → written ≡ before
+
+  -- What it does that was to be started with words that can't be had.
+  pub record RunsWithout (error : Error) (old left : R) (before written : W) (errors_before errors_written : E) (status : ℕ) : Type 0 where
+    pub usage : error_kind error ≢ kind.OutOfMemory → EndsWith status (TellsUsage no_text_line (told errors_before) (told errors_written))
+    pub memory : error_kind error ≡ kind.OutOfMemory → EndsWith status (WantsMemory (told errors_before) (told errors_written))
+    pub unread : left ≡ old
+    pub unwritten : written ≡ before

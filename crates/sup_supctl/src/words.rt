@@ -1,0 +1,68 @@
+//! The words that the program was started with.
+
+ghost use Rattle.std.specs.Prelude.{◌≡◌, ◌≢◌, IfErr, IfOk, map, string_bytes};
+ghost use Rattle.std.specs.IoError.{error_kind};
+ghost use Rattle.sup_program.specs.Performing.{TellsUsage, WantsMemory};
+ghost use Rattle.sup_supctl.specs.Runs.{no_text_line, RunsAll, RunsWithout};
+
+use crate::run::run;
+use std::alloc::Global;
+use std::env::{self, Env};
+use std::io::{self, ErrorKind, Read, Write};
+use std::sync::Wait;
+use std::thread::Threads;
+use sup_jobs::{Ended, put_all};
+use sup_program::run::{USAGE, want_of_memory};
+
+/// The words after the program's name, in their order.
+///
+/// # Errors
+///
+/// Where a word is no UTF-8, or memory was refused (`ErrorKind::OutOfMemory`).
+pub fn words_of<R: Env + AllocGlobal>(rt: &R) -> io::Result<Vec<String>> {
+    let words = env::args(rt)?.skip(1).collect(rt.alloc())?;
+    Ok(words)
+}
+
+/// Runs the program with the words after its name, or tells why they can't be had. Answers the exit status: that of `run`, or 3 where
+/// memory for the words was refused, or else `USAGE`.
+pub fn run_with<T: Threads + Wait + Sync, R: Read, W: Write, E: Write>(
+    rt: &T,
+    alloc: Global,
+    words: io::Result<Vec<String>>,
+    reader: &mut R,
+    writer: &mut W,
+    errors: &mut E,
+) -> u8
+    ensures runs { IfOk words (λ given. RunsAll R.remaining W.contents E.contents (map string_bytes given.items)
+        reader.old reader.new writer.old writer.new errors.old errors.new result) }
+    ensures without { IfErr words (λ error. RunsWithout R.remaining W.contents E.contents error
+        reader.old reader.new writer.old writer.new errors.old errors.new result) }
+{
+    match words {
+        Ok(words) => run(rt, alloc, words.as_slice(), reader, writer, errors),
+        Err(error) => {
+            let ended = without_words(&error, errors);
+            ended.status
+        }
+    }
+}
+
+// Words that are no text are refused as words that are no command. Want of memory is told as such.
+fn without_words<E: Write>(error: &io::Error, errors: &mut E) -> Ended
+    ensures usage { error_kind error.now ≢ ErrorKind.OutOfMemory
+        → TellsUsage no_text_line (E.contents errors.old) (E.contents errors.new) result }
+    ensures memory { error_kind error.now ≡ ErrorKind.OutOfMemory
+        → WantsMemory (E.contents errors.old) (E.contents errors.new) result }
+{
+    if error.kind() == ErrorKind::OutOfMemory {
+        return want_of_memory(errors);
+    }
+    Ended {
+        status: USAGE,
+        told: put_all(
+            errors,
+            b"error: invalid UTF-8 was detected in one or more arguments\n",
+        ),
+    }
+}
