@@ -1,5 +1,14 @@
-//! The tests of running clusters.
+//! The tests of running clusters, through their public calls. A crate with tests is proved twice, once without and once with them: here
+//! there is nothing to prove without them.
 #![tactic(auto)]
 
 #[cfg(test)]
-mod quiet;
+mod bad_plans;
+#[cfg(test)]
+mod failing;
+#[cfg(test)]
+mod given;
+#[cfg(test)]
+mod lossy;
+#[cfg(test)]
+mod together;

@@ -1,0 +1,114 @@
+//! What the tests are given.
+use std::process::Abort;
+use sup_links::{LinkScript, Verdict};
+use sup_placement::FlatWeigh;
+use sup_plan::{Command, Histories, Plan, Route};
+use sup_replica::{Act, Config, Event, MessageText, Reply};
+use sup_specs::{ChildId, ChildSpec, Kind, NodeName, Restart, Shutdown, Text};
+
+pub(crate) fn node(rt: &impl Abort, name: &str) -> NodeName {
+    NodeName::parse(name).expect(rt, "a node's name")
+}
+
+/// A plan of these nodes, with no commands and no scripts.
+pub(crate) fn plan(rt: &(impl Abort + AllocGlobal), nodes: &[&str]) -> Plan {
+    let mut names = Vec::new(rt.alloc());
+    for name in nodes {
+        names.push(node(rt, name)).expect(rt, "room");
+    }
+    Plan {
+        config: Config::default(),
+        nodes: names,
+        commands: Vec::new(rt.alloc()),
+        scripts: Vec::new(rt.alloc()),
+    }
+}
+
+/// The plan with a command more, at moment 0.
+pub(crate) fn told(rt: &impl Abort, mut plan: Plan, name: &str, act: Act) -> Plan {
+    let command = Command {
+        node: node(rt, name),
+        act,
+        now: 0,
+    };
+    plan.commands.push(command).expect(rt, "room");
+    plan
+}
+
+/// The plan with a script more.
+pub(crate) fn linked(
+    rt: &(impl Abort + AllocGlobal),
+    mut plan: Plan,
+    from: &str,
+    to: &str,
+    verdicts: &[Verdict],
+) -> Plan {
+    let route = Route {
+        from: node(rt, from),
+        to: node(rt, to),
+        script: LinkScript(verdicts.to_vec(rt.alloc()).expect(rt, "room")),
+    };
+    plan.scripts.push(route).expect(rt, "room");
+    plan
+}
+
+pub(crate) fn join(rt: &(impl Abort + AllocGlobal)) -> Act {
+    Act::Event(Event::Join(empty(rt)))
+}
+
+fn empty(rt: &(impl Abort + AllocGlobal)) -> Text {
+    Text::parse(rt.alloc(), "").expect(rt, "an empty text")
+}
+
+/// The start of a permanent worker that has 5000 milliseconds to end.
+pub(crate) fn start(rt: &(impl Abort + AllocGlobal), id: &str) -> Act {
+    let id = ChildId::parse(rt.alloc(), id).expect(rt, "a child's id");
+    let spec = ChildSpec {
+        kind: Kind::parse(rt.alloc(), "worker").expect(rt, "a kind"),
+        arg: empty(rt),
+        restart: Restart::Permanent,
+        shutdown: Shutdown::Millis(5000),
+    };
+    Act::Event(Event::Start(id, spec))
+}
+
+pub(crate) fn ship(rt: &impl Abort, to: &str) -> Act {
+    Act::Event(Event::Ship(node(rt, to)))
+}
+
+pub(crate) fn deliver(rt: &impl AllocGlobal) -> Act {
+    Act::Event(Event::Deliver(MessageText::new(Vec::new(rt.alloc()))))
+}
+
+/// How often this reply stands in the history of the node at a place.
+pub(crate) fn count(histories: &Histories, at: usize, is_it: fn(&Reply) -> bool) -> usize {
+    let Some(history) = histories.as_slice().get(at) else {
+        return 0;
+    };
+    let mut count = 0;
+    for entry in &history.entries {
+        if let Ok(done) = &entry.answer {
+            if is_it(&done.reply) {
+                count += 1;
+            }
+        }
+    }
+    count
+}
+
+/// How many of a node's entries are deliveries.
+pub(crate) fn deliveries(histories: &Histories, at: usize) -> usize {
+    let Some(history) = histories.as_slice().get(at) else {
+        return 0;
+    };
+    history
+        .entries
+        .iter()
+        .filter(|entry| matches!(entry.act, Act::Event(Event::Deliver(_))))
+        .count()
+}
+
+/// Whether the histories are judged to be a run.
+pub(crate) fn is_certified(rt: &impl AllocGlobal, plan: &Plan, histories: &Histories) -> bool {
+    sup_certify::certify(rt.alloc(), plan, histories, FlatWeigh).is_ok()
+}

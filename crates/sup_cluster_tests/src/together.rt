@@ -1,0 +1,78 @@
+//! Drivers that wait for one another, which get on since they run at once.
+use crate::given::{count, is_certified, join, plan, ship, start, told};
+use std::process::Abort;
+use std::sync::atomic::{AtomicBool, Ordering};
+use std::thread::yield_now;
+use sup_cluster::{Checkpoint, Runner, run};
+use sup_local_sup::Effect;
+use sup_placement::FlatWeigh;
+use sup_plan::Plan;
+use sup_replica::Reply;
+use sup_specs::NodeName;
+
+// How often a thread that waits looks again, at most.
+const TURNS: u64 = 100_000_000;
+
+// Whether b's first command was answered, and whether b was told to start a child.
+#[derive(Drop)]
+struct Lamps {
+    joined: AtomicBool,
+    started: AtomicBool,
+}
+
+// Waits until the lamp is lit, but no longer than its turns.
+fn wait_for(lamp: &AtomicBool) {
+    for _ in 0..TURNS {
+        if lamp.load(Ordering::SeqCst) {
+            return;
+        }
+        yield_now();
+    }
+}
+
+impl Checkpoint for Lamps {
+    fn before(&self, node: &NodeName, place: u64) {
+        match (node.as_str(), place) {
+            ("a", 1) => wait_for(&self.joined),
+            ("b", 2) => wait_for(&self.started),
+            _ => {}
+        }
+    }
+
+    fn answered(&self, node: &NodeName, place: u64) {
+        if node.as_str() == "b" && place == 1 {
+            self.joined.store(true, Ordering::SeqCst);
+        }
+    }
+}
+
+impl Runner for Lamps {
+    fn act(&self, node: &NodeName, effect: &Effect) -> bool {
+        if node.as_str() == "b" && matches!(effect, Effect::Start { .. }) {
+            self.started.store(true, Ordering::SeqCst);
+        }
+        true
+    }
+}
+
+fn shipped(rt: &(impl Abort + AllocGlobal)) -> Plan {
+    let plan = told(rt, plan(rt, &["a", "b"]), "a", start(rt, "web"));
+    let plan = told(rt, plan, "a", ship(rt, "b"));
+    let plan = told(rt, plan, "b", join(rt));
+    told(rt, plan, "b", start(rt, "z"))
+}
+
+#[test]
+fn an_acknowledgement_comes_back_while_drivers_wait(rt: HostRuntime) {
+    let plan = shipped(&rt);
+    let lamps = Lamps {
+        joined: AtomicBool::new(false),
+        started: AtomicBool::new(false),
+    };
+    let Ok(histories) = run(&rt, rt.alloc(), &plan, &lamps, &lamps, &FlatWeigh) else {
+        panic!(rt; "no histories")
+    };
+    assert!(rt; lamps.joined.load(Ordering::SeqCst) && lamps.started.load(Ordering::SeqCst));
+    assert!(rt; count(&histories, 0, |reply| matches!(reply, Reply::Acked)) == 1);
+    assert!(rt; is_certified(&rt, &plan, &histories));
+}
