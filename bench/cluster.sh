@@ -18,7 +18,7 @@ program=$top/crates/supctl/out/supctl
 links=$top/crates/sup_link_times/out/sup_link_times
 [ -x "$links" ] || (cd "$top/crates/sup_link_times" && rt run -- 0 >"$work/built")
 
-# A script of so many nodes with so many commands each: every tenth ships to the next node. With a verdict each link has it for every
+# A script of so many nodes with so many commands each: every hundredth ships to the next node, the others are starts. With a verdict each link has it for every
 # second message.
 script() {
   awk -v nodes="$1" -v commands="$2" -v verdict="$3" 'BEGIN {
@@ -35,8 +35,7 @@ script() {
         }
     for (k = 1; k <= commands; k++)
       for (i = 1; i <= nodes; i++)
-        if (k % 10) printf "replace %s none%04d\n", name[i], k
-        else if (k % 20) printf "start %s child-%s-%04d\n", name[i], name[i], k
+        if (k % 100) printf "start %s child-%s-%04d\n", name[i], name[i], k
         else printf "ship %s %s\n", name[i], name[i % nodes + 1]
   }'
 }
