@@ -2,3 +2,4 @@ mod Chosen
 mod ReadNodes
 mod ReadLines
 mod ReadPlans
+mod Ended

@@ -20,6 +20,10 @@ abbrev pub node_text : Weigher → Bytes → Option (Station State) → List ℕ
 node_text weigher name None = down_text name
 node_text weigher name (Some s) = text (codes "node " ∷ name ∷ codes "\n" ∷ tables_text weigher s.node.known.rows ∷ [])
 
+-- the lines of the node of this name
+abbrev pub named_text : Weigher → List Seen → Bytes → List ℕ
+named_text weigher sites name = node_text weigher name (running_at sites name)
+
 -- certified, and then each of these nodes
 abbrev pub cluster_text : Weigher → List Seen → List Bytes → List ℕ
-cluster_text weigher sites names = text (codes "certified\n" ∷ flat_map (λ name. node_text weigher name (running_at sites name)) names ∷ [])
+cluster_text weigher sites names = text (codes "certified\n" ∷ flat_map (named_text weigher sites) names ∷ [])

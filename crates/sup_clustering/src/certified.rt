@@ -15,7 +15,7 @@ use sup_cluster::Quiet;
 use sup_jobs::Fault;
 use sup_placement::Weigh;
 use sup_plan::Plan;
-use sup_world::World;
+use sup_world::{Settled, World};
 
 /// Runs a plan by threads, and gives what is printed of its nodes once the run is certified and they have settled.
 ///
@@ -33,7 +33,7 @@ pub fn plan_text<T: Threads + Wait + Sync, G: Weigh + Copy + Drop + Send + Sync>
     ensures refused { IfErr result (IsRefused G.weight_of plan.now) }
 {
     let Run { mut world, .. } = certified_run(rt, alloc, weigher, plan)?;
-    settle(&mut world)?;
+    let _settled = settle(&mut world)?;
     let text = cluster_text(alloc, weigher, &world, plan.nodes.as_slice())?;
     Ok(text)
 }
@@ -60,12 +60,12 @@ fn certified_run<T: Threads + Wait + Sync, G: Weigh + Copy + Drop + Send + Sync>
 }
 
 // Has the nodes exchange all that they know. No step of that is refused but for want of memory while counts are far from their limit.
-fn settle<G: Weigh>(world: &mut World<G>) -> Result<(), ClusterFault>
+fn settle<G: Weigh>(world: &mut World<G>) -> Result<Settled, ClusterFault>
     ensures settles { IfOk result (λ _. SettlesFrom G.weight_of (sites_of world.old) (sites_of world.new)) }
     ensures refused { IfErr result (λ fault. fault ≡ ClusterFault.Job Fault.OutOfMemory) }
 {
     match world.settle() {
-        Ok(_) => Ok(()),
+        Ok(settled) => Ok(settled),
         Err(_) => Err(ClusterFault::Job(Fault::OutOfMemory)),
     }
 }

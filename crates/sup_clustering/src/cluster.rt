@@ -79,7 +79,12 @@ fn run_bytes<T: Threads + Wait + Sync, G: Weigh + Copy + Drop + Send + Sync, W: 
         Ok(plan) => plan,
         Err(fault) => return Err(ClusterFault::Job(fault)),
     };
-    let text = plan_text(rt, alloc, weigher, &plan)?;
-    put_all(writer, text.as_bytes())?;
-    Ok(())
+    let text = match plan_text(rt, alloc, weigher, &plan) {
+        Ok(text) => text,
+        Err(fault) => return Err(fault),
+    };
+    match put_all(writer, text.as_bytes()) {
+        Ok(()) => Ok(()),
+        Err(_) => Err(ClusterFault::Job(Fault::Device)),
+    }
 }

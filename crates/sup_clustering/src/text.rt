@@ -4,7 +4,8 @@ ghost use Rattle.std.specs.Prelude.{◌≡◌, IfOk, string_bytes};
 ghost use Rattle.std.specs.List.{flat_map};
 ghost use Rattle.sup_world.specs.Seen.{sites_of};
 ghost use Rattle.sup_node_text.specs.Inspected.{node_at};
-ghost use Rattle.sup_clustering.specs.Texts.{cluster_text, node_text, running_at};
+ghost use Rattle.sup_node_text.specs.Shown.{down_text};
+ghost use Rattle.sup_clustering.specs.Texts.{cluster_text, named_text, node_text};
 
 use std::alloc::{AllocError, Global};
 use sup_node::Node;
@@ -38,7 +39,7 @@ fn nodes_text<G: Weigh>(
     world: &World<G>,
     names: &[NodeName],
 ) -> Result<String, AllocError>
-    ensures { IfOk result (λ s. string_bytes s ≡ flat_map (λ name. node_text G.weight_of name (running_at (sites_of world.now) name)) names.now) }
+    ensures { IfOk result (λ s. string_bytes s ≡ flat_map (named_text G.weight_of (sites_of world.now)) names.now) }
 {
     let mut text = String::new(alloc);
     for name in names {
@@ -55,11 +56,11 @@ fn named_text<G: Weigh>(
     world: &World<G>,
     name: &NodeName,
 ) -> Result<String, AllocError>
-    ensures { IfOk result (λ s. string_bytes s ≡ node_text G.weight_of name.now (running_at (sites_of world.now) name.now)) }
+    ensures { IfOk result (λ s. string_bytes s ≡ named_text G.weight_of (sites_of world.now) name.now) }
 {
     match world.station(name) {
         Some(station) => node_text(alloc, weigher, name, station.node()),
-        None => node_text(alloc, weigher, name, None),
+        None => down_text(alloc, name),
     }
 }
 
@@ -72,11 +73,19 @@ fn node_text<G: Weigh>(
 ) -> Result<String, AllocError>
     ensures { IfOk result (λ s. string_bytes s ≡ node_text G.weight_of name.now (node_at node.entry)) }
 {
-    let name = name.as_str();
     let Some(node) = node else {
-        return format!(in alloc; "node {name} down\n");
+        return down_text(alloc, name);
     };
+    let name = name.as_str();
     let tables = tables_text(alloc, node.tables(), weigher)?;
     let tables = tables.as_str();
     format!(in alloc; "node {name}\n{tables}")
+}
+
+// The line of a stopped node.
+fn down_text(alloc: Global, name: &NodeName) -> Result<String, AllocError>
+    ensures { IfOk result (λ s. string_bytes s ≡ down_text name.now) }
+{
+    let name = name.as_str();
+    format!(in alloc; "node {name} down\n")
 }

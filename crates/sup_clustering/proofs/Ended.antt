@@ -1,0 +1,45 @@
+-- Clusters that end before anything is printed, and those that print.
+use Rattle.std.proofs.Common.{◌≡◌, ℕ, ◌≤◌, List, length, take, subst, Option, Some, None, Result, Ok, Err, inl, inr, refl}
+use Rattle.std.specs.Io.KnownBytes.{Appends}
+use Rattle.std.proofs.KnownBytes.{Keeps-refl}
+use Rattle.sup_replica.specs.Configs.{Config}
+use Rattle.sup_placement.specs.Place.{Weigher}
+use Rattle.sup_jobs.specs.declared.fault.Fault.{Fault}
+use Rattle.sup_jobs.specs.declared.fault.Fault.TheVariants as job
+use Rattle.sup_jobs.specs.Ends.{Bytes}
+use Rattle.sup_plan.specs.declared.plan.Plan.{Plan}
+use Rattle.sup_clustering.specs.Plans.{IsReadFault, Says}
+use Rattle.sup_clustering.specs.Certifying.{IsRefused, PrintsCluster}
+use Rattle.sup_clustering.specs.Clustering.{ClustersTo}
+use Rattle.sup_clustering.specs.declared.fault.ClusterFault.{ClusterFault}
+use Rattle.sup_clustering.specs.declared.fault.ClusterFault.TheVariants.{Job, HistoryFull, LinkClosed, Stuck, Differs}
+
+-- the input says no plan
+pub unread : (X : Type 0) (weigher : Weigher) (config : Config) (input : List ℕ) (before : Bytes) (fault : Fault) → length input ≤ 1048576 → IsReadFault input fault → ClustersTo {X = X} weigher config input before before (Err (Job fault))
+unread X weigher config input before (job.BadLine number) short h = (short, h, Keeps-refl before)
+unread X weigher config input before job.BadInput short h = absurd h
+unread X weigher config input before (job.BadImage reason) short h = absurd h
+unread X weigher config input before job.Device short h = absurd h
+unread X weigher config input before job.OutOfMemory short h = Keeps-refl before
+
+-- nothing is printed of the plan that it says
+pub unprinted : (X : Type 0) (weigher : Weigher) (config : Config) (input : List ℕ) (before : Bytes) (plan : Plan) (fault : ClusterFault) → Says config input plan → IsRefused weigher plan fault → ClustersTo {X = X} weigher config input before before (Err fault)
+unprinted X weigher config input before plan (Job job.OutOfMemory) says h = Keeps-refl before
+unprinted X weigher config input before plan (Job (job.BadLine number)) says h = cc
+unprinted X weigher config input before plan (Job job.BadInput) says h = cc
+unprinted X weigher config input before plan (Job (job.BadImage reason)) says h = cc
+unprinted X weigher config input before plan (Job job.Device) says h = cc
+unprinted X weigher config input before plan HistoryFull says h = (plan, says, h, Keeps-refl before)
+unprinted X weigher config input before plan LinkClosed says h = (plan, says, h, Keeps-refl before)
+unprinted X weigher config input before plan Stuck says h = (plan, says, h, Keeps-refl before)
+unprinted X weigher config input before plan (Differs node place) says h = (plan, says, h, Keeps-refl before)
+
+-- all is printed
+pub printed : {X : Type 0} (x : X) (weigher : Weigher) (config : Config) (input : List ℕ) (before written : Bytes) (plan : Plan) (said text : List ℕ) → Says config input plan → PrintsCluster weigher plan said → text ≡ said → Appends before written text
+    → ClustersTo {X = X} weigher config input before written (Ok x)
+printed x weigher config input before written plan said text says prints same h = (said, (plan, says, prints), subst (λ t. Appends before written t) same h)
+
+-- a front is printed
+pub cut : (X : Type 0) (weigher : Weigher) (config : Config) (input : List ℕ) (before written : Bytes) (plan : Plan) (said text : List ℕ) → Says config input plan → PrintsCluster weigher plan said → text ≡ said
+    → ((count : ℕ) × Appends before written (take count text)) → ClustersTo {X = X} weigher config input before written (Err (Job job.Device))
+cut X weigher config input before written plan said text says prints same h = inr (said, (plan, says, prints), h.0, subst (λ t. Appends before written (take h.0 t)) same h.1)
