@@ -1,9 +1,8 @@
 //! A runner that can't start any child.
-use crate::given::{count, is_certified, join, plan, start, told};
+use crate::given::{Counted, count, is_certified, join, plan, start, told};
 use sup_cluster::{Quiet, Runner, run};
 use sup_local_sup::Effect;
 use sup_placement::FlatWeigh;
-use sup_replica::Reply;
 use sup_specs::NodeName;
 
 struct StartsNothing;
@@ -22,8 +21,8 @@ fn a_child_that_never_starts_ends_the_membership(rt: HostRuntime) {
         panic!(rt; "no histories")
     };
     assert!(rt; histories.as_slice()[0].entries.len() == 4);
-    assert!(rt; count(&histories, 0, |reply| matches!(reply, Reply::Restarted)) == 1);
-    assert!(rt; count(&histories, 0, |reply| matches!(reply, Reply::GaveUp(_))) == 1);
+    assert!(rt; count(&histories, 0, Counted::Restarted) == 1);
+    assert!(rt; count(&histories, 0, Counted::GaveUp) == 1);
     assert!(rt; histories.as_slice()[1].entries.is_empty());
     assert!(rt; is_certified(&rt, &plan, &histories));
 }

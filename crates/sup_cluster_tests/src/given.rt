@@ -80,20 +80,39 @@ pub(crate) fn deliver(rt: &impl AllocGlobal) -> Act {
     Act::Event(Event::Deliver(MessageText::new(Vec::new(rt.alloc()))))
 }
 
+/// Replies that are counted.
+#[derive(Clone, Copy)]
+pub(crate) enum Counted {
+    Restarted,
+    GaveUp,
+    Absorbed,
+    Known,
+    Acked,
+}
+
+fn is_it(reply: &Reply, counted: Counted) -> bool {
+    match counted {
+        Counted::Restarted => matches!(reply, Reply::Restarted),
+        Counted::GaveUp => matches!(reply, Reply::GaveUp(_)),
+        Counted::Absorbed => matches!(reply, Reply::Absorbed),
+        Counted::Known => matches!(reply, Reply::Known),
+        Counted::Acked => matches!(reply, Reply::Acked),
+    }
+}
+
 /// How often this reply stands in the history of the node at a place.
-pub(crate) fn count(histories: &Histories, at: usize, is_it: fn(&Reply) -> bool) -> usize {
+pub(crate) fn count(histories: &Histories, at: usize, counted: Counted) -> usize {
     let Some(history) = histories.as_slice().get(at) else {
         return 0;
     };
-    let mut count = 0;
-    for entry in &history.entries {
-        if let Ok(done) = &entry.answer {
-            if is_it(&done.reply) {
-                count += 1;
-            }
-        }
-    }
-    count
+    history
+        .entries
+        .iter()
+        .filter(|entry| match &entry.answer {
+            Ok(done) => is_it(&done.reply, counted),
+            Err(_) => false,
+        })
+        .count()
 }
 
 /// How many of a node's entries are deliveries.

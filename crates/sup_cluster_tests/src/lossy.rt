@@ -1,11 +1,12 @@
 //! Links that lose and double.
-use crate::given::{count, deliveries, is_certified, join, linked, plan, ship, start, told};
+use crate::given::{
+    Counted, count, deliveries, is_certified, join, linked, plan, ship, start, told,
+};
 use std::process::Abort;
 use sup_cluster::{Quiet, run};
 use sup_links::Verdict;
 use sup_placement::FlatWeigh;
 use sup_plan::Plan;
-use sup_replica::Reply;
 
 // The first message from a to b is lost, the first from b to a comes twice.
 fn lost_and_doubled(rt: &(impl Abort + AllocGlobal)) -> Plan {
@@ -27,8 +28,8 @@ fn ten_runs_with_lost_and_doubled_letters_are_certified(rt: HostRuntime) {
         // Of the two copies one is absorbed and the other known. A's first message is lost, and it may have been put before the
         // acknowledgements of b's.
         assert!(rt; deliveries(&histories, 0) == 2);
-        assert!(rt; count(&histories, 0, |reply| matches!(reply, Reply::Absorbed)) == 1);
-        assert!(rt; count(&histories, 0, |reply| matches!(reply, Reply::Known)) == 1);
+        assert!(rt; count(&histories, 0, Counted::Absorbed) == 1);
+        assert!(rt; count(&histories, 0, Counted::Known) == 1);
         assert!(rt; is_certified(&rt, &plan, &histories));
     }
 }

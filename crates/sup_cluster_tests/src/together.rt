@@ -1,5 +1,5 @@
 //! Drivers that wait for one another, which get on since they run at once.
-use crate::given::{count, is_certified, join, plan, ship, start, told};
+use crate::given::{Counted, count, is_certified, join, plan, ship, start, told};
 use std::process::Abort;
 use std::sync::atomic::{AtomicBool, Ordering};
 use std::thread::yield_now;
@@ -7,7 +7,6 @@ use sup_cluster::{Checkpoint, Runner, run};
 use sup_local_sup::Effect;
 use sup_placement::FlatWeigh;
 use sup_plan::Plan;
-use sup_replica::Reply;
 use sup_specs::NodeName;
 
 // How often a thread that waits looks again, at most.
@@ -73,6 +72,6 @@ fn an_acknowledgement_comes_back_while_drivers_wait(rt: HostRuntime) {
         panic!(rt; "no histories")
     };
     assert!(rt; lamps.joined.load(Ordering::SeqCst) && lamps.started.load(Ordering::SeqCst));
-    assert!(rt; count(&histories, 0, |reply| matches!(reply, Reply::Acked)) == 1);
+    assert!(rt; count(&histories, 0, Counted::Acked) == 1);
     assert!(rt; is_certified(&rt, &plan, &histories));
 }
