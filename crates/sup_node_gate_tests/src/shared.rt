@@ -17,9 +17,9 @@ const CALLS: u64 = 1000;
 
 const RUNS: u64 = 10;
 
-type Gate = NodeGate<MemKeeper, FlatWeigh>;
+type MemGate = NodeGate<MemKeeper, FlatWeigh>;
 
-type Way = Pass<MemKeeper, FlatWeigh>;
+type MemPass = Pass<MemKeeper, FlatWeigh>;
 
 // A child is started and deleted now and then, and between these the newest change is pushed to a node of the same name. Few dots are
 // made, since each costs every later call.
@@ -64,13 +64,13 @@ fn judges(rt: &(impl Abort + AllocGlobal), history: &[Entry], names: &[&str]) {
     }
 }
 
-// The one pass again, once two threads have made the calls of these names.
+// The pass of all calls, once two threads have made the calls of these names.
 fn two_work<R: Threads + Wait + Abort + AllocGlobal + Sync>(
     rt: &R,
-    gate: &Gate,
-    pass: Way,
+    gate: &MemGate,
+    pass: MemPass,
     names: [&str; 2],
-) -> Way
+) -> MemPass
     requires { IsOf (λ (k : InMemory). k.bytes) gate.now pass }
     ensures { IsOf (λ (k : InMemory). k.bytes) gate.now result }
 {
@@ -84,19 +84,23 @@ fn two_work<R: Threads + Wait + Abort + AllocGlobal + Sync>(
     gate.join(left, right)
 }
 
-// The one pass again, once four threads have made their calls.
-fn four_work<R: Threads + Wait + Abort + AllocGlobal + Sync>(rt: &R, gate: &Gate, pass: Way) -> Way
+// The pass of all calls, once four threads have made their calls.
+fn four_work<R: Threads + Wait + Abort + AllocGlobal + Sync>(
+    rt: &R,
+    gate: &MemGate,
+    pass: MemPass,
+) -> MemPass
     requires { IsOf (λ (k : InMemory). k.bytes) gate.now pass }
     ensures { IsOf (λ (k : InMemory). k.bytes) gate.now result }
 {
     let (left, right) = gate.split(pass);
     let (left, right) = join(
         rt,
-        || -> Way
+        || -> MemPass
             requires { IsSync R.row × IsOf (λ (k : InMemory). k.bytes) gate.now left }
             ensures { IsOf (λ (k : InMemory). k.bytes) gate.entry.now result }
         { two_work(rt, gate, left, ["w", "x"]) },
-        || -> Way
+        || -> MemPass
             requires { IsSync R.row × IsOf (λ (k : InMemory). k.bytes) gate.now right }
             ensures { IsOf (λ (k : InMemory). k.bytes) gate.entry.now result }
         { two_work(rt, gate, right, ["y", "z"]) },
@@ -104,8 +108,8 @@ fn four_work<R: Threads + Wait + Abort + AllocGlobal + Sync>(rt: &R, gate: &Gate
     gate.join(left, right)
 }
 
-// The gate's history is judged.
-fn ends(rt: &(impl Abort + AllocGlobal), gate: Gate, pass: Way, names: &[&str])
+// Closes the gate, and judges its history.
+fn ends(rt: &(impl Abort + AllocGlobal), gate: MemGate, pass: MemPass, names: &[&str])
     requires { IsOf (λ (k : InMemory). k.bytes) gate pass }
 {
     let Some((_station, history)) = gate.close(pass) else {
