@@ -1,19 +1,25 @@
 //! Threads that share one gate over few rows.
+ghost use Rattle.std.specs.Thread.{IsSync};
+ghost use Rattle.sup_keeper.specs.declared.mem_keeper.MemKeeper.{MemKeeper as InMemory};
 ghost use Rattle.sup_node_gate.specs.Gates.{IsOf};
 
-use crate::given::{delete, push, start, station};
+use crate::given::{self, delete, push, start, station};
 use crate::told::{agree, in_order};
 use std::process::Abort;
 use std::sync::Wait;
 use std::thread::{Threads, join};
 use sup_keeper::{Keeper, MemKeeper};
-use sup_node_gate::{Entry, MAX_BOUND, NodeGate, Pass};
+use sup_node_gate::{Entry, NodeGate, Pass};
 use sup_placement::FlatWeigh;
 use sup_replica::Act;
 
 const CALLS: u64 = 1000;
 
 const RUNS: u64 = 10;
+
+type MemGate = NodeGate<MemKeeper, FlatWeigh>;
+
+type MemPass = Pass<MemKeeper, FlatWeigh>;
 
 // A child is started and deleted now and then, and between these the newest change is pushed to a node of the same name. Few dots are
 // made, since each costs every later call.
@@ -58,27 +64,82 @@ fn judges(rt: &(impl Abort + AllocGlobal), history: &[Entry], names: &[&str]) {
     }
 }
 
-fn two_share<R: Threads + Wait + Abort + AllocGlobal + Sync>(rt: &R) {
-    let of = station(rt, "a", MemKeeper::new(rt.alloc()));
-    let Ok((gate, pass)) = NodeGate::<MemKeeper, FlatWeigh>::new(rt.alloc(), of, MAX_BOUND) else {
-        panic!(rt; "no room")
-    };
+// The pass of all calls, once two threads have made the calls of these names.
+fn two_work<R: Threads + Wait + Abort + AllocGlobal + Sync>(
+    rt: &R,
+    gate: &MemGate,
+    pass: MemPass,
+    names: [&str; 2],
+) -> MemPass
+    requires { IsOf (λ (k : InMemory). k.bytes) gate.now pass }
+    ensures { IsOf (λ (k : InMemory). k.bytes) gate.now result }
+{
+    let [first, second] = names;
     let (left, right) = gate.split(pass);
     let (left, right) = join(
         rt,
-        || works(rt, &gate, left, "x"),
-        || works(rt, &gate, right, "y"),
+        || works(rt, gate, left, first),
+        || works(rt, gate, right, second),
     );
-    let pass = gate.join(left, right);
+    gate.join(left, right)
+}
+
+// The pass of all calls, once four threads have made their calls.
+fn four_work<R: Threads + Wait + Abort + AllocGlobal + Sync>(
+    rt: &R,
+    gate: &MemGate,
+    pass: MemPass,
+) -> MemPass
+    requires { IsOf (λ (k : InMemory). k.bytes) gate.now pass }
+    ensures { IsOf (λ (k : InMemory). k.bytes) gate.now result }
+{
+    let (left, right) = gate.split(pass);
+    let (left, right) = join(
+        rt,
+        || -> MemPass
+            requires { IsSync R.row × IsOf (λ (k : InMemory). k.bytes) gate.now left }
+            ensures { IsOf (λ (k : InMemory). k.bytes) gate.entry.now result }
+        { two_work(rt, gate, left, ["w", "x"]) },
+        || -> MemPass
+            requires { IsSync R.row × IsOf (λ (k : InMemory). k.bytes) gate.now right }
+            ensures { IsOf (λ (k : InMemory). k.bytes) gate.entry.now result }
+        { two_work(rt, gate, right, ["y", "z"]) },
+    );
+    gate.join(left, right)
+}
+
+// Closes the gate, and judges its history.
+fn ends(rt: &(impl Abort + AllocGlobal), gate: MemGate, pass: MemPass, names: &[&str])
+    requires { IsOf (λ (k : InMemory). k.bytes) gate pass }
+{
     let Some((_station, history)) = gate.close(pass) else {
         panic!(rt; "a turn is held")
     };
-    judges(rt, &history, &["x", "y"]);
+    judges(rt, &history, names);
+}
+
+fn two_share<R: Threads + Wait + Abort + AllocGlobal + Sync>(rt: &R) {
+    let (gate, pass) = given::gate(rt, station(rt, "a", MemKeeper::new(rt.alloc())));
+    let pass = two_work(rt, &gate, pass, ["x", "y"]);
+    ends(rt, gate, pass, &["x", "y"]);
+}
+
+fn four_share<R: Threads + Wait + Abort + AllocGlobal + Sync>(rt: &R) {
+    let (gate, pass) = given::gate(rt, station(rt, "a", MemKeeper::new(rt.alloc())));
+    let pass = four_work(rt, &gate, pass);
+    ends(rt, gate, pass, &["w", "x", "y", "z"]);
 }
 
 #[test]
 fn the_calls_of_two_threads_make_one_history(rt: HostRuntime) {
     for _ in 0..RUNS {
         two_share(&rt);
+    }
+}
+
+#[test]
+fn the_calls_of_four_threads_make_one_history(rt: HostRuntime) {
+    for _ in 0..RUNS {
+        four_share(&rt);
     }
 }
