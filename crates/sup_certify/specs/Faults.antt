@@ -1,5 +1,5 @@
 -- Why histories aren't certified (this project).
-use Rattle.std.specs.Prelude.{◌≡◌, ◌≢◌, ◌+◌, ℕ, Bool, true, false, List, slice_get, slice_index, Option, Some, None, Result}
+use Rattle.std.specs.Prelude.{◌≡◌, ◌≢◌, ◌+◌, ℕ, Bool, true, false, List, slice_get, slice_index, Option, Some, None, Result, Err}
 use Rattle.std.specs.List.{AllZip}
 use mathlib.Core.Logic.{◌⊎◌}
 use Rattle.sup_specs.specs.Values.{Bytes}
@@ -9,6 +9,7 @@ use Rattle.sup_replica.specs.declared.event.Event.TheVariants.{Deliver as Brings
 use Rattle.sup_replica.specs.declared.event.Act.{Act}
 use Rattle.sup_replica.specs.declared.event.Act.TheVariants.{Event as Of}
 use Rattle.sup_replica.specs.declared.refusal.Refusal.{Refusal}
+use Rattle.sup_replica.specs.declared.refusal.Refusal.TheVariants.{OutOfMemory as NoMemory}
 use Rattle.sup_replica.specs.Nodes.{is_named}
 use Rattle.sup_replica.specs.Configs.{Config}
 use Rattle.sup_replica.specs.Stations.{Mail}
@@ -32,7 +33,7 @@ use Rattle.sup_certify.specs.declared.fault.CertifyFault.TheVariants.{Stuck, Dif
 abbrev pub AreOf : List History → List Bytes → Type 0
 AreOf histories names = names_of histories ≡ names
 
--- the entry is a step of the world, which answers it otherwise
+-- the entry is a step of the world, which answers it otherwise; that memory was wanted is no other answer
 pub record Misses (g : Weigher) (sites : List Seen) (p : Placed) : Type 0 where
   pub step : Step
   pub is_step : IsStepOf sites p step
@@ -40,6 +41,7 @@ pub record Misses (g : Weigher) (sites : List Seen) (p : Placed) : Type 0 where
   pub after : List Seen
   pub goes : StepGoes g sites step answer after
   pub differs : answer_of answer ≢ p.entry.answer
+  pub had_room : answer ≢ Err NoMemory
 
 -- after a run of the first entries of each history, the next one of this node is answered otherwise; its place is counted from 1
 pub record IsDifference (g : Weigher) (start : List Seen) (histories : List History) (node : Bytes) (place : ℕ) : Type 0 where
@@ -89,7 +91,7 @@ pub record IsHalt (g : Weigher) (start : List Seen) (histories : List History) :
 -- why a world's answer isn't the one that is said: it differs, or memory was wanted
 abbrev pub IsOtherwise : Result Told Refusal → Answer → Bytes → ℕ → CertifyFault → Type 0
 IsOtherwise told said node place Stuck = ⊥
-IsOtherwise told said node place (Differs n k) = (n ≡ node) × (k ≡ place) × (answer_of told ≢ said)
+IsOtherwise told said node place (Differs n k) = (n ≡ node) × (k ≡ place) × (answer_of told ≢ said) × (told ≢ Err NoMemory)
 IsOtherwise told said node place OutOfMemory = Unit {0}
 
 -- why an entry isn't placed that is a step of the world: it is answered otherwise, or memory was wanted

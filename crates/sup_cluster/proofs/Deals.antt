@@ -3,7 +3,7 @@ use Rattle.std.specs.Prelude.{◌≡◌, ◌≢◌, ℕ, ◌+◌, ◌<◌, zero,
 use Rattle.std.specs.List.{AllZip}
 use Rattle.std.proofs.Common.{arith, below_more}
 use Rattle.std.proofs.lemmas.List.Elements.{Contains-append_right}
-use Rattle.sup_cluster.proofs.Items.{all_snoc}
+use Rattle.sup_posts.proofs.Items.{all_snoc}
 use Rattle.sup_placement.specs.declared.weigh.Weigh.{Ghosts as WeighGhosts}
 use Rattle.sup_plan.specs.declared.plan.Route.{Route}
 use Rattle.sup_specs.specs.Values.{Bytes}

@@ -3,8 +3,8 @@ use Rattle.std.specs.Prelude.{◌≡◌, ℕ, ◌<◌, zero, suc, Bool, true, fa
 use Rattle.std.specs.List.{filter}
 use Rattle.std.proofs.Common.{sym, ap, ◌∙◌, subst, arith, append-nil}
 use Rattle.std.proofs.lemmas.Option.{slice_get_within, get_or_from_slice_get, slice_get-get_or}
-use Rattle.std.proofs.lemmas.List.{nil_from_length}
 use Rattle.std.proofs.lemmas.List.Elements.{Contains-append_left, Contains-append_right, All-append, filter-append}
+use Rattle.sup_posts.proofs.Items.{all_none}
 
 module _ {X : Type 0} where
   pub all_at : (P : X → Type 0) (xs : List X) → ((i : ℕ) (x : X) → slice_get xs i ≡ Some x → P x) → All P xs
@@ -86,16 +86,6 @@ flat_contains f (z ∷ zs) zero x y e c = Contains-append_left (f z) (flat_map f
     one a b q = cc
 flat_contains f (z ∷ zs) (suc i) x y e c = Contains-append_right (f z) (flat_map f zs) y (flat_contains f zs i x y e c)
 
-pub all_snoc : {X : Type 0} (P : X → Type 0) (xs : List X) (x : X) → All P xs → P x → All P (xs ++ x ∷ [])
-all_snoc P xs x h p = All-append P xs (x ∷ []) h one
-  where
-    one : All P (x ∷ [])
-    one zero d lt = p
-    one (suc k) d lt = absurd (omega (arith, lt))
-
-pub all_none : {X : Type 0} (P : X → Type 0) → All P []
-all_none P k d lt = absurd (omega (arith, lt))
-
 pub all_flat : {X Y : Type 0} (P : Y → Type 0) (f : X → List Y) (xs : List X) → ((i : ℕ) (x : X) → slice_get xs i ≡ Some x → All P (f x)) → All P (flat_map f xs)
 all_flat P f [] h = all_none P
 all_flat P f (x ∷ xs) h = All-append P (f x) (flat_map f xs) (h 0 x refl) (all_flat P f xs (λ i y e. h (suc i) y e))
@@ -106,6 +96,3 @@ filter_in p xs x ys zs t e f = f ∙ ap (λ l. l ++ x ∷ []) e ∙ ap (λ b. fi
 
 pub filter_out : {X : Type 0} (p : X → Bool) (xs : List X) (x : X) (ys : List X) → p x ≡ false → ys ≡ filter p xs → ys ≡ filter p (xs ++ x ∷ [])
 filter_out p xs x ys t e = e ∙ sym (append-nil (filter p xs)) ∙ ap (λ b. filter p xs ++ cond b (x ∷ []) []) (sym t) ∙ sym (filter-append p xs (x ∷ []))
-
-pub none_left : {X : Type 0} (xs ys all : List X) → length ys ≡ 0 → xs ++ ys ≡ all → xs ≡ all
-none_left xs ys all none e = sym (append-nil xs) ∙ ap (λ l. xs ++ l) (sym (nil_from_length ys none)) ∙ e

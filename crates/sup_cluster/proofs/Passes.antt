@@ -18,7 +18,8 @@ use Rattle.sup_posts.specs.declared.jobs.Arrived.{Arrived}
 use Rattle.sup_posts.specs.declared.jobs.Driven.{Driven}
 use Rattle.sup_cluster.specs.Steps.{IsSeatOf, IsArrived, Begins, HasSeen, AreTakenApart, Returns}
 use Rattle.sup_cluster.proofs.Zips.{zip_right, zip_map}
-use Rattle.sup_cluster.proofs.Items.{all_at, contained, stands_in, all_weaken, all_snoc, all_flat, contains_filter, filter_contains}
+use Rattle.sup_posts.proofs.Items.{all_snoc}
+use Rattle.sup_cluster.proofs.Items.{all_at, contained, stands_in, all_weaken, all_flat, contains_filter, filter_contains}
 
 err_is : {A E : Type 0} (x y : E) (r : Result A E) → r ≡ Err x → r ≡ Err y → x ≡ y
 err_is x y r e f = cc

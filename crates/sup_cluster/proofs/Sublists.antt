@@ -1,16 +1,12 @@
--- Sublists of lists that grow.
-use Rattle.std.proofs.Common.{List, [], ◌∷◌, ◌++◌, inl, inr, subst, sym, ap, ◌∙◌}
+-- What stood in a history stands in a longer one.
+use Rattle.std.proofs.Common.{List, subst, sym, ap, ◌∙◌}
 use Rattle.std.proofs.lemmas.Grind.{flat_map-append}
 use Rattle.sup_specs.specs.Values.{Bytes}
 use Rattle.sup_node_gate.specs.declared.entry.Entry.{Entry}
 use Rattle.sup_node_gate.specs.Histories.{IsPrefix}
 use Rattle.sup_plan.specs.Calls.{deliveries, brought}
 use Rattle.sup_plan.specs.Sublists.{Sublist}
-
-pub sub_more : {X : Type 0} (xs ys zs : List X) → Sublist xs ys → Sublist xs (ys ++ zs)
-sub_more [] ys zs h = tt
-sub_more (x ∷ xs) [] zs h = absurd h
-sub_more (x ∷ xs) (y ∷ ys) zs h = elim h [ inl p ↦ inl (p.0, sub_more xs ys zs p.1) | inr q ↦ inr (sub_more (x ∷ xs) ys zs q) ]
+use Rattle.sup_posts.proofs.Sublists.{sub_more}
 
 pub in_history : (es seen all : List Entry) → IsPrefix seen all → Sublist es seen → Sublist es all
 in_history es seen all p h = subst (Sublist es) (sym p.1) (sub_more es seen p.0 h)

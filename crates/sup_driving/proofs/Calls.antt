@@ -1,5 +1,7 @@
 -- What a call does to a pass.
-use Rattle.std.proofs.Common.{◌≡◌, ℕ, true, List, [], ◌∷◌, ◌++◌, Ok, Err, append_assoc, append-nil, refl, ap, ◌∙◌, sym, subst}
+use Rattle.std.proofs.Common.{◌≡◌, ℕ, true, List, [], ◌∷◌, ◌++◌, map, flat_map, Ok, Err, append_assoc, append-nil, refl, ap, ◌∙◌, sym, subst}
+use mathlib.Core.Option.{some}
+use Rattle.std.proofs.lemmas.List.{map-append}
 use Rattle.std.proofs.lemmas.Grind.{flat_map-append}
 use Rattle.sup_specs.specs.Values.{Bytes}
 use Rattle.sup_placement.specs.Place.{Weigher}
@@ -13,10 +15,13 @@ use Rattle.sup_node_gate.specs.declared.entry.Entry.{Entry}
 use Rattle.sup_node_gate.specs.declared.view.View.{View}
 use Rattle.sup_node_gate.specs.Histories.{Answer, Standing, entered, standing_of, is_entered, may_enter, IsPrefix, entry}
 use Rattle.sup_node_gate.specs.Calls.{Enters, Refuses, Acts}
-use Rattle.sup_plan.specs.Calls.{brought, deliveries}
+use Rattle.sup_node_gate.specs.Views.{calls_of}
+use Rattle.sup_plan.specs.declared.plan.Command.{Command}
+use Rattle.sup_plan.specs.Calls.{Call, asked, brought, deliveries}
 use Rattle.sup_plan.specs.Sublists.{Sublist}
 use Rattle.sup_driving.specs.Called.{Called, SeesMore, letter_of}
-use Rattle.sup_driving.proofs.Sublists.{sub_more, sub_both}
+use Rattle.sup_posts.specs.Own.{but_exit, but_exit_at, made_by}
+use Rattle.sup_posts.proofs.Sublists.{sub_more, sub_both}
 
 stands : (r : Refusal) → is_entered r ≡ true → standing_of r ≡ entered
 stands HistoryFull e = absurd cc
@@ -24,7 +29,7 @@ stands OutOfMemory e = absurd cc
 stands r e = refl
 
 entered_called : (g : Weigher) (s : Still) (v : View) (a : Act) (now : ℕ) (r : Answer) (v' : View) → Enters g s v (entry a now r) v' → Called v a now (letter_of r) v'
-entered_called g s v a now r v' e = record { answer = r; before = e.before; begins = e.begins; ends = e.ends; letter_is = refl }
+entered_called g s v a now r v' e = record { answer = r; before = e.before; begins = e.begins; ends = e.ends; own = e.calls; letter_is = refl }
 
 -- a call whose answer is entered
 pub acts_called : (g : Weigher) (s : Still) (bound : ℕ) (v : View) (a : Act) (now : ℕ) (r : Answer) (v' : View) → Acts g s bound v a now r v' → may_enter r ≡ true → Called v a now (letter_of r) v'
@@ -54,3 +59,16 @@ delivered_one texts v m text now letter v' c is h = let e = entry (Of (Deliver m
     (subst (Sublist (texts ++ m ∷ [])) (sym (ap deliveries c.ends ∙ flat_map-append (λ (x : Entry). brought x.act) c.before (e ∷ [])))
     (sub_both texts (deliveries c.before) (m ∷ [])
     (subst (Sublist texts) (sym (ap deliveries c.begins.1 ∙ flat_map-append (λ (x : Entry). brought x.act) v.seen c.begins.0)) (sub_more texts (deliveries v.seen) (deliveries c.begins.0) h))))
+
+-- a call more, unless it is the exit of a child that didn't start
+pub made_more : (v : View) (a : Act) (now : ℕ) (letter : _) (v' : View) → Called v a now letter v' → made_by v' ≡ made_by v ++ but_exit (a, now)
+made_more v a now letter v' c =
+    ap (flat_map but_exit_at) c.own
+    ∙ (flat_map-append but_exit_at (calls_of v) (some (entry a now c.answer) ∷ []) ∙ ap (λ l. made_by v ++ l) (append-nil (but_exit (a, now))))
+
+-- a command more
+pub made_then : (were made now : List Call) (cs : List Command) (c : Command) → made ≡ were ++ flat_map but_exit (map asked cs) → now ≡ made ++ but_exit (asked c)
+    → now ≡ were ++ flat_map but_exit (map asked (cs ++ c ∷ []))
+made_then were made now cs c p q = let done = flat_map but_exit (map asked cs) in
+    q ∙ (ap (λ l. l ++ but_exit (asked c)) p ∙ (append_assoc were done (but_exit (asked c)) ∙ ap (λ l. were ++ l)
+    (sym (ap (flat_map but_exit) (map-append asked cs (c ∷ [])) ∙ (flat_map-append but_exit (map asked cs) (asked c ∷ []) ∙ ap (λ l. done ++ l) (append-nil (but_exit (asked c))))))))

@@ -1,5 +1,5 @@
 -- From what the threads of drivers and receivers did to what is promised of drivers.
-use Rattle.std.specs.Prelude.{◌≡◌, ◌≢◌, ℕ, ◌<◌, zero, suc, List, [], ◌∷◌, length, map, All, slice_get, Some, Result, Ok, Err, IfOk, refl}
+use Rattle.std.specs.Prelude.{◌≡◌, ◌≢◌, ℕ, ◌<◌, zero, suc, List, [], ◌∷◌, ◌++◌, length, map, flat_map, All, slice_get, Some, Result, Ok, Err, IfOk, refl}
 use Rattle.std.specs.List.{AllZip}
 use Rattle.std.proofs.Common.{sym, ap, ◌∙◌, subst, arith}
 use Rattle.sup_placement.specs.declared.weigh.Weigh.{Ghosts as WeighGhosts}
@@ -12,6 +12,7 @@ use Rattle.sup_links.specs.Image.{image}
 use Rattle.sup_plan.specs.Calls.{call_of, asked, letters_to, deliveries}
 use Rattle.sup_plan.specs.Sublists.{Sublist}
 use Rattle.sup_posts.specs.Jobs.{IsSeatAt, IsLane, Carried, Drives, Gives}
+use Rattle.sup_posts.specs.Own.{made_by, but_exit}
 use Rattle.sup_posts.specs.declared.fault.RunFault.{RunFault}
 use Rattle.sup_posts.specs.declared.fault.RunFault.TheVariants.{BadPlan, HistoryFull, LinkClosed, OutOfMemory}
 use Rattle.sup_posts.specs.declared.post.Post.{Post}
@@ -124,6 +125,8 @@ module _ {W : Type 0} {h : WeighGhosts W} where
           entries = s.entries;
           calls = s.are ∙ ap (λ v. map asked v.items) t.commands;
           seen = subst (λ x. Sublist s.entries (view_of x).seen) (sym g.seat) s.stand;
+          made = ap (λ x. made_by (view_of x)) g.seat ∙ (s.made ∙ (ap (λ x. made_by (view_of x) ++ flat_map but_exit (map asked team.lead.commands.items)) t.seat
+              ∙ ap (λ v. made_by (view_of drive.seat) ++ flat_map but_exit (map asked v.items)) t.commands));
           carried = carried_each posts s.entries drive.lanes.items team.lead.wires.items team.others.items g.steered.sent.items done.others.items driven.arrived.items t.wires t.others s.sent d.1 g.met;
         }
 

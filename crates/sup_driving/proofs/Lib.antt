@@ -1,4 +1,3 @@
-pub mod Sublists
 pub mod Calls
 pub mod Puts
 pub mod Names

@@ -17,7 +17,7 @@ use Rattle.sup_links.specs.declared.link_in.Sent.{Sent}
 use Rattle.sup_links.specs.Ends.{sent_put}
 use Rattle.sup_driving.specs.Teams.{HasSent}
 use Rattle.sup_driving.specs.Wires.{IsLater, HasPut, Each, HasLetters, IsEnded, Did}
-use Rattle.sup_driving.proofs.Sublists.{sub_more, sub_both}
+use Rattle.sup_posts.proofs.Sublists.{sub_more, sub_both}
 
 pub later_same : (w : Wire) → IsLater w w
 later_same w = record { to = refl; link = refl; script = refl; rest = []; put = sym (append-nil (put_of w.entry)) }

@@ -1,5 +1,5 @@
 -- A driver and its receivers: what their threads are given, and give back (this project).
-use Rattle.std.specs.Prelude.{◌≡◌, true, List, [], map, slice_get, Some}
+use Rattle.std.specs.Prelude.{◌≡◌, ◌++◌, true, List, [], map, flat_map, slice_get, Some}
 use Rattle.std.specs.List.{AllZip}
 use Rattle.sup_placement.specs.declared.weigh.Weigh.{Ghosts as WeighGhosts}
 use Rattle.sup_node_gate.specs.declared.entry.Entry.{Entry}
@@ -14,6 +14,7 @@ use Rattle.sup_posts.specs.declared.jobs.Lane.{Lane}
 use Rattle.sup_posts.specs.declared.jobs.Drive.{Drive}
 use Rattle.sup_crew.specs.declared.team.Team.{Team}
 use Rattle.sup_crew.specs.Teams.{AllOfTeam}
+use Rattle.sup_posts.specs.Own.{made_by, but_exit}
 use Rattle.sup_driving.specs.declared.teams.Steer.{Steer}
 use Rattle.sup_driving.specs.declared.teams.Receive.{Receive}
 use Rattle.sup_driving.specs.declared.wires.Wire.{Wire}
@@ -43,6 +44,7 @@ module _ {W : Type 0} {h : WeighGhosts W} where
   pub record IsTeamOf (posts : List (Post W h)) (drive : Drive W h) (team : Team (Steer W h) (Receive W h)) : Type 0 where
     pub takes : Takes posts drive
     pub at : team.lead.at ≡ drive.at
+    pub seat : team.lead.seat ≡ drive.seat
     pub commands : team.lead.commands ≡ drive.commands
     pub wires : AllZip (IsWireOf posts) drive.lanes.items team.lead.wires.items
     pub others : AllZip IsReceiveOf drive.lanes.items team.others.items
@@ -59,13 +61,15 @@ module _ {W : Type 0} {h : WeighGhosts W} where
   abbrev pub IsReady : List (Post W h) → Team (Steer W h) (Receive W h) → Type 0
   IsReady posts team = AllOfTeam (IsReadyToSteer posts) (IsReadyToReceive posts) team
 
-  -- the commands stand in order, each once with its moment, in what the driver's pass has seen, and their letters were sent
+  -- the commands stand in order, each once with its moment, in what the driver's pass has seen, and their letters were sent; the pass made no
+  -- other call, but for exits of children that didn't start
   pub record Steers (posts : List (Post W h)) (steer : Steer W h) (steered : Steered W h) : Type 0 where
     pub seat : IsSeatAt posts steer.at steered.seat
     pub entries : List Entry
     pub are : map call_of entries ≡ map asked steer.commands.items
     pub stand : Sublist entries (view_of steered.seat).seen
     pub sent : AllZip (HasSent entries) steer.wires.items steered.sent.items
+    pub made : made_by (view_of steered.seat) ≡ made_by (view_of steer.seat) ++ flat_map but_exit (map asked steer.commands.items)
 
   -- all that came out of the link was delivered, in its order
   pub record Receives (posts : List (Post W h)) (receive : Receive W h) (received : Received W h) : Type 0 where

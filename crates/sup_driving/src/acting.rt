@@ -1,8 +1,9 @@
 //! What a node has done with its children, told the runner.
-ghost use Rattle.std.specs.Prelude.{OnOk};
+ghost use Rattle.std.specs.Prelude.{◌≡◌, OnOk};
 ghost use Rattle.sup_node_gate.specs.Gates.{IsOf, view_of};
 ghost use Rattle.sup_station.specs.Opening.{kept_by};
 ghost use Rattle.sup_driving.specs.Called.{SeesMore};
+ghost use Rattle.sup_posts.specs.Own.{made_by};
 
 use crate::calling::Brought;
 use crate::fault::ThreadFault;
@@ -29,6 +30,7 @@ impl<'a, R: Wait, W: Weigh, N: Runner, C> Field<'a, R, W, N, C> {
         requires { IsOf kept_by post.now.gate seat.old }
         ensures of { IsOf kept_by post.now.gate seat.new }
         ensures seen { OnOk result (SeesMore (view_of seat.old) (view_of seat.new)) }
+        ensures makes_none { OnOk result (made_by (view_of seat.new) ≡ made_by (view_of seat.old)) }
     {
         let mut waiting = VecDeque::new(self.alloc);
         let Ok(()) = waiting.push_back(effects) else {
@@ -55,6 +57,7 @@ impl<'a, R: Wait, W: Weigh, N: Runner, C> Field<'a, R, W, N, C> {
         requires { IsOf kept_by post.now.gate seat.old }
         ensures of { IsOf kept_by post.now.gate seat.new }
         ensures seen { OnOk result (SeesMore (view_of seat.old) (view_of seat.new)) }
+        ensures makes_none { OnOk result (made_by (view_of seat.new) ≡ made_by (view_of seat.old)) }
     {
         for effect in effects {
             if self.runner.act(&post.name, effect) {
@@ -83,6 +86,7 @@ impl<'a, R: Wait, W: Weigh, N: Runner, C> Field<'a, R, W, N, C> {
         requires { IsOf kept_by post.now.gate seat.old }
         ensures of { IsOf kept_by post.now.gate seat.new }
         ensures seen { OnOk result (SeesMore (view_of seat.old) (view_of seat.new)) }
+        ensures makes_none { OnOk result (made_by (view_of seat.new) ≡ made_by (view_of seat.old)) }
     {
         let event = Event::Exit {
             id: id.try_clone(self.alloc)?,

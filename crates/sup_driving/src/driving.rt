@@ -1,9 +1,10 @@
 //! What a driver does.
-ghost use Rattle.std.specs.Prelude.{◌≡◌, ◌++◌, [], ◌∷◌, map, OnOk, List};
+ghost use Rattle.std.specs.Prelude.{◌≡◌, ◌++◌, [], ◌∷◌, map, flat_map, OnOk, List};
 ghost use Rattle.std.specs.List.{AllZip};
 ghost use Rattle.sup_node_gate.specs.Gates.{IsOf, view_of};
 ghost use Rattle.sup_station.specs.Opening.{kept_by};
 ghost use Rattle.sup_plan.specs.Calls.{Call, asked};
+ghost use Rattle.sup_posts.specs.Own.{made_by, but_exit};
 ghost use Rattle.sup_driving.specs.Wires.{Did, HasPut, IsLater};
 
 use crate::calling::Brought;
@@ -33,6 +34,7 @@ impl<'a, R: Wait, W: Weigh, N: Runner, C: Checkpoint> Field<'a, R, W, N, C> {
         ensures later { OnOk result (AllZip IsLater wires.old wires.new) }
         ensures did { (calls : List Call) → Did calls (view_of seat.old).seen wires.old
             → OnOk result (Did (calls ++ asked command ∷ []) (view_of seat.new).seen wires.new) }
+        ensures made { OnOk result (made_by (view_of seat.new) ≡ made_by (view_of seat.old) ++ but_exit (asked command)) }
     {
         self.checkpoint.before(&post.name, place);
         empty(self.rt, self.alloc, &post.outbox, wires)?;
@@ -65,6 +67,7 @@ impl<'a, R: Wait, W: Weigh, N: Runner, C: Checkpoint> Field<'a, R, W, N, C> {
         ensures of { IsOf kept_by post.now.gate seat.new }
         ensures later { OnOk result (AllZip IsLater wires.old wires.new) }
         ensures did { OnOk result (Did (map asked commands.items) (view_of seat.new).seen wires.new) }
+        ensures made { OnOk result (made_by (view_of seat.new) ≡ made_by (view_of seat.old) ++ flat_map but_exit (map asked commands.items)) }
     {
         let mut place: u64 = 0;
         for command in commands {

@@ -1,5 +1,5 @@
 -- What a driver may be given, and what it gives back (this project).
-use Rattle.std.specs.Prelude.{◌≡◌, ℕ, false, List, [], map, All, slice_get, Some, Result, Ok, Err}
+use Rattle.std.specs.Prelude.{◌≡◌, ◌++◌, ℕ, false, List, [], map, flat_map, All, slice_get, Some, Result, Ok, Err}
 use Rattle.std.specs.List.{AllZip}
 use Rattle.sup_specs.specs.Values.{Bytes}
 use Rattle.sup_placement.specs.declared.weigh.Weigh.{Ghosts as WeighGhosts}
@@ -13,6 +13,7 @@ use Rattle.sup_links.specs.Image.{image}
 use Rattle.sup_links.specs.Ends.{AreOneLink, script_of, put_of, is_closed, taken_of, has_ended}
 use Rattle.sup_plan.specs.Calls.{call_of, asked, letters_to, deliveries}
 use Rattle.sup_plan.specs.Sublists.{Sublist}
+use Rattle.sup_posts.specs.Own.{made_by, but_exit}
 use Rattle.sup_posts.specs.declared.fault.RunFault.{RunFault}
 use Rattle.sup_posts.specs.declared.fault.RunFault.TheVariants.{BadPlan, HistoryFull, LinkClosed, OutOfMemory}
 use Rattle.sup_posts.specs.declared.post.Post.{Post}
@@ -54,12 +55,14 @@ module _ {W : Type 0} {h : WeighGhosts W} where
     pub letters : Sublist (letters_to post.name entries) put
     pub delivered : Sublist (image (script_of lane.entry) put) (deliveries (view_of arrived.seat).seen)
 
-  -- the commands stand in order, each once with its moment, in what the driver's pass has seen, and their letters were carried
+  -- the commands stand in order, each once with its moment, in what the driver's pass has seen, and their letters were carried; the pass made no
+  -- other call, but for exits of children that didn't start
   pub record Drives (posts : List (Post W h)) (drive : Drive W h) (driven : Driven W h) : Type 0 where
     pub seat : IsSeatAt posts drive.at driven.seat
     pub entries : List Entry
     pub calls : map call_of entries ≡ map asked drive.commands.items
     pub seen : Sublist entries (view_of driven.seat).seen
+    pub made : made_by (view_of driven.seat) ≡ made_by (view_of drive.seat) ++ flat_map but_exit (map asked drive.commands.items)
     pub carried : AllZip (Carried posts entries) drive.lanes.items driven.arrived.items
 
   -- what a driver gives back; that a plan is bad is found before

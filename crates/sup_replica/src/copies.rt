@@ -26,7 +26,7 @@ fn effect_copy(alloc: Global, effect: &Effect) -> Result<Effect, AllocError>
 pub(crate) fn effects_copy(alloc: Global, effects: &Effects) -> Result<Effects, AllocError>
     ensures { IfOk result (λ copy. copy ≡ effects.now) }
 {
-    let mut copy = Vec::new(alloc);
+    let mut copy = Vec::with_capacity(alloc, effects.as_slice().len())?;
     for effect in effects.as_slice() {
         copy.push(effect_copy(alloc, effect)?)?;
     }

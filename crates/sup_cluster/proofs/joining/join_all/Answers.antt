@@ -3,7 +3,7 @@ use Rattle.std.proofs.lemmas.List.Elements.{All-rest}
 use Rattle.sup_node_gate.specs.Gates.{view_of}
 use Rattle.sup_posts.specs.declared.jobs.Arrived.{Arrived}
 use Rattle.sup_cluster.specs.Steps.{IsSeatOf, HasSeen}
-use Rattle.sup_cluster.proofs.Items.{none_left}
+use Rattle.sup_posts.proofs.Items.{none_left}
 use Rattle.sup_cluster.proofs.Passes.{prefix_then, seen_more}
 use Rattle.sup_cluster.proofs.joining.join_all.Goals as goal
 

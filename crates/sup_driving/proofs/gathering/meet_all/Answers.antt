@@ -2,7 +2,7 @@ use Rattle.std.proofs.Common.{◌≡◌, ◌++◌, List, [], ◌∷◌, length, 
 use Rattle.std.specs.List.{AllZip}
 use Rattle.sup_links.specs.declared.link_in.Sent.{Sent}
 use Rattle.sup_driving.specs.Gathering.{CanMeet, AllMet}
-use Rattle.sup_driving.proofs.Places.{none_left}
+use Rattle.sup_posts.proofs.Items.{none_left}
 use Rattle.sup_driving.proofs.Gathers.{met_more, none_paired}
 use Rattle.sup_driving.proofs.gathering.meet_all.Goals as goal
 

@@ -4,7 +4,8 @@ use Rattle.std.proofs.lemmas.List.Elements.{All-rest}
 use Rattle.std.proofs.lemmas.Slice.Zip.{all_zipped_more}
 use Rattle.sup_posts.specs.Jobs.{Takes}
 use Rattle.sup_driving.specs.Teams.{IsTeamOf, IsReady}
-use Rattle.sup_driving.proofs.Places.{all_none, all_snoc, first_of}
+use Rattle.sup_posts.proofs.Items.{all_none, all_snoc}
+use Rattle.sup_driving.proofs.Places.{first_of}
 use Rattle.sup_driving.proofs.teams.split_all.Goals as goal
 
 pub loop-drive-init : goal.loop-drive-init

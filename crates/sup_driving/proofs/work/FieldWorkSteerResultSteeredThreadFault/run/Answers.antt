@@ -21,4 +21,5 @@ returns g c = let did = c.in_ok-drive.ensures.did in record {
       (ap (λ n. take n (c.drive.new.wires ++ drop (length c.drive.new.wires) c.args.steer.wires.items)) c.args.steer.wires.ok.0 ∙ whole c.args.steer.wires.items c.drive.new.wires later)
       c.in_ok-sent.ensures)
       did.put;
+  made = c.in_ok-drive.ensures.made;
 }

@@ -1,0 +1,19 @@
+-- What all items have, one behind them, and what is left where none is.
+use Rattle.std.specs.Prelude.{◌≡◌, ℕ, ◌<◌, zero, suc, List, [], ◌∷◌, ◌++◌, length, All}
+use Rattle.std.proofs.Common.{sym, ap, ◌∙◌, arith, append-nil}
+use Rattle.std.proofs.lemmas.List.{nil_from_length}
+use Rattle.std.proofs.lemmas.List.Elements.{All-append}
+
+module _ {X : Type 0} where
+  pub all_none : (P : X → Type 0) → All P []
+  all_none P k d lt = absurd (omega (arith, lt))
+
+  pub all_snoc : (P : X → Type 0) (xs : List X) (x : X) → All P xs → P x → All P (xs ++ x ∷ [])
+  all_snoc P xs x h p = All-append P xs (x ∷ []) h one
+    where
+      one : All P (x ∷ [])
+      one zero d lt = p
+      one (suc k) d lt = absurd (omega (arith, lt))
+
+  pub none_left : (xs ys all : List X) → length ys ≡ 0 → xs ++ ys ≡ all → xs ≡ all
+  none_left xs ys all none e = sym (append-nil xs) ∙ (ap (λ l. xs ++ l) (sym (nil_from_length ys none)) ∙ e)
