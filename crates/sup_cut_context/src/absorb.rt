@@ -8,7 +8,6 @@ ghost use Rattle.sup_cut_context.specs.Parts.{IsVersions, in_vector};
 
 use crate::entries::{entry_in, raise};
 use std::alloc::{AllocError, Global};
-use std::cmp::Ordering;
 use sup_causal::Dot;
 use sup_specs::NodeName;
 
@@ -45,12 +44,11 @@ fn take_in(
     ensures below { OnOk result ((d : Dot) → list_has cloud.new.items d ≡ true → (list_has cloud.old.items d || dot_eq dot.now d) ≡ true) }
 {
     let entry = entry_in(vector, &dot.node);
-    match dot.counter.cmp(&(entry + 1)) {
-        Ordering::Less => Ok(()),
-        Ordering::Equal => raise(vector, dot.node, dot.counter),
-        Ordering::Greater => {
-            cloud.push(*dot)?;
-            Ok(())
-        }
+    if dot.counter <= entry {
+        return Ok(());
     }
+    if dot.counter == entry + 1 {
+        return Ok(raise(vector, dot.node, dot.counter)?);
+    }
+    Ok(cloud.push(*dot)?)
 }

@@ -41,10 +41,7 @@ pub(crate) fn raise(
             vector[at] = (node, count);
             Ok(())
         }
-        Err(at) => {
-            vector.insert(at, (node, count))?;
-            Ok(())
-        }
+        Err(at) => Ok(vector.insert(at, (node, count))?),
     }
 }
 
