@@ -6,7 +6,7 @@ use Rattle.std.specs.declared.cmp.Ordering.{Ordering}
 use Rattle.std.specs.declared.cmp.Ordering.TheVariants.{Less}
 use Rattle.std.specs.Ordering.{eq_by_cmp}
 use Rattle.std.specs.List.{AllByRecursion}
-use Rattle.std.proofs.lemmas.Bool.{or_left, and_from, le-leb, cases_order}
+use Rattle.std.proofs.lemmas.Bool.{or_left, or_right, and_from, le-leb, cases_order}
 use Rattle.std.proofs.lemmas.Bool.Decides.{nat_tests}
 use Rattle.std.proofs.lemmas.List.{take_more, get_or_read, get_or-take}
 use Rattle.std.proofs.lemmas.Map.Lookups.{exact_bytes}
@@ -40,19 +40,19 @@ in_its_run v c x low high = or_left _ _ (and_from _ _ (le-leb _ _ low) (le-leb _
 next_counted : (old n c : ℕ) → n ≡ old + 1 → (leb 1 c && leb c n) ≡ ((leb 1 c && leb c old) || eqb n c)
 next_counted old n c next = grind (arith, nat_tests, next)
 
-dot_parts : (x d : Dot) → dot_eq x d ≡ (eqb x.counter d.counter && eq_by_cmp text_cmp x.node d.node)
+pub dot_parts : (x d : Dot) → dot_eq x d ≡ (eqb x.counter d.counter && eq_by_cmp text_cmp x.node d.node)
 dot_parts x d = sym (dots_tie x d) ∙ ap (λ b. eqb x.counter d.counter && b) (texts_ties x.node d.node)
 
 and-true : (b : Bool) → (b && true) ≡ b
 and-true true = refl
 and-true false = refl
 
-and-false : (b : Bool) → (b && false) ≡ false
+pub and-false : (b : Bool) → (b && false) ≡ false
 and-false true = refl
 and-false false = refl
 
 module _ (v w : List (List ℕ × ℕ)) (c : List Dot) (x : Dot) (next : x.counter ≡ entry v x.node + 1) (puts : (q : List ℕ) → entry w q ≡ cond (eq_by_cmp text_cmp x.node q) x.counter (entry v q)) where
-  raised_vector : (d : Dot) → in_vector w d ≡ (in_vector v d || dot_eq x d)
+  pub raised_vector : (d : Dot) → in_vector w d ≡ (in_vector v d || dot_eq x d)
   raised_vector d = at (eq_by_cmp text_cmp x.node d.node) refl
     where
       at : (b : Bool) → eq_by_cmp text_cmp x.node d.node ≡ b → in_vector w d ≡ (in_vector v d || dot_eq x d)
@@ -66,7 +66,7 @@ module _ (v w : List (List ℕ × ℕ)) (c : List Dot) (x : Dot) (next : x.count
           ∙ sym (or-false (in_vector v d))
           ∙ ap (λ b. in_vector v d || b) (sym (dot_parts x d ∙ ap (λ b. eqb x.counter d.counter && b) h ∙ and-false (eqb x.counter d.counter)))
 
-  or_between : (a b e : Bool) → ((a || e) || b) ≡ ((a || b) || e)
+  pub or_between : (a b e : Bool) → ((a || e) || b) ≡ ((a || b) || e)
   or_between true b e = refl
   or_between false true true = refl
   or_between false true false = refl
@@ -138,3 +138,7 @@ module _ (xs : List Dot) (i : ℕ) (x : Dot) (within : i < length xs) (at : x �
       let read : get_or xs place.0 d ≡ d = sym (get_or-take i xs place.0 d before) ∙ place.2 in
       let less : dot_cmp (get_or xs place.0 d) (get_or xs i d) ≡ Less = rising_at dot_total xs rises place.0 i d before within in
       subst (λ y. dot_cmp d y ≡ Less) (sym (get_or_read xs i x within at d)) (subst (λ y. dot_cmp y (get_or xs i d) ≡ Less) read less)
+
+pub or_turn : (a b : Bool) → (a || b) ≡ (b || a)
+or_turn true b = sym (or_right b true refl)
+or_turn false b = sym (or-false b)

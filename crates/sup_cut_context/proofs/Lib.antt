@@ -1,2 +1,3 @@
 pub mod Versions
 pub mod Cuts
+pub mod Views

@@ -2,5 +2,9 @@
 #![tactic(auto)]
 
 mod absorb;
+pub mod cut_context;
 mod entries;
+mod parts;
 mod sorted_dots;
+
+pub use cut_context::CutContext;

@@ -1,0 +1,164 @@
+//! Causal contexts: which dots a node has seen, kept as a version vector and a dot cloud.
+
+ghost use Rattle.std.specs.Prelude.{◌≡◌, ◌≤◌, ◌||◌, ◌&&◌, ◌↔◌, not, Bool, false, true, IsTrue, Err, IfOk, IfErr, OnOk, OnErr, IfSome, IsNone};
+ghost use Rattle.std.specs.Prelude.{All};
+ghost use Rattle.sup_specs.specs.Rising.{among, IsRising};
+ghost use Rattle.sup_causal.specs.Cut.{IsVector, IsCloud, IsCanonical, in_parts};
+ghost use Rattle.sup_causal.specs.declared.parts.PartsFault.TheVariants.{NotCanonical};
+ghost use Rattle.sup_causal.specs.Dots.{has, list_has, dot_cmp, dot_eq, IsCounted, IsKept};
+ghost use Rattle.sup_cut_context.specs.Parts.{IsVersions, in_vector, IsWidthOf};
+
+use crate::absorb::absorb;
+use crate::entries::{entry_in, lift, raise};
+use crate::parts::is_canonical;
+use crate::sorted_dots::{greatest_of, is_in, put, sorted, union};
+use std::alloc::{AllocError, Global};
+use std::marker::Model;
+use sup_causal::{Dot, Lattice, PartsFault};
+use sup_specs::{MAX, NodeName};
+
+/// A set of dots (Almeida, Shoker and Baquero 2018). A contract sees it by one test, `has`. It keeps its cut alone, so
+/// no call takes more time or memory where runs are longer.
+#[derive(Drop)]
+pub struct CutContext {
+    // By name, the run of each node that has one.
+    vector: Vec<(NodeName, u64)>,
+    // In dot order, the dots beyond the runs.
+    cloud: Vec<Dot>,
+}
+
+impl Model for CutContext {
+    ghost use Rattle.sup_causal.specs.Cut.{IsCanonical};
+    ghost use Rattle.sup_causal.specs.Dots.{Context};
+    ghost use Rattle.sup_cut_context.specs.Parts.{dots_of};
+
+    ghost Value = { Context };
+
+    ghost view = { λ c. dots_of c.vector.items c.cloud.items };
+
+    ghost invariant = { λ c. IsCanonical c.vector.items c.cloud.items };
+}
+
+impl CutContext {
+    /// The context with no dot. It takes no memory.
+    pub fn empty(alloc: Global) -> CutContext
+        ensures { (d : Dot) → has result d ≡ false }
+    {
+        CutContext {
+            vector: Vec::new(alloc),
+            cloud: Vec::new(alloc),
+        }
+    }
+
+    /// The context with the dots of a list, in whatever order they stand and however often. Each passes
+    /// [`Dot::is_counted`]. Refused only for memory.
+    pub fn of_dots(alloc: Global, dots: &[Dot]) -> Result<CutContext, AllocError>
+        requires { All IsCounted dots.now }
+        ensures { IfOk result (λ context. (d : Dot) → has context d ≡ among dot_cmp dots.now d) }
+    {
+        let dots = sorted(Vec::from_slice(alloc, dots)?);
+        let context = absorbed(alloc, Vec::new(alloc), &dots)?;
+        Ok(context)
+    }
+
+    /// The context that a version vector and a dot cloud cut: the dots 1 to n of each node with entry n, and those of
+    /// the cloud. NotCanonical where no context has this [`vector`](Self::vector) and [`cloud`](Self::cloud): where
+    /// an entry is 0 or above [`MAX`], a name stands twice or out of order, a dot of the cloud stands twice or out of
+    /// order, or its counter is above `MAX` or not at least 2 above its node's entry. Else refused only for memory.
+    pub fn from_parts(
+        alloc: Global,
+        vector: &[(NodeName, u64)],
+        cloud: &[Dot],
+    ) -> Result<CutContext, PartsFault>
+        ensures canonical { IfOk result (λ _. IsCanonical vector.now cloud.now) }
+        ensures dots { IfOk result (λ context. (d : Dot) → has context d ≡ in_parts vector.now cloud.now d) }
+        ensures vector { IfOk result (λ context. IsVector (has context) vector.now) }
+        ensures cloud { IfOk result (λ context. IsCloud (has context) cloud.now) }
+        ensures not_canonical { IfErr result (λ fault. fault ≡ NotCanonical → ¬ IsCanonical vector.now cloud.now) }
+        ensures refused { ¬ IsCanonical vector.now cloud.now → result ≡ Err NotCanonical }
+        ensures no_cut { IfErr result (λ fault. fault ≡ NotCanonical → (holds : Dot → Bool) → ((d : Dot) → holds d ≡ true → IsCounted d) → IsVector holds vector.now → ¬ IsCloud holds cloud.now) }
+    {
+        if !is_canonical(vector, cloud) {
+            return Err(PartsFault::NotCanonical);
+        }
+        let vector = Vec::from_slice(alloc, vector)?;
+        let cloud = Vec::from_slice(alloc, cloud)?;
+        Ok(CutContext { vector, cloud })
+    }
+
+    /// The counters of a context's dots are in their limits.
+    pub fn counted(&self)
+        ensures { (d : Dot) → has self.now d ≡ true → IsCounted d }
+    {
+        // The read alone shows the prover how the dots are kept.
+        let _vector = &self.vector;
+    }
+
+    /// A contract sees a context's dots as their rising list, so two contexts with the same dots are equal.
+    pub fn in_order(&self)
+        ensures { IsRising dot_cmp self.now }
+    {
+        // The read alone shows the prover how the dots are kept.
+        let _vector = &self.vector;
+    }
+
+    /// Whether the context has the dot.
+    pub fn contains(&self, dot: &Dot) -> bool
+        ensures has { result ≡ has self.now dot.now }
+        ensures counted { IsTrue result → IsCounted dot.now }
+    {
+        parts_have(&self.vector, &self.cloud, dot)
+    }
+
+    /// Adds a dot, which passes [`Dot::is_counted`]. Where memory is refused the context stays as it was.
+    pub fn insert(&mut self, dot: Dot) -> Result<(), AllocError>
+        requires { IsCounted dot }
+        ensures ok { OnOk result ((d : Dot) → has self.new d ≡ (dot_eq dot d || has self.old d)) }
+        ensures err { OnErr result (self.new ≡ self.old) }
+    {
+        let entry = entry_in(&self.vector, &dot.node);
+        if dot.counter <= entry {
+            return Ok(());
+        }
+        if dot.counter > entry + 1 {
+            return Ok(put(&mut self.cloud, dot)?);
+        }
+        let after = Dot {
+            counter: dot.counter + 1,
+            node: dot.node,
+        };
+        if !is_in(&after, &self.cloud) {
+            return Ok(raise(&mut self.vector, dot.node, dot.counter)?);
+        }
+        // The run now reaches the cloud.
+        let alloc = *self.vector.allocator();
+        let mut vector = Vec::from_slice(alloc, &self.vector)?;
+        raise(&mut vector, dot.node, dot.counter)?;
+        let context = absorbed(alloc, vector, &self.cloud)?;
+        *self = context;
+        Ok(())
+    }
+}
+
+// The context with the dots of a vector and of a list.
+fn absorbed(
+    alloc: Global,
+    mut vector: Vec<(NodeName, u64)>,
+    dots: &[Dot],
+) -> Result<CutContext, AllocError>
+    requires vector { IsVersions vector.items }
+    requires dots { IsKept dots.now }
+    ensures { IfOk result (λ context. (d : Dot) → has context d ≡ (in_vector vector.items d || list_has dots.now d)) }
+{
+    let cloud = absorb(alloc, &mut vector, dots)?;
+    Ok(CutContext { vector, cloud })
+}
+
+// Whether a vector and a cloud have the dot.
+fn parts_have(vector: &[(NodeName, u64)], cloud: &[Dot], dot: &Dot) -> bool
+    requires { IsCanonical vector.now cloud.now }
+    ensures { result ≡ in_parts vector.now cloud.now dot.now }
+{
+    let entry = entry_in(vector, &dot.node);
+    (1 <= dot.counter && dot.counter <= entry) || is_in(dot, cloud)
+}
