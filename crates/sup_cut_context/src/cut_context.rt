@@ -1,11 +1,13 @@
 //! Causal contexts: which dots a node has seen, kept as a version vector and a dot cloud.
 
-ghost use Rattle.std.specs.Prelude.{◌≡◌, ◌≤◌, ◌||◌, ◌&&◌, ◌↔◌, not, Bool, false, true, IsTrue, Err, IfOk, IfErr, OnOk, OnErr, IfSome, IsNone};
+ghost use Rattle.std.specs.Prelude.{◌≡◌, ℕ, List, ◌≤◌, ◌||◌, ◌&&◌, ◌↔◌, not, Bool, false, true, IsTrue, Err, IfOk, IfErr, OnOk, OnErr, IfSome, IsNone};
 ghost use Rattle.std.specs.Prelude.{All};
+ghost use Rattle.std.specs.List.{AllByRecursion, filter};
 ghost use Rattle.sup_specs.specs.Rising.{among, IsRising};
-ghost use Rattle.sup_causal.specs.Cut.{IsVector, IsCloud, IsCanonical, in_parts};
+ghost use Rattle.sup_causal.specs.Cut.{entry, in_run, in_runs, in_parts, IsRun, IsVector, IsCloud, IsCanonical};
 ghost use Rattle.sup_causal.specs.declared.parts.PartsFault.TheVariants.{NotCanonical};
-ghost use Rattle.sup_causal.specs.Dots.{has, list_has, dot_cmp, dot_eq, IsCounted, IsKept};
+ghost use Rattle.sup_causal.specs.Dots.{has, list_has, dot_cmp, dot_eq, IsCounted, IsGreatest, IsKept, IsNext};
+ghost use Rattle.sup_causal.specs.Greatest.{greatest_in};
 ghost use Rattle.sup_cut_context.specs.Parts.{IsVersions, in_vector, IsWidthOf};
 
 use crate::absorb::absorb;
@@ -138,6 +140,114 @@ impl CutContext {
         *self = context;
         Ok(())
     }
+
+    /// The greatest counter of the node's dots, 0 where there is none.
+    pub fn greatest(&self, node: &NodeName) -> u64
+        ensures greatest { IsGreatest (has self.now) node.now result }
+        ensures value { result ≡ greatest_in self.now node.now }
+        ensures counted { result ≤ MAX }
+    {
+        let last = greatest_of(&self.cloud, node);
+        last.max(entry_in(&self.vector, node))
+    }
+
+    /// The node's dot after its greatest, which the context does not have. None only where the greatest is [`MAX`].
+    pub fn next(&self, node: NodeName) -> Option<Dot>
+        ensures spent { IsNone result → IsGreatest (has self.now) node MAX }
+        ensures counted { IfSome result IsCounted }
+        ensures next { IfSome result (IsNext (has self.now) node) }
+    {
+        let greatest = self.greatest(&node);
+        if greatest == MAX {
+            return None;
+        }
+        Some(Dot {
+            counter: greatest + 1,
+            node,
+        })
+    }
+
+    /// The version vector: by name, for each node the greatest n such that the context has all its dots 1 to n, and
+    /// nothing where that is 0. Refused only for memory.
+    pub fn vector(&self) -> Result<Vec<(NodeName, u64)>, AllocError>
+        ensures { IfOk result (λ vector. IsVector (has self.now) vector.items) }
+    {
+        let vector = Vec::from_slice(*self.vector.allocator(), &self.vector)?;
+        Ok(vector)
+    }
+
+    /// The dot cloud: in dot order, the dots above their node's entry in the vector. Refused only for memory.
+    pub fn cloud(&self) -> Result<Vec<Dot>, AllocError>
+        ensures { IfOk result (λ cloud. IsCloud (has self.now) cloud.items) }
+    {
+        let cloud = Vec::from_slice(*self.cloud.allocator(), &self.cloud)?;
+        Ok(cloud)
+    }
+
+    /// How many entries the vector and how many dots the cloud has, together: what a walk over the context costs.
+    pub fn width(&self) -> usize
+        ensures { IsWidthOf (has self.now) result }
+    {
+        self.vector.len() + self.cloud.len()
+    }
+
+    /// The dots of this context that the other lacks, rising. Refused only for memory. One look-up in the other for
+    /// each dot of this one's runs above the other's entries, and for each of its cloud.
+    pub fn beyond(&self, alloc: Global, other: &CutContext) -> Result<Vec<Dot>, AllocError>
+        ensures dots { IfOk result (λ dots. (d : Dot) → among dot_cmp dots.items d ≡ (has self.now d && not (has other.now d))) }
+        ensures rising { IfOk result (λ dots. IsRising dot_cmp dots.items) }
+    {
+        let runs = sorted(runs_beyond(alloc, &self.vector, other)?);
+        let cloud = cloud_beyond(alloc, &self.cloud, other)?;
+        let dots = union(alloc, &runs, &cloud)?;
+        Ok(dots)
+    }
+
+    // The node's entry.
+    fn run(&self, node: &NodeName) -> u64
+        ensures { IsRun (has self.now) node.now result }
+    {
+        entry_in(&self.vector, node)
+    }
+}
+
+impl Lattice for CutContext {
+    ghost use Rattle.std.specs.Prelude.{Bool, ◌||◌};
+    ghost use Rattle.sup_causal.specs.Dots.{has};
+    ghost use Rattle.sup_causal.specs.Join.{pointwise_join, pointwise_laws, or_laws};
+    ghost use Rattle.sup_causal.specs.declared.dot.Dot.{Dot};
+
+    ghost Meaning = { Dot → Bool };
+
+    ghost meaning = { has };
+
+    ghost join = { pointwise_join (λ a b. a || b) };
+
+    ghost laws = { pointwise_laws or_laws };
+
+    /// The context with the dots of both.
+    fn joined(&self, alloc: Global, other: &CutContext) -> Result<CutContext, AllocError> {
+        let mut vector = Vec::from_slice(alloc, &self.vector)?;
+        lift(&mut vector, &other.vector)?;
+        let dots = union(alloc, &self.cloud, &other.cloud)?;
+        let context = absorbed(alloc, vector, &dots)?;
+        Ok(context)
+    }
+
+    /// Takes in the other's dots. Where it brings none this takes no memory.
+    fn join_from(&mut self, alloc: Global, other: &CutContext) -> Result<(), AllocError> {
+        if other.leq(self) {
+            return Ok(());
+        }
+        let joined = self.joined(alloc, other)?;
+        *self = joined;
+        Ok(())
+    }
+
+    /// Whether the other context has all dots of this one.
+    fn leq(&self, other: &CutContext) -> bool {
+        runs_within(&self.vector, &other.vector) && cloud_within(&self.cloud, other)
+    }
 }
 
 // The context with the dots of a vector and of a list.
@@ -161,4 +271,85 @@ fn parts_have(vector: &[(NodeName, u64)], cloud: &[Dot], dot: &Dot) -> bool
 {
     let entry = entry_in(vector, &dot.node);
     (1 <= dot.counter && dot.counter <= entry) || is_in(dot, cloud)
+}
+
+// Whether each entry is at most the other vector's.
+fn runs_within(vector: &[(NodeName, u64)], others: &[(NodeName, u64)]) -> bool
+    requires vector { IsVersions vector.now }
+    requires others { IsVersions others.now }
+    ensures { IsTrue result ↔ ((q : List ℕ) → entry vector.now q ≤ entry others.now q) }
+{
+    for (node, entry) in vector {
+        if entry_in(others, node) < *entry {
+            return false;
+        }
+    }
+    true
+}
+
+// Whether the context has all the dots.
+fn cloud_within(dots: &[Dot], other: &CutContext) -> bool
+    ensures { IsTrue result ↔ ((d : Dot) → list_has dots.now d ≡ true → has other.now d ≡ true) }
+{
+    for dot in dots {
+        if !other.contains(dot) {
+            return false;
+        }
+    }
+    true
+}
+
+// The dots of the runs that the other lacks.
+fn runs_beyond(
+    alloc: Global,
+    vector: &[(NodeName, u64)],
+    other: &CutContext,
+) -> Result<Vec<Dot>, AllocError>
+    requires { IsVersions vector.now }
+    ensures counted { IfOk result (λ dots. AllByRecursion IsCounted dots.items) }
+    ensures dots { IfOk result (λ dots. (d : Dot) → list_has dots.items d ≡ (in_runs vector.now d && not (has other.now d))) }
+{
+    let mut dots = Vec::new(alloc);
+    for (node, entry) in vector {
+        run_beyond(&mut dots, *node, *entry, other)?;
+    }
+    Ok(dots)
+}
+
+// Pushes those of the node's dots 1 to last that the other lacks. Those of its run are not even looked at.
+fn run_beyond(
+    dots: &mut Vec<Dot>,
+    node: NodeName,
+    last: u64,
+    other: &CutContext,
+) -> Result<(), AllocError>
+    requires last { last ≤ MAX }
+    requires counted { AllByRecursion IsCounted dots.old.items }
+    ensures counted { AllByRecursion IsCounted dots.new.items }
+    ensures dots { OnOk result ((d : Dot) → list_has dots.new.items d ≡ (list_has dots.old.items d || (in_run node last d && not (has other.now d)))) }
+{
+    let seen = last.min(other.run(&node));
+    for done in seen..last {
+        let dot = Dot {
+            counter: done + 1,
+            node,
+        };
+        if !other.contains(&dot) {
+            dots.push(dot)?;
+        }
+    }
+    Ok(())
+}
+
+// The dots that the other lacks.
+fn cloud_beyond(alloc: Global, dots: &[Dot], other: &CutContext) -> Result<Vec<Dot>, AllocError>
+    ensures { IfOk result (λ fresh. fresh.items ≡ filter (λ d. not (has other.now d)) dots.now) }
+{
+    let mut fresh = Vec::new(alloc);
+    for dot in dots {
+        if !other.contains(dot) {
+            fresh.push(*dot)?;
+        }
+    }
+    Ok(fresh)
 }
