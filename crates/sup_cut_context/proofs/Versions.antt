@@ -142,3 +142,12 @@ run_there es node n le d = at (eq_by_cmp text_cmp d.node node) refl
     at : (b : Bool) → eq_by_cmp text_cmp d.node node ≡ b → in_vector es d ≡ (in_vector es d || (b && (leb 1 d.counter && leb d.counter n)))
     at true h = not_raised_dots d.counter n (entry es d.node) (subst (λ m. n ≤ entry es m) (sym (exact_bytes d.node node (equal_from_is_eq _ h))) le)
     at false h = or-none (in_vector es d)
+
+-- entries that are each at most another vector's
+pub entries_within : (others es : List (List ℕ × ℕ)) → AllByRecursion (λ e. e.1 ≤ entry others e.0) es → (q : List ℕ) → entry es q ≤ entry others q
+entries_within others [] all q = omega arith
+entries_within others (e ∷ es) all q = subst (λ n. n ≤ entry others q) (sym (entry_of e es q)) (at (eq_by_cmp text_cmp q e.0) refl (entries_within others es all.1 q))
+  where
+    at : (b : Bool) → eq_by_cmp text_cmp q e.0 ≡ b → entry es q ≤ entry others q → cond b e.1 (entry es q) ≤ entry others q
+    at true h rest = subst (λ k. e.1 ≤ entry others k) (sym (exact_bytes q e.0 (equal_from_is_eq _ h))) all.0
+    at false h rest = rest
