@@ -1,22 +1,21 @@
 -- Version vectors: an entry written at its place or put in at a gap, and the dots that a vector has.
-use Rattle.std.proofs.Common.{◌≡◌, ℕ, suc, zero, ◌+◌, ◌<◌, ◌≤◌, Bool, true, false, ◌||◌, ◌&&◌, cond, leb, List, [], ◌∷◌, length, get_or, set, Option, Some, None, unwrap_or, refl, sym, ap, ◌∙◌, subst, arith, inl, inr}
+use Rattle.std.proofs.Common.{◌≡◌, ℕ, suc, zero, ◌<◌, ◌≤◌, Bool, true, false, ◌||◌, ◌&&◌, cond, leb, List, [], ◌∷◌, length, get_or, set, Option, Some, unwrap_or, refl, sym, ap, ◌∙◌, subst, arith, inl, inr}
 use Rattle.std.specs.declared.cmp.Ordering.TheVariants.{Less, Equal, Greater}
 use Rattle.std.specs.Ordering.{is_eq, eq_by_cmp}
 use Rattle.std.specs.Map.{lookup, keys_of}
 use Rattle.std.specs.List.{AllByRecursion, insert}
 use Rattle.std.proofs.lemmas.Bool.Decides.{nat_tests}
-use Rattle.std.proofs.lemmas.Cmp.{nat_list_cmp_total, tied_itself, eq_by_cmp_equiv, on_total}
+use Rattle.std.proofs.lemmas.Cmp.{nat_list_cmp_total, eq_by_cmp_equiv, on_total}
 use Rattle.std.proofs.lemmas.Map.{lookup-insert, NonePasses}
 use Rattle.std.proofs.lemmas.Map.Lookups.{exact_bytes}
 use Rattle.std.proofs.lemmas.List.Elements.{All-from_recursion, recursion_from_All}
 use Rattle.std.proofs.lemmas.Bool.{cases_lt}
-use mathlib.Core.Bool.{false≢true}
 use Rattle.sup_specs.specs.Rising.{IsRising}
 use Rattle.sup_specs.specs.Values.{text_cmp}
 use Rattle.sup_specs.specs.declared.limits.TheConstants.{MAX}
 use Rattle.sup_causal.specs.declared.dot.Dot.{Dot}
 use Rattle.sup_causal.specs.Cut.{entry, in_run}
-use Rattle.sup_causal.proofs.Rising.{greater_from_less, rising_insert, each_insert}
+use Rattle.sup_causal.proofs.Rising.{rising_insert, each_insert}
 use Rattle.sup_causal.proofs.Sorted.{pairs_rise, keys_rise_from_pairs}
 use Rattle.sup_causal.proofs.DotLemmas.{equal_from_is_eq}
 use Rattle.sup_cut_context.specs.Parts.{IsVersions, in_vector}

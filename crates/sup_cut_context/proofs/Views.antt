@@ -1,5 +1,5 @@
 -- The dots of parts, as a context: what it has, and that it rises.
-use Rattle.std.proofs.Common.{◌≡◌, ℕ, suc, zero, ◌+◌, ◌≤◌, Bool, true, false, ◌||◌, ◌&&◌, leb, eqb, List, [], ◌∷◌, ◌++◌, refl, sym, ap, ◌∙◌, subst, arith, inl, inr}
+use Rattle.std.proofs.Common.{◌≡◌, ℕ, suc, zero, ◌+◌, ◌≤◌, Bool, true, false, ◌||◌, ◌&&◌, leb, eqb, List, [], ◌∷◌, ◌++◌, refl, sym, ap, ◌∙◌, arith, inl, inr}
 use Rattle.std.specs.declared.cmp.Ordering.{Ordering}
 use Rattle.std.specs.declared.cmp.Ordering.TheVariants.{Less, Equal, Greater}
 use Rattle.std.specs.Ordering.{eq_by_cmp}
@@ -14,7 +14,7 @@ use Rattle.sup_specs.proofs.RisingLaws.{among-rising}
 use Rattle.sup_specs.specs.Values.{text_cmp}
 use Rattle.sup_specs.specs.declared.limits.TheConstants.{MAX}
 use Rattle.sup_causal.specs.declared.dot.Dot.{Dot}
-use Rattle.sup_causal.specs.Dots.{has, dot_cmp, dot_eq, list_has, IsCounted, IsKept}
+use Rattle.sup_causal.specs.Dots.{has, dot_cmp, list_has, IsCounted, IsKept}
 use Rattle.sup_causal.specs.DotLaws.{dot_total}
 use Rattle.sup_causal.specs.Cut.{entry, IsCanonical, in_run, in_runs, in_parts}
 use Rattle.sup_causal.proofs.Rising.{less_from_greater}

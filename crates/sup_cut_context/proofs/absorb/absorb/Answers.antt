@@ -1,6 +1,5 @@
-use Rattle.std.proofs.Common.{◌≡◌, ◌||◌, true, Bool, false, ap, sym, ◌∙◌, inl, inr, subst}
+use Rattle.std.proofs.Common.{◌||◌, ap, sym, ◌∙◌, inl, inr}
 use Rattle.std.proofs.lemmas.Bool.{or_cases, or_left, or_right}
-use Rattle.std.proofs.lemmas.List.{take_all}
 use Rattle.sup_causal.specs.Dots.{list_has, dot_eq}
 use Rattle.sup_causal.proofs.DotLemmas.{or_assoc}
 use Rattle.sup_cut_context.specs.Parts.{in_vector}

@@ -1,4 +1,4 @@
-use Rattle.std.proofs.Common.{◌≡◌, ◌≤◌, ◌+◌, ◌||◌, false, arith, sym, ap, ◌∙◌}
+use Rattle.std.proofs.Common.{◌≡◌, ◌≤◌, ◌+◌, false, arith, sym, ap, ◌∙◌}
 use Rattle.std.proofs.lemmas.Bool.{false_from_ne_true}
 use Rattle.sup_causal.specs.Cut.{entry}
 use Rattle.sup_causal.specs.Dots.{list_has, dot_cmp}
@@ -44,8 +44,8 @@ returns-clause-canonical c =
     let cloud = c.args.cloud.now.items in
     let is : c.entry_in-entry.result ≡ entry c.args.vector.now.items x.node = c.entry_in-entry.ensures ∙ ap (λ v. entry v x.node) c.deref.ensures.value in
     rw c.in_ok-push.ensures.items (cloud_canonical c.args.vector.now.items cloud _ x (has_push cloud x) c.requires.canonical
-        (rising_push cloud x c.requires.canonical.in_order (each_from_has (λ y. dot_cmp y x ≡ Less) cloud c.requires.last))
-        (omega (arith, is, c.if-dot-entry.false, c.if-dot-entry-2.false)) c.requires.counted.1)
+    (rising_push cloud x c.requires.canonical.in_order (each_from_has (λ y. dot_cmp y x ≡ Less) cloud c.requires.last))
+    (omega (arith, is, c.if-dot-entry.false, c.if-dot-entry-2.false)) c.requires.counted.1)
 
 pub returns-clause-dots : goal.returns-clause-dots
 returns-clause-dots c =

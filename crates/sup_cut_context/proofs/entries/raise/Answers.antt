@@ -1,5 +1,4 @@
-use Rattle.std.proofs.Common.{rules, ℕ, List, Err, ◌≡◌, ◌<◌, ◌≤◌, length, get_or}
-use Rattle.std.specs.declared.cmp.Ordering.TheVariants.{Less, Equal, Greater}
+use Rattle.std.proofs.Common.{rules, ℕ, List, Err}
 use Rattle.std.proofs.lemmas.Cmp.{on_total, nat_list_cmp_total}
 use Rattle.std.proofs.lemmas.Fn.{always_returns_same}
 use Rattle.sup_specs.specs.Values.{text_cmp}

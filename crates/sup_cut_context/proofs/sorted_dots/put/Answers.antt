@@ -1,4 +1,4 @@
-use Rattle.std.proofs.Common.{◌≡◌, ◌||◌, true, Ok, Err, ap, sym, ◌∙◌, rules}
+use Rattle.std.proofs.Common.{Err, ap, ◌∙◌}
 use Rattle.sup_causal.specs.Dots.{list_has, dot_eq}
 use Rattle.sup_causal.specs.DotLaws.{dot_total}
 use Rattle.sup_causal.proofs.Rising.{searched, rising_insert}

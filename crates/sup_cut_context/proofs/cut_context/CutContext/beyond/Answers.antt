@@ -1,4 +1,4 @@
-use Rattle.std.proofs.Common.{◌≡◌, ◌&&◌, ◌||◌, not, ap, sym, ◌∙◌, subst}
+use Rattle.std.proofs.Common.{◌&&◌, ◌||◌, not, ap, sym, ◌∙◌, subst}
 use Rattle.sup_specs.specs.Rising.{among}
 use Rattle.sup_specs.specs.Values.{text_cmp}
 use Rattle.sup_causal.specs.Cut.{in_runs}

@@ -1,4 +1,4 @@
-use Rattle.std.proofs.Common.{◌≡◌, true, sym, ap, ◌∙◌}
+use Rattle.std.proofs.Common.{sym, ◌∙◌}
 use Rattle.sup_causal.specs.Cut.{in_parts}
 use Rattle.sup_cut_context.proofs.Views.{has_kept, parts_counted}
 use Rattle.sup_cut_context.proofs.cut_context.CutContext.contains.Goals as goal

@@ -1,5 +1,3 @@
-use Rattle.std.proofs.Common.{refl}
-use Rattle.std.proofs.Common.{ap, ◌∙◌}
 use Rattle.sup_causal.specs.Dots.{has}
 use Rattle.sup_cut_context.specs.Parts.{dots_of}
 use Rattle.sup_cut_context.proofs.cut_context.CutContext.empty.Goals as goal

@@ -1,8 +1,6 @@
-use Rattle.std.proofs.Common.{◌≡◌, sym, ap, ◌∙◌, subst}
+use Rattle.std.proofs.Common.{sym, ◌∙◌}
 use mathlib.Core.Bool.{false≢true}
 use Rattle.sup_causal.specs.Dots.{has}
-use Rattle.sup_causal.specs.Cut.{IsVector, IsCloud, in_parts}
-use Rattle.sup_causal.specs.declared.dot.Dot.{Dot}
 use Rattle.sup_causal.proofs.CutLaws.{vector_of_parts, cloud_of_parts, cut_canonical}
 use Rattle.sup_cut_context.specs.Parts.{dots_of}
 use Rattle.sup_cut_context.proofs.Views.{has_dots}

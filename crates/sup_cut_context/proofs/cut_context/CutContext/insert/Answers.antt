@@ -1,4 +1,4 @@
-use Rattle.std.proofs.Common.{◌≡◌, ◌≤◌, ◌+◌, ◌||◌, cond, false, arith, ap, sym, ◌∙◌, subst}
+use Rattle.std.proofs.Common.{◌≡◌, ◌+◌, ◌||◌, cond, arith, ap, sym, ◌∙◌, subst}
 use Rattle.std.specs.Ordering.{eq_by_cmp}
 use Rattle.sup_specs.specs.Values.{text_cmp}
 use Rattle.sup_causal.specs.Dots.{has, list_has, dot_eq, IsKept}
@@ -6,7 +6,7 @@ use Rattle.sup_causal.specs.Cut.{entry, in_parts}
 use Rattle.sup_causal.proofs.DotLemmas.{among_is}
 use Rattle.sup_cut_context.specs.Parts.{in_vector}
 use Rattle.sup_cut_context.proofs.Views.{has_dots, has_kept, cloud_kept}
-use Rattle.sup_cut_context.proofs.Cuts.{parts_again, in_its_run, raised_parts, raised_canonical, raised_vector, cloud_parts, cloud_canonical, or_turn, or_between}
+use Rattle.sup_cut_context.proofs.Cuts.{parts_again, in_its_run, raised_parts, raised_canonical, cloud_parts, cloud_canonical, or_turn}
 use Rattle.sup_cut_context.proofs.cut_context.CutContext.insert.Goals as goal
 
 -- a dot of a run

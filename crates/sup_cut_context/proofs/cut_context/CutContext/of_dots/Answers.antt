@@ -1,4 +1,4 @@
-use Rattle.std.proofs.Common.{◌≡◌, ◌||◌, false, ap, sym, ◌∙◌}
+use Rattle.std.proofs.Common.{◌||◌, ap, ◌∙◌}
 use Rattle.sup_causal.specs.Dots.{list_has}
 use Rattle.sup_causal.proofs.DotLemmas.{among_is}
 use Rattle.sup_cut_context.specs.Parts.{in_vector}

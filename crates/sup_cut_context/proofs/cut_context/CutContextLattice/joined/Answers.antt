@@ -19,9 +19,9 @@ returns c =
     let w = c.other.inside.vector.items in
     let others = c.other.inside.cloud.items in
     fun_ext (λ d.
-        let runs = c.in_ok-lift.ensures.dots d ∙ (λ k. in_vector ((c.in_ok-vector.ensures.items ∙ c.deref.ensures.value) k) d || (ap (λ es. in_runs es d) c.deref-2.ensures.value ∙ in_runs_is w (pairs_rise text_cmp w c.other.invariant.by_name) d) k) in
-        let rest = ap (λ ds. list_has ds d) c.deref-5.ensures.value ∙ c.in_ok-dots.ensures.dots d ∙ (λ k. (ap (λ ds. list_has ds d) c.deref-3.ensures.value ∙ among_is cloud d) k || (ap (λ ds. list_has ds d) c.deref-4.ensures.value ∙ among_is others d) k) in
-        c.in_ok-context.ensures d
-        ∙ (λ k. runs k || rest k)
-        ∙ or_four (in_vector v d) (in_vector w d) (among dot_cmp cloud d) (among dot_cmp others d)
-        ∙ (λ k. sym (has_kept c.args.self.now v cloud c.self.invariant c.self.view_is d) k || sym (has_kept c.args.other.now w others c.other.invariant c.other.view_is d) k))
+    let runs = c.in_ok-lift.ensures.dots d ∙ (λ k. in_vector ((c.in_ok-vector.ensures.items ∙ c.deref.ensures.value) k) d || (ap (λ es. in_runs es d) c.deref-2.ensures.value ∙ in_runs_is w (pairs_rise text_cmp w c.other.invariant.by_name) d) k) in
+    let rest = ap (λ ds. list_has ds d) c.deref-5.ensures.value ∙ c.in_ok-dots.ensures.dots d ∙ (λ k. (ap (λ ds. list_has ds d) c.deref-3.ensures.value ∙ among_is cloud d) k || (ap (λ ds. list_has ds d) c.deref-4.ensures.value ∙ among_is others d) k) in
+    c.in_ok-context.ensures d
+    ∙ (λ k. runs k || rest k)
+    ∙ or_four (in_vector v d) (in_vector w d) (among dot_cmp cloud d) (among dot_cmp others d)
+    ∙ (λ k. sym (has_kept c.args.self.now v cloud c.self.invariant c.self.view_is d) k || sym (has_kept c.args.other.now w others c.other.invariant c.other.view_is d) k))

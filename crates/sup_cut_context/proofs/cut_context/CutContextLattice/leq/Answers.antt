@@ -1,4 +1,4 @@
-use Rattle.std.proofs.Common.{◌≡◌, ◌≤◌, ℕ, List, arith, ap, sym, ◌∙◌}
+use Rattle.std.proofs.Common.{◌≤◌, ℕ, List, arith, ap, sym, ◌∙◌}
 use Rattle.std.proofs.lemmas.Bool.{or_right}
 use mathlib.Core.Bool.{false≢true}
 use Rattle.sup_causal.specs.Dots.{list_has}
@@ -16,8 +16,8 @@ returns-then-runs_within c =
     let mine = has_kept c.args.self.now v cloud c.self.invariant c.self.view_is in
     let theirs = has_kept c.args.other.now w c.other.inside.cloud.items c.other.invariant c.other.view_is in
     let runs : (q : List ℕ) → entry v q ≤ entry w q = λ q.
-        let le : entry c.deref.result.now q ≤ entry c.deref-2.result.now q = c.runs_within.ensures.0 c.if-runs_within.true q in
-        omega (arith, le, ap (λ es. entry es q) c.deref.ensures.value, ap (λ es. entry es q) c.deref-2.ensures.value) in
+    let le : entry c.deref.result.now q ≤ entry c.deref-2.result.now q = c.runs_within.ensures.0 c.if-runs_within.true q in
+    omega (arith, le, ap (λ es. entry es q) c.deref.ensures.value, ap (λ es. entry es q) c.deref-2.ensures.value) in
     let same = c.deref-then-runs_within.ensures.value in (
       (λ within. adds_nothing _ _ (λ d there.
           theirs d ∙ parts_within v w cloud c.other.inside.cloud.items runs (λ x h. sym (theirs x) ∙ c.cloud_within.ensures.0 within x (ap (λ ds. list_has ds x) same ∙ h)) d (sym (mine d) ∙ there))),
