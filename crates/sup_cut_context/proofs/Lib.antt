@@ -1,0 +1,4 @@
+pub mod Versions
+pub mod Cuts
+pub mod Views
+pub mod Within

@@ -1,0 +1,355 @@
+//! Causal contexts: which dots a node has seen, kept as a version vector and a dot cloud.
+
+ghost use Rattle.std.specs.Prelude.{◌≡◌, ℕ, List, ◌≤◌, ◌||◌, ◌&&◌, ◌↔◌, not, Bool, false, true, IsTrue, Err, IfOk, IfErr, OnOk, OnErr, IfSome, IsNone};
+ghost use Rattle.std.specs.Prelude.{All};
+ghost use Rattle.std.specs.List.{AllByRecursion, filter};
+ghost use Rattle.sup_specs.specs.Rising.{among, IsRising};
+ghost use Rattle.sup_causal.specs.Cut.{entry, in_run, in_runs, in_parts, IsRun, IsVector, IsCloud, IsCanonical};
+ghost use Rattle.sup_causal.specs.declared.parts.PartsFault.TheVariants.{NotCanonical};
+ghost use Rattle.sup_causal.specs.Dots.{has, list_has, dot_cmp, dot_eq, IsCounted, IsGreatest, IsKept, IsNext};
+ghost use Rattle.sup_causal.specs.Greatest.{greatest_in};
+ghost use Rattle.sup_cut_context.specs.Parts.{IsVersions, in_vector, IsWidthOf};
+
+use crate::absorb::absorb;
+use crate::entries::{entry_in, lift, raise};
+use crate::parts::is_canonical;
+use crate::sorted_dots::{greatest_of, is_in, put, sorted, union};
+use std::alloc::{AllocError, Global};
+use std::marker::Model;
+use sup_causal::{Dot, Lattice, PartsFault};
+use sup_specs::{MAX, NodeName};
+
+/// A set of dots (Almeida, Shoker and Baquero 2018). A contract sees it by one test, `has`. It keeps its cut alone, so
+/// no call takes more time or memory where runs are longer.
+#[derive(Drop)]
+pub struct CutContext {
+    // By name, the run of each node that has one.
+    vector: Vec<(NodeName, u64)>,
+    // In dot order, the dots beyond the runs.
+    cloud: Vec<Dot>,
+}
+
+impl Model for CutContext {
+    ghost use Rattle.sup_causal.specs.Cut.{IsCanonical};
+    ghost use Rattle.sup_causal.specs.Dots.{Context};
+    ghost use Rattle.sup_cut_context.specs.Parts.{dots_of};
+
+    ghost Value = { Context };
+
+    ghost view = { λ c. dots_of c.vector.items c.cloud.items };
+
+    ghost invariant = { λ c. IsCanonical c.vector.items c.cloud.items };
+}
+
+impl CutContext {
+    /// The context with no dot. It takes no memory.
+    pub fn empty(alloc: Global) -> CutContext
+        ensures { (d : Dot) → has result d ≡ false }
+    {
+        CutContext {
+            vector: Vec::new(alloc),
+            cloud: Vec::new(alloc),
+        }
+    }
+
+    /// The context with the dots of a list, in whatever order they stand and however often. Each passes
+    /// [`Dot::is_counted`]. Refused only for memory.
+    pub fn of_dots(alloc: Global, dots: &[Dot]) -> Result<CutContext, AllocError>
+        requires { All IsCounted dots.now }
+        ensures { IfOk result (λ context. (d : Dot) → has context d ≡ among dot_cmp dots.now d) }
+    {
+        let dots = sorted(Vec::from_slice(alloc, dots)?);
+        let context = absorbed(alloc, Vec::new(alloc), &dots)?;
+        Ok(context)
+    }
+
+    /// The context that a version vector and a dot cloud cut: the dots 1 to n of each node with entry n, and those of
+    /// the cloud. NotCanonical where no context has this [`vector`](Self::vector) and [`cloud`](Self::cloud): where
+    /// an entry is 0 or above [`MAX`], a name stands twice or out of order, a dot of the cloud stands twice or out of
+    /// order, or its counter is above `MAX` or not at least 2 above its node's entry. Else refused only for memory.
+    pub fn from_parts(
+        alloc: Global,
+        vector: &[(NodeName, u64)],
+        cloud: &[Dot],
+    ) -> Result<CutContext, PartsFault>
+        ensures canonical { IfOk result (λ _. IsCanonical vector.now cloud.now) }
+        ensures dots { IfOk result (λ context. (d : Dot) → has context d ≡ in_parts vector.now cloud.now d) }
+        ensures vector { IfOk result (λ context. IsVector (has context) vector.now) }
+        ensures cloud { IfOk result (λ context. IsCloud (has context) cloud.now) }
+        ensures not_canonical { IfErr result (λ fault. fault ≡ NotCanonical → ¬ IsCanonical vector.now cloud.now) }
+        ensures refused { ¬ IsCanonical vector.now cloud.now → result ≡ Err NotCanonical }
+        ensures no_cut { IfErr result (λ fault. fault ≡ NotCanonical → (holds : Dot → Bool) → ((d : Dot) → holds d ≡ true → IsCounted d) → IsVector holds vector.now → ¬ IsCloud holds cloud.now) }
+    {
+        if !is_canonical(vector, cloud) {
+            return Err(PartsFault::NotCanonical);
+        }
+        let vector = Vec::from_slice(alloc, vector)?;
+        let cloud = Vec::from_slice(alloc, cloud)?;
+        Ok(CutContext { vector, cloud })
+    }
+
+    /// The counters of a context's dots are in their limits.
+    pub fn counted(&self)
+        ensures { (d : Dot) → has self.now d ≡ true → IsCounted d }
+    {
+        // The read alone shows the prover how the dots are kept.
+        let _vector = &self.vector;
+    }
+
+    /// A contract sees a context's dots as their rising list, so two contexts with the same dots are equal.
+    pub fn in_order(&self)
+        ensures { IsRising dot_cmp self.now }
+    {
+        // The read alone shows the prover how the dots are kept.
+        let _vector = &self.vector;
+    }
+
+    /// Whether the context has the dot.
+    pub fn contains(&self, dot: &Dot) -> bool
+        ensures has { result ≡ has self.now dot.now }
+        ensures counted { IsTrue result → IsCounted dot.now }
+    {
+        parts_have(&self.vector, &self.cloud, dot)
+    }
+
+    /// Adds a dot, which passes [`Dot::is_counted`]. Where memory is refused the context stays as it was.
+    pub fn insert(&mut self, dot: Dot) -> Result<(), AllocError>
+        requires { IsCounted dot }
+        ensures ok { OnOk result ((d : Dot) → has self.new d ≡ (dot_eq dot d || has self.old d)) }
+        ensures err { OnErr result (self.new ≡ self.old) }
+    {
+        let entry = entry_in(&self.vector, &dot.node);
+        if dot.counter <= entry {
+            return Ok(());
+        }
+        if dot.counter > entry + 1 {
+            return Ok(put(&mut self.cloud, dot)?);
+        }
+        let after = Dot {
+            counter: dot.counter + 1,
+            node: dot.node,
+        };
+        if !is_in(&after, &self.cloud) {
+            return Ok(raise(&mut self.vector, dot.node, dot.counter)?);
+        }
+        // The run now reaches the cloud.
+        let alloc = *self.vector.allocator();
+        let mut vector = Vec::from_slice(alloc, &self.vector)?;
+        raise(&mut vector, dot.node, dot.counter)?;
+        let context = absorbed(alloc, vector, &self.cloud)?;
+        *self = context;
+        Ok(())
+    }
+
+    /// The greatest counter of the node's dots, 0 where there is none.
+    pub fn greatest(&self, node: &NodeName) -> u64
+        ensures greatest { IsGreatest (has self.now) node.now result }
+        ensures value { result ≡ greatest_in self.now node.now }
+        ensures counted { result ≤ MAX }
+    {
+        let last = greatest_of(&self.cloud, node);
+        last.max(entry_in(&self.vector, node))
+    }
+
+    /// The node's dot after its greatest, which the context does not have. None only where the greatest is [`MAX`].
+    pub fn next(&self, node: NodeName) -> Option<Dot>
+        ensures spent { IsNone result → IsGreatest (has self.now) node MAX }
+        ensures counted { IfSome result IsCounted }
+        ensures next { IfSome result (IsNext (has self.now) node) }
+    {
+        let greatest = self.greatest(&node);
+        if greatest == MAX {
+            return None;
+        }
+        Some(Dot {
+            counter: greatest + 1,
+            node,
+        })
+    }
+
+    /// The version vector: by name, for each node the greatest n such that the context has all its dots 1 to n, and
+    /// nothing where that is 0. Refused only for memory.
+    pub fn vector(&self) -> Result<Vec<(NodeName, u64)>, AllocError>
+        ensures { IfOk result (λ vector. IsVector (has self.now) vector.items) }
+    {
+        let vector = Vec::from_slice(*self.vector.allocator(), &self.vector)?;
+        Ok(vector)
+    }
+
+    /// The dot cloud: in dot order, the dots above their node's entry in the vector. Refused only for memory.
+    pub fn cloud(&self) -> Result<Vec<Dot>, AllocError>
+        ensures { IfOk result (λ cloud. IsCloud (has self.now) cloud.items) }
+    {
+        let cloud = Vec::from_slice(*self.cloud.allocator(), &self.cloud)?;
+        Ok(cloud)
+    }
+
+    /// How many entries the vector and how many dots the cloud has, together: what a walk over the context costs.
+    pub fn width(&self) -> usize
+        ensures { IsWidthOf (has self.now) result }
+    {
+        self.vector.len() + self.cloud.len()
+    }
+
+    /// The dots of this context that the other lacks, rising. Refused only for memory. One look-up in the other for
+    /// each dot of this one's runs above the other's entries, and for each of its cloud.
+    pub fn beyond(&self, alloc: Global, other: &CutContext) -> Result<Vec<Dot>, AllocError>
+        ensures dots { IfOk result (λ dots. (d : Dot) → among dot_cmp dots.items d ≡ (has self.now d && not (has other.now d))) }
+        ensures rising { IfOk result (λ dots. IsRising dot_cmp dots.items) }
+    {
+        let runs = sorted(runs_beyond(alloc, &self.vector, other)?);
+        let cloud = cloud_beyond(alloc, &self.cloud, other)?;
+        let dots = union(alloc, &runs, &cloud)?;
+        Ok(dots)
+    }
+
+    // The node's entry.
+    fn run(&self, node: &NodeName) -> u64
+        ensures { IsRun (has self.now) node.now result }
+    {
+        entry_in(&self.vector, node)
+    }
+}
+
+impl Lattice for CutContext {
+    ghost use Rattle.std.specs.Prelude.{Bool, ◌||◌};
+    ghost use Rattle.sup_causal.specs.Dots.{has};
+    ghost use Rattle.sup_causal.specs.Join.{pointwise_join, pointwise_laws, or_laws};
+    ghost use Rattle.sup_causal.specs.declared.dot.Dot.{Dot};
+
+    ghost Meaning = { Dot → Bool };
+
+    ghost meaning = { has };
+
+    ghost join = { pointwise_join (λ a b. a || b) };
+
+    ghost laws = { pointwise_laws or_laws };
+
+    /// The context with the dots of both.
+    fn joined(&self, alloc: Global, other: &CutContext) -> Result<CutContext, AllocError> {
+        let mut vector = Vec::from_slice(alloc, &self.vector)?;
+        lift(&mut vector, &other.vector)?;
+        let dots = union(alloc, &self.cloud, &other.cloud)?;
+        let context = absorbed(alloc, vector, &dots)?;
+        Ok(context)
+    }
+
+    /// Takes in the other's dots. Where it brings none this takes no memory.
+    fn join_from(&mut self, alloc: Global, other: &CutContext) -> Result<(), AllocError> {
+        if other.leq(self) {
+            return Ok(());
+        }
+        let joined = self.joined(alloc, other)?;
+        *self = joined;
+        Ok(())
+    }
+
+    /// Whether the other context has all dots of this one.
+    fn leq(&self, other: &CutContext) -> bool {
+        runs_within(&self.vector, &other.vector) && cloud_within(&self.cloud, other)
+    }
+}
+
+// The context with the dots of a vector and of a list.
+fn absorbed(
+    alloc: Global,
+    mut vector: Vec<(NodeName, u64)>,
+    dots: &[Dot],
+) -> Result<CutContext, AllocError>
+    requires vector { IsVersions vector.items }
+    requires dots { IsKept dots.now }
+    ensures { IfOk result (λ context. (d : Dot) → has context d ≡ (in_vector vector.items d || list_has dots.now d)) }
+{
+    let cloud = absorb(alloc, &mut vector, dots)?;
+    Ok(CutContext { vector, cloud })
+}
+
+// Whether a vector and a cloud have the dot.
+fn parts_have(vector: &[(NodeName, u64)], cloud: &[Dot], dot: &Dot) -> bool
+    requires { IsCanonical vector.now cloud.now }
+    ensures { result ≡ in_parts vector.now cloud.now dot.now }
+{
+    let entry = entry_in(vector, &dot.node);
+    (1 <= dot.counter && dot.counter <= entry) || is_in(dot, cloud)
+}
+
+// Whether each entry is at most the other vector's.
+fn runs_within(vector: &[(NodeName, u64)], others: &[(NodeName, u64)]) -> bool
+    requires vector { IsVersions vector.now }
+    requires others { IsVersions others.now }
+    ensures { IsTrue result ↔ ((q : List ℕ) → entry vector.now q ≤ entry others.now q) }
+{
+    for (node, entry) in vector {
+        if entry_in(others, node) < *entry {
+            return false;
+        }
+    }
+    true
+}
+
+// Whether the context has all the dots.
+fn cloud_within(dots: &[Dot], other: &CutContext) -> bool
+    ensures { IsTrue result ↔ ((d : Dot) → list_has dots.now d ≡ true → has other.now d ≡ true) }
+{
+    for dot in dots {
+        if !other.contains(dot) {
+            return false;
+        }
+    }
+    true
+}
+
+// The dots of the runs that the other lacks.
+fn runs_beyond(
+    alloc: Global,
+    vector: &[(NodeName, u64)],
+    other: &CutContext,
+) -> Result<Vec<Dot>, AllocError>
+    requires { IsVersions vector.now }
+    ensures counted { IfOk result (λ dots. AllByRecursion IsCounted dots.items) }
+    ensures dots { IfOk result (λ dots. (d : Dot) → list_has dots.items d ≡ (in_runs vector.now d && not (has other.now d))) }
+{
+    let mut dots = Vec::new(alloc);
+    for (node, entry) in vector {
+        run_beyond(&mut dots, *node, *entry, other)?;
+    }
+    Ok(dots)
+}
+
+// Pushes those of the node's dots 1 to last that the other lacks. Those of its run are not even looked at.
+fn run_beyond(
+    dots: &mut Vec<Dot>,
+    node: NodeName,
+    last: u64,
+    other: &CutContext,
+) -> Result<(), AllocError>
+    requires last { last ≤ MAX }
+    requires counted { AllByRecursion IsCounted dots.old.items }
+    ensures counted { AllByRecursion IsCounted dots.new.items }
+    ensures dots { OnOk result ((d : Dot) → list_has dots.new.items d ≡ (list_has dots.old.items d || (in_run node last d && not (has other.now d)))) }
+{
+    let seen = last.min(other.run(&node));
+    for done in seen..last {
+        let dot = Dot {
+            counter: done + 1,
+            node,
+        };
+        if !other.contains(&dot) {
+            dots.push(dot)?;
+        }
+    }
+    Ok(())
+}
+
+// The dots that the other lacks.
+fn cloud_beyond(alloc: Global, dots: &[Dot], other: &CutContext) -> Result<Vec<Dot>, AllocError>
+    ensures { IfOk result (λ fresh. fresh.items ≡ filter (λ d. not (has other.now d)) dots.now) }
+{
+    let mut fresh = Vec::new(alloc);
+    for dot in dots {
+        if !other.contains(dot) {
+            fresh.push(*dot)?;
+        }
+    }
+    Ok(fresh)
+}
