@@ -13,11 +13,7 @@ fn right(rt: &(impl Abort + AllocGlobal)) -> CutContext {
     context(rt, &[("a", 1), ("b", 1)], &[("a", 4)])
 }
 
-fn expect_refused(
-    rt: &(impl Abort + AllocGlobal),
-    vector: Counters<'_>,
-    cloud: Counters<'_>,
-) {
+fn expect_refused(rt: &(impl Abort + AllocGlobal), vector: Counters<'_>, cloud: Counters<'_>) {
     assert!(rt; matches!(cut(rt, vector, cloud), Err(PartsFault::NotCanonical)));
 }
 
@@ -57,7 +53,12 @@ fn the_longest_run_is_joined_at_once(rt: HostRuntime) {
 #[test]
 fn parts_that_go_on_are_no_cut(rt: HostRuntime) {
     expect_refused(&rt, &[("a", 1)], &[("a", 2)]);
-    expect_cut(&rt, &context(&rt, &[("a", 1)], &[("a", 3)]), &[("a", 1)], &[("a", 3)]);
+    expect_cut(
+        &rt,
+        &context(&rt, &[("a", 1)], &[("a", 3)]),
+        &[("a", 1)],
+        &[("a", 3)],
+    );
 }
 
 #[test]
@@ -95,5 +96,10 @@ fn what_is_beyond_rises(rt: HostRuntime) {
     let theirs = context(&rt, &[("a", MAX - 2), ("b", 1)], &[("b", 3), ("a", MAX)]);
     let news = mine.beyond(rt.alloc(), &theirs).expect(&rt, "room");
     assert!(rt; news == dots(&rt, &[("b", 2), ("c", 2), ("a", MAX - 1)]));
-    assert!(rt; theirs.beyond(rt.alloc(), &mine).expect(&rt, "room").is_empty());
+    assert!(rt;
+        theirs
+            .beyond(rt.alloc(), &mine)
+            .expect(&rt, "room")
+            .is_empty()
+    );
 }

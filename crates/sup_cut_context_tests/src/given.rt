@@ -67,12 +67,8 @@ pub(crate) fn expect_cut(
     assert!(rt; context.width() == vector.len() + cloud.len());
 }
 
-/// The join, by both calls and through the trait's bound.
-pub(crate) fn joined<L: Lattice>(
-    rt: &(impl Abort + AllocGlobal),
-    left: &L,
-    right: &L,
-) -> L {
+/// The join, through the trait's bound.
+pub(crate) fn joined<L: Lattice>(rt: &(impl Abort + AllocGlobal), left: &L, right: &L) -> L {
     left.joined(rt.alloc(), right).expect(rt, "room")
 }
 
