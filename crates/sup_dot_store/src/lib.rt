@@ -9,6 +9,7 @@ pub mod dot_store;
 pub mod indexed;
 mod row_lists;
 mod row_runs;
+pub mod short_values;
 mod stores_under;
 mod values_under;
 
