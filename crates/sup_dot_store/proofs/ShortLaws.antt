@@ -1,6 +1,8 @@
 -- Values by dot in a rising list: what a search finds there, and one value more or less.
-use Rattle.std.specs.Prelude.{◌≡◌, ℕ, zero, suc, ◌+◌, ◌<◌, ◌≤◌, Bool, true, false, cond, List, [], ◌∷◌, length, Option, Some, None, slice_get, slice_index_or, refl}
-use Rattle.std.proofs.Common.{get_or, sym, ap, ◌∙◌, subst, arith, Result, Ok, Err}
+use Rattle.std.specs.Prelude.{◌≡◌, ℕ, zero, suc, ◌+◌, ◌<◌, ◌≤◌, Bool, true, false, cond, List, [], ◌∷◌, length, Option, Some, None, IsSome, refl}
+use Rattle.std.specs.Option.{is_some}
+use Rattle.std.proofs.Common.{get_or, sym, ap, ◌∙◌, subst, arith, Err}
+use mathlib.Core.Bool.{false≢true}
 use Rattle.std.specs.declared.cmp.Ordering.{Ordering}
 use Rattle.std.specs.declared.cmp.Ordering.TheVariants.{Less, Equal, Greater}
 use Rattle.std.specs.Ordering.{is_lt, is_eq, ordering_index, eq_by_cmp}
@@ -24,6 +26,12 @@ use Rattle.sup_causal.proofs.Rising.{greater_from_less, less_from_greater, risin
 use Rattle.sup_causal.proofs.Sorted.{rising_from_sorted, sorted_from_rising, pairs_rise, keys_rise_from_pairs}
 use Rattle.sup_dot_store.proofs.IndexLaws.{same}
 
+pub not_there : {V : Type 0} {o : Option V} {v : V} → o ≡ None → o ≡ Some v → ⊥
+not_there none some = cc
+
+pub not_some : {V : Type 0} {o : Option V} → o ≡ None → IsSome o → ⊥
+not_some none some = false≢true (sym (ap is_some none) ∙ some)
+
 module _ {V : Type 0} where
   abbrev entry_cmp : Dot × V → Dot × V → Ordering
   entry_cmp a b = dot_cmp a.0 b.0
@@ -36,6 +44,10 @@ module _ {V : Type 0} where
 
   abbrev pub found_at : List (Dot × V) → Dot → Option V
   found_at es d = lookup (is_at (dot_cmp d)) es
+
+  -- what is found at d once q is taken away
+  abbrev pub taken_from : List (Dot × V) → Dot → Dot → Option V
+  taken_from es q d = cond (dot_eq q d) None (found_at es d)
 
   rising : (es : List (Dot × V)) → Rises es → IsRising entry_cmp es
   rising es s = pairs_rise dot_cmp es (rising_from_sorted dot_cmp (keys_of es) s)
