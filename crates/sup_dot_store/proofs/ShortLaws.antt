@@ -32,6 +32,14 @@ not_there none some = cc
 pub not_some : {V : Type 0} {o : Option V} → o ≡ None → IsSome o → ⊥
 not_some none some = false≢true (sym (ap is_some none) ∙ some)
 
+-- what is found at the dot where a value or none was put, and elsewhere
+module _ {V : Type 0} (k : Dot) (put : Option V) (old new : Dot → Option V) (puts : (q : Dot) → new q ≡ cond (dot_eq k q) put (old q)) where
+  pub put_here : new k ≡ put
+  put_here = puts k ∙ ap (λ o. cond (is_eq o) put (old k)) (tied_itself dot_total k)
+
+  pub put_elsewhere : (q : Dot) → dot_eq k q ≡ false → new q ≡ old q
+  put_elsewhere q apart = puts q ∙ ap (λ b. cond b put (old q)) apart
+
 module _ {V : Type 0} where
   abbrev entry_cmp : Dot × V → Dot × V → Ordering
   entry_cmp a b = dot_cmp a.0 b.0

@@ -3,6 +3,7 @@
 
 pub mod both;
 pub mod causal;
+mod dot_by_dot;
 pub mod dot_fun;
 pub mod dot_map;
 pub mod dot_store;

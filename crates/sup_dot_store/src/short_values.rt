@@ -117,7 +117,7 @@ impl<V> ShortValues<V> {
 
     // Gives back the room that is not used.
     pub(crate) fn shrink(&mut self)
-        ensures { self.new.entries ≡ self.old.entries }
+        ensures { self.new ≡ self.old }
     {
         self.items.shrink_to_fit();
     }
