@@ -12,6 +12,7 @@ use Rattle.std.proofs.lemmas.Cmp.{eq_by_cmp_equiv}
 use Rattle.sup_causal.specs.declared.dot.Dot.{Dot}
 use Rattle.sup_causal.specs.Dots.{dot_cmp, dot_eq}
 use Rattle.sup_causal.specs.DotLaws.{dot_total}
+use Rattle.sup_dot_store.specs.ByDot.{at_dot}
 use Rattle.sup_dot_store.specs.declared.dot_fun.DotFun.{DotFun}
 use Rattle.sup_dot_store.specs.Places.{optional_held, HasRow, NoneEmpty}
 use Rattle.sup_dot_store.specs.Index.{value_of, value_under, count_in, HasOneRow, PutsRow, TakesRow}
@@ -33,7 +34,7 @@ module _ {V : Type 0} where
       at (suc n) same = omega arith
 
   -- a function with one entry has nothing at other dots
-  single_at : (f : DotFun V) (dot : Dot) (value : V) → f.values.entries ≡ (dot, value) ∷ [] → (d : Dot) → get dot_cmp f.values d ≡ cond (dot_eq dot d) (Some value) None
+  single_at : (f : DotFun V) (dot : Dot) (value : V) → f.values.entries ≡ (dot, value) ∷ [] → (d : Dot) → at_dot f.values d ≡ cond (dot_eq dot d) (Some value) None
   single_at f dot value one d = ap (lookup (is_at (dot_cmp d))) one ∙ ap (λ b. cond b (Some value) None) ((eq_by_cmp_equiv dot_total).symm d dot)
 
   held_by : (b : Bool) (v : V) → IsSome (cond b (Some v) None) → b ≡ true

@@ -21,6 +21,7 @@ use Rattle.sup_causal.specs.Dots.{dot_cmp}
 use Rattle.sup_causal.specs.DotLaws.{dot_total}
 use Rattle.sup_dot_store.specs.Places.{HasRow}
 use Rattle.sup_dot_store.proofs.Rows.{none_everywhere}
+use Rattle.sup_dot_store.specs.ByDot.{at_dot}
 use Rattle.sup_dot_store.specs.declared.dot_fun.DotFun.{DotFun}
 use Rattle.sup_dot_store.specs.RowLists.{rows_under, rows_of, row_cmp, EndsOff, HasValue, IsLastRun}
 
@@ -140,18 +141,18 @@ module _ {K V : Type 0} {cmp : K → K → Ordering} (total : IsTotalOrder cmp) 
         some = (run.some, done.some);
       })
 
-has_row : {V : Type 0} (f : DotFun V) (es : List (Dot × V)) → f.values.entries ≡ es → (es ≡ [] → ⊥) → HasRow (λ d (p : Unit {0}). get dot_cmp f.values d)
+has_row : {V : Type 0} (f : DotFun V) (es : List (Dot × V)) → f.values.entries ≡ es → (es ≡ [] → ⊥) → HasRow (λ d (p : Unit {0}). at_dot f.values d)
 has_row f [] same some none = some refl
 has_row f (e ∷ es) same some none = omega (arith, none_everywhere dot_total f.values (λ d. none d tt), ap length same)
 
 module _ {K V : Type 0} where
-  found_has_row : (test : K → Bool) (e : K × DotFun V) (es : List (K × DotFun V)) (f : DotFun V) → HasValue e → (lookup test es ≡ Some f → HasRow (λ d (p : Unit {0}). get dot_cmp f.values d))
-      → (b : Bool) → cond b (Some e.1) (lookup test es) ≡ Some f → HasRow (λ d (p : Unit {0}). get dot_cmp f.values d)
-  found_has_row test e es f some rest true found = let same : e.1 ≡ f = cc in subst (λ (f : DotFun V). HasRow (λ d (p : Unit {0}). get dot_cmp f.values d)) same (has_row e.1 e.1.values.entries refl some)
+  found_has_row : (test : K → Bool) (e : K × DotFun V) (es : List (K × DotFun V)) (f : DotFun V) → HasValue e → (lookup test es ≡ Some f → HasRow (λ d (p : Unit {0}). at_dot f.values d))
+      → (b : Bool) → cond b (Some e.1) (lookup test es) ≡ Some f → HasRow (λ d (p : Unit {0}). at_dot f.values d)
+  found_has_row test e es f some rest true found = let same : e.1 ≡ f = cc in subst (λ (f : DotFun V). HasRow (λ d (p : Unit {0}). at_dot f.values d)) same (has_row e.1 e.1.values.entries refl some)
   found_has_row test e es f some rest false found = rest found
 
   -- each function that has a value has a row
-  pub each_has_row : (test : K → Bool) (es : List (K × DotFun V)) (f : DotFun V) → AllByRecursion HasValue es → lookup test es ≡ Some f → HasRow (λ d (p : Unit {0}). get dot_cmp f.values d)
+  pub each_has_row : (test : K → Bool) (es : List (K × DotFun V)) (f : DotFun V) → AllByRecursion HasValue es → lookup test es ≡ Some f → HasRow (λ d (p : Unit {0}). at_dot f.values d)
   each_has_row test [] f some found = absurd cc
   each_has_row test (e ∷ es) f some found = found_has_row test e es f some.0 (each_has_row test es f some.1) (test e.0) found
 
