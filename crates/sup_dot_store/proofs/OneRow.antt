@@ -24,13 +24,13 @@ is_there e = subst IsSome e refl
 
 module _ {V : Type 0} where
   pub has_row : (f : DotFun V) → 0 < size f → HasRow (value_of f)
-  has_row f some none = omega (arith, none_everywhere dot_total f.values (λ d. none d tt))
+  has_row f some none = omega (arith, none_everywhere dot_total f.values.entries (λ d. none d tt))
 
   row_size : (f : DotFun V) → HasRow (value_of f) → 0 < size f
   row_size f row = at (size f) refl
     where
       at : (n : ℕ) → size f ≡ n → 0 < n
-      at zero none = absurd (row (λ d p. nothing_in dot_cmp f.values none d))
+      at zero none = absurd (row (λ d p. nothing_in dot_cmp f.values.entries none d))
       at (suc n) same = omega arith
 
   -- a function with one entry has nothing at other dots
