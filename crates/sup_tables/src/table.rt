@@ -78,7 +78,7 @@ pub(crate) fn rest_under<'a, K: Plain, V: Plain>(
 // What a map has but the first, by dot.
 fn all_but_first<'a, V>(
     alloc: Global,
-    values: &'a BTreeMap<Dot, V>,
+    values: &'a ShortValues<V>,
 ) -> Result<Vec<Loser<'a, V>>, AllocError>
     ensures { IfOk result (λ rest. map (λ l. pair l.dot.now l.value.now) rest.items ≡ drop 1 values.now.entries) }
 {
@@ -109,11 +109,11 @@ pub(crate) fn dots_under<K: Plain, V: Plain>(
 }
 
 // The keys of a map.
-fn all_dots<V>(alloc: Global, values: &BTreeMap<Dot, V>) -> Result<Vec<Dot>, AllocError>
-    ensures { IfOk result (λ dots. dots.items ≡ keys values.now) }
+fn all_dots<V>(alloc: Global, values: &ShortValues<V>) -> Result<Vec<Dot>, AllocError>
+    ensures { IfOk result (λ dots. dots.items ≡ keys_of values.now.entries) }
 {
     let mut dots = Vec::new(alloc);
-    for dot in values.keys() {
+    for dot in values.dots() {
         dots.push(*dot)?;
     }
     Ok(dots)
@@ -136,7 +136,7 @@ pub(crate) fn add_dots_to(
 // Adds the dots under which the map has the child.
 fn add_dots_at(
     dots: &mut Vec<Dot>,
-    ids: &BTreeMap<Dot, ChildId>,
+    ids: &ShortValues<ChildId>,
     id: &ChildId,
 ) -> Result<(), AllocError>
     ensures { OnOk result (dots.new.items ≡ dots.old.items ++ dots_to id.now ids.now.entries) }
@@ -180,7 +180,7 @@ fn add_rows_at<K, V: Entered<K>>(
     alloc: Global,
     rows: &mut Vec<Row>,
     key: &K,
-    values: &BTreeMap<Dot, V>,
+    values: &ShortValues<V>,
 ) -> Result<(), AllocError>
     ensures { OnOk result (rows.new.items ≡ rows.old.items ++ map (λ e. row_of e.0 (V.says key.now e.1)) values.now.entries) }
 {

@@ -8,8 +8,8 @@ loop-dot-preserved g c =
     row_more g.met.K.Ord.total c.in-Some.key c.in-Some-pop_under.dot c.in-Some-pop_under.value c.args.rows.now.items c.loop-dot.rows.items c.pop_under.new.rows.items c.loop-dot.falling.items c.push-in-Some-pop_under.new.self.items
     c.loop-dot.invariant.0 c.in-Some-pop_under.ensures.some c.in_ok-push-2.ensures.items
 
-pub of_falling-requires : goal.of_falling-requires
-of_falling-requires g c =
+pub of_falling-values-requires : goal.of_falling-values-requires
+of_falling-values-requires g c =
     run_rises g.met.K.Ord.total c.in-Some.key c.args.rows.now.items c.loop-dot.rows.items (reverse c.loop-dot.falling.items) c.requires c.loop-dot.invariant.0
 
 pub returns-clause-some : goal.returns-clause-some
