@@ -22,3 +22,4 @@ pub use dot_store::DotStore;
 pub use indexed::Indexed;
 pub use indexed::index::index_of;
 pub use indexed::join::NotPut;
+pub use short_values::ShortValues;

@@ -12,7 +12,7 @@ use Rattle.sup_specs.specs.Values.{Bytes, text_cmp}
 use Rattle.sup_specs.specs.declared.child.ChildSpec.{ChildSpec}
 use Rattle.sup_specs.specs.declared.child.MemberInfo.{MemberInfo}
 use Rattle.sup_causal.specs.declared.dot.Dot.{Dot}
-use Rattle.sup_causal.specs.Dots.{Context, has, dot_cmp}
+use Rattle.sup_causal.specs.Dots.{Context, has}
 use Rattle.sup_dot_store.specs.declared.dot_store.DotStore.{Ghosts as StoreGhosts}
 use Rattle.sup_dot_store.specs.ByDot.{at_dot}
 use Rattle.sup_dot_store.specs.declared.dot_fun.DotFun.{DotFun}

@@ -9,8 +9,8 @@ ghost use Rattle.sup_tables.specs.Lent.{rows_lent};
 use crate::row::Entered;
 use crate::tables::{Table, Tables};
 use std::alloc::AllocError;
-use std::collections::BTreeMap;
 use sup_causal::Dot;
+use sup_dot_store::ShortValues;
 use sup_specs::{ChildId, ChildSpec, MemberInfo, Name, NodeName, Plain};
 
 /// What an add says, lent: its table, its key and its value.

@@ -2,7 +2,7 @@
 ghost use Rattle.std.specs.Prelude.{◌≡◌, ◌+◌, ◌++◌, ◌<◌, IfOk, IfSome, IfNone, OnOk, drop, map, slice_get};
 ghost use Rattle.std.specs.Option.{option_map};
 ghost use Rattle.sup_tables.specs.Rows.{row_of};
-ghost use Rattle.std.specs.BTreeMap.{get, keys, values};
+ghost use Rattle.std.specs.BTreeMap.{get, values};
 ghost use Rattle.std.specs.Map.{keys_of};
 ghost use Rattle.sup_tables.specs.Stored.{values_under, triple, pair, firsts_in, dots_to, dots_to_in, rows_in};
 ghost use Rattle.sup_dot_store.specs.Contents.{stores_of};
@@ -11,8 +11,8 @@ ghost use Rattle.sup_dot_store.specs.Index.{count_in};
 use crate::row::{Entered, Row};
 use crate::tables::{Names, Table};
 use std::alloc::{AllocError, Global};
-use std::collections::BTreeMap;
 use sup_causal::Dot;
+use sup_dot_store::ShortValues;
 use sup_specs::{ChildId, Plain};
 
 /// A key with the dot and the value of its winner.
