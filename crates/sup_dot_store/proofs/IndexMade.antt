@@ -20,6 +20,7 @@ use Rattle.sup_specs.specs.Exact.{IsExact}
 use Rattle.sup_causal.specs.declared.dot.Dot.{Dot}
 use Rattle.sup_causal.specs.Dots.{dot_cmp, dot_eq}
 use Rattle.sup_causal.specs.DotLaws.{dot_exact, dot_total}
+use Rattle.sup_dot_store.specs.ByDot.{at_dot}
 use Rattle.sup_dot_store.specs.declared.dot_fun.DotFun.{DotFun}
 use Rattle.sup_dot_store.specs.Contents.{values_of}
 use Rattle.sup_dot_store.specs.Places.{optional_held}
@@ -28,11 +29,11 @@ use Rattle.sup_dot_store.proofs.IndexLaws.{same, tie, none_some, no_value}
 
 -- some dots of the function have the key, the others are left
 pub record IsAdding {K V : Type 0} (key : K) (function : DotFun V) (old keys : BTreeMap Dot K) (rest : List Dot) : Type 0 where
-  pub added : (d : Dot) → cond (is_member dot_eq rest d) (Some key) (get dot_cmp keys d) ≡ cond (is_some (get dot_cmp (values_of function) d)) (Some key) (get dot_cmp old d)
-  pub apart : (d : Dot) → IsSome (get dot_cmp old d) → is_some (get dot_cmp (values_of function) d) ≡ true → is_member dot_eq rest d ≡ true
+  pub added : (d : Dot) → cond (is_member dot_eq rest d) (Some key) (get dot_cmp keys d) ≡ cond (is_some (at_dot (values_of function) d)) (Some key) (get dot_cmp old d)
+  pub apart : (d : Dot) → IsSome (get dot_cmp old d) → is_some (at_dot (values_of function) d) ≡ true → is_member dot_eq rest d ≡ true
   pub kept : (d : Dot) → IsSome (get dot_cmp old d) → IsSome (get dot_cmp keys d)
   pub before : (d : Dot) → is_member dot_eq rest d ≡ true → get dot_cmp keys d ≡ get dot_cmp old d
-  pub within : (d : Dot) → is_member dot_eq rest d ≡ true → IsSome (get dot_cmp (values_of function) d)
+  pub within : (d : Dot) → is_member dot_eq rest d ≡ true → IsSome (at_dot (values_of function) d)
   pub distinct : IsDistinct dot_eq rest
   pub size : length keys.entries + length rest ≡ length old.entries + length (values_of function).entries
 
@@ -69,7 +70,7 @@ later : (d dot : Dot) (rest : List Dot) → is_member dot_eq rest d ≡ true →
 later d dot rest m = ap (λ b. dot_eq d dot || b) m ∙ or-true (dot_eq d dot)
 
 module _ {K V : Type 0} (key : K) (function : DotFun V) (old : BTreeMap Dot K) where
-  pub adding_none : (rest : List Dot) → ((d : Dot) → is_some (get dot_cmp (values_of function) d) ≡ is_member dot_eq rest d) → length rest ≡ length (values_of function).entries → IsDistinct dot_eq rest → IsAdding key function old old rest
+  pub adding_none : (rest : List Dot) → ((d : Dot) → is_some (at_dot (values_of function) d) ≡ is_member dot_eq rest d) → length rest ≡ length (values_of function).entries → IsDistinct dot_eq rest → IsAdding key function old old rest
   adding_none rest has count distinct = record {
     added = λ d. ap (λ b. cond b (Some key) (get dot_cmp old d)) (sym (has d));
     apart = λ d s h. sym (has d) ∙ h;
@@ -151,7 +152,7 @@ module _ {K V : Type 0} {cmp : K → K → Ordering} (total : IsTotalOrder cmp) 
     found_more indexing adds (inl h) = inl (found_before adds h)
     found_more indexing adds (inr s) = found_now adds _ refl s
 
-    there_more : IsIndexing cmp all keys (e ∷ rest) → (b : Bool) → is_some (get dot_cmp (values_of e.1) d) ≡ b → get dot_cmp more d ≡ cond b (Some e.0) (get dot_cmp keys d) → get dot_cmp more d ≡ Some k → IsSome (value_in cmp all k d)
+    there_more : IsIndexing cmp all keys (e ∷ rest) → (b : Bool) → is_some (at_dot (values_of e.1) d) ≡ b → get dot_cmp more d ≡ cond b (Some e.0) (get dot_cmp keys d) → get dot_cmp more d ≡ Some k → IsSome (value_in cmp all k d)
     there_more indexing true has added h =
         let here : eq_by_cmp cmp k e.0 ≡ true = tie total k e.0 (sym (same_Some _ _ (sym added ∙ h))) in
         indexing.within d k (subst (λ b. IsSome (optional_held value_of (cond b (Some e.1) (lookup (is_at (cmp k)) rest)) d tt)) (sym here) has)

@@ -5,6 +5,7 @@ pub mod Keys
 pub mod Retains
 pub mod RowListLaws
 pub mod RowRuns
+pub mod ShortLaws
 pub mod Counts
 pub mod OneRow
 pub mod IndexLaws

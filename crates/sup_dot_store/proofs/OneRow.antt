@@ -12,6 +12,7 @@ use Rattle.std.proofs.lemmas.Cmp.{eq_by_cmp_equiv}
 use Rattle.sup_causal.specs.declared.dot.Dot.{Dot}
 use Rattle.sup_causal.specs.Dots.{dot_cmp, dot_eq}
 use Rattle.sup_causal.specs.DotLaws.{dot_total}
+use Rattle.sup_dot_store.specs.ByDot.{at_dot}
 use Rattle.sup_dot_store.specs.declared.dot_fun.DotFun.{DotFun}
 use Rattle.sup_dot_store.specs.Places.{optional_held, HasRow, NoneEmpty}
 use Rattle.sup_dot_store.specs.Index.{value_of, value_under, count_in, HasOneRow, PutsRow, TakesRow}
@@ -23,17 +24,17 @@ is_there e = subst IsSome e refl
 
 module _ {V : Type 0} where
   pub has_row : (f : DotFun V) → 0 < size f → HasRow (value_of f)
-  has_row f some none = omega (arith, none_everywhere dot_total f.values (λ d. none d tt))
+  has_row f some none = omega (arith, none_everywhere dot_total f.values.entries (λ d. none d tt))
 
   row_size : (f : DotFun V) → HasRow (value_of f) → 0 < size f
   row_size f row = at (size f) refl
     where
       at : (n : ℕ) → size f ≡ n → 0 < n
-      at zero none = absurd (row (λ d p. nothing_in dot_cmp f.values none d))
+      at zero none = absurd (row (λ d p. nothing_in dot_cmp f.values.entries none d))
       at (suc n) same = omega arith
 
   -- a function with one entry has nothing at other dots
-  single_at : (f : DotFun V) (dot : Dot) (value : V) → f.values.entries ≡ (dot, value) ∷ [] → (d : Dot) → get dot_cmp f.values d ≡ cond (dot_eq dot d) (Some value) None
+  single_at : (f : DotFun V) (dot : Dot) (value : V) → f.values.entries ≡ (dot, value) ∷ [] → (d : Dot) → at_dot f.values d ≡ cond (dot_eq dot d) (Some value) None
   single_at f dot value one d = ap (lookup (is_at (dot_cmp d))) one ∙ ap (λ b. cond b (Some value) None) ((eq_by_cmp_equiv dot_total).symm d dot)
 
   held_by : (b : Bool) (v : V) → IsSome (cond b (Some v) None) → b ≡ true

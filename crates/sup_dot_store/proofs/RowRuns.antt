@@ -1,7 +1,7 @@
 -- A rising list of rows, cut from its end into the runs of its keys.
-use Rattle.std.specs.Prelude.{◌≡◌, ◌⊎◌, ◌-◌, Bool, true, false, not, cond, List, [], ◌∷◌, ◌++◌, length, slice_get, Some, refl}
+use Rattle.std.specs.Prelude.{◌≡◌, ◌⊎◌, ◌-◌, Bool, true, false, not, cond, List, [], ◌∷◌, ◌++◌, length, reverse, slice_get, Some, refl}
 use Rattle.std.proofs.Common.{sym, ap, ◌∙◌, subst, inl, inr, append_assoc, arith}
-use Rattle.std.proofs.lemmas.List.{append-nil, length-append}
+use Rattle.std.proofs.lemmas.List.{append-nil, length-append, reverse-append}
 use Rattle.std.proofs.lemmas.Option.{same_Some, slice_get-get_or}
 use Rattle.std.proofs.Math.Seq.{get_or-append_seam}
 use mathlib.Core.Bool.{false≢true, true≢false}
@@ -13,14 +13,17 @@ use Rattle.std.specs.Ordering.{ordering_then, is_eq, match_ordering}
 use Rattle.std.specs.Cmp.{IsTotalOrder}
 use Rattle.std.proofs.lemmas.Cmp.{tied_itself}
 use Rattle.std.specs.List.{AllByRecursion}
+use Rattle.std.specs.List.Sorted.{IsStrictlySortedBy}
 use Rattle.std.specs.Map.{keys_of, lookup}
-use Rattle.std.specs.BTreeMap.{get, insert_entry}
+use Rattle.std.specs.BTreeMap.{insert_entry}
 use Rattle.sup_specs.specs.Rising.{IsRising}
+use Rattle.sup_causal.proofs.Sorted.{sorted_from_rising}
 use Rattle.sup_causal.specs.declared.dot.Dot.{Dot}
 use Rattle.sup_causal.specs.Dots.{dot_cmp}
 use Rattle.sup_causal.specs.DotLaws.{dot_total}
 use Rattle.sup_dot_store.specs.Places.{HasRow}
 use Rattle.sup_dot_store.proofs.Rows.{none_everywhere}
+use Rattle.sup_dot_store.specs.ByDot.{at_dot}
 use Rattle.sup_dot_store.specs.declared.dot_fun.DotFun.{DotFun}
 use Rattle.sup_dot_store.specs.RowLists.{rows_under, rows_of, row_cmp, EndsOff, HasValue, IsLastRun}
 
@@ -86,14 +89,23 @@ module _ {K V : Type 0} {cmp : K → K → Ordering} (total : IsTotalOrder cmp) 
   dots_above key d v [] all = tt
   dots_above key d v (e ∷ es) all = (past_equal _ _ (tied_itself total key) all.0, dots_above key d v es all.1)
 
-  pub row_more : (key : K) (d : Dot) (v : V) (all old new : List (K × Dot × V)) (es more : List (Dot × V))
-      → IsRising (row_cmp cmp) all → old ++ rows_under key es ≡ all → old ≡ new ++ (key, d, v) ∷ [] → more ≡ insert_entry dot_cmp es d v
-      → (new ++ rows_under key more ≡ all) × (more ≡ [] → ⊥)
-  row_more key d v all old new es more rising cut popped put =
-      let whole : new ++ (key, d, v) ∷ rows_under key es ≡ all =
-      sym (append_assoc new ((key, d, v) ∷ []) (rows_under key es)) ∙ ap (λ rows. rows ++ rows_under key es) (sym popped) ∙ cut in
-      let back = rising_back (row_cmp cmp) new ((key, d, v) ∷ rows_under key es) (subst (IsRising (row_cmp cmp)) (sym whole) rising) in
-      let first = put ∙ put_before dot_cmp es d v (dots_above key d v es back.0) in
+  dots_rising : (key : K) (es : List (Dot × V)) → IsRising (row_cmp cmp) (rows_under key es) → IsRising dot_cmp (keys_of es)
+  dots_rising key [] s = tt
+  dots_rising key (e ∷ es) s = (dots_above key e.0 e.1 es s.0, dots_rising key es s.1)
+
+  -- the dots of a run rise
+  pub run_rises : (key : K) (all rest : List (K × Dot × V)) (es : List (Dot × V)) → IsRising (row_cmp cmp) all → rest ++ rows_under key es ≡ all → IsStrictlySortedBy dot_cmp (keys_of es)
+  run_rises key all rest es rising cut =
+      sorted_from_rising dot_cmp (keys_of es) (dots_rising key es (rising_back (row_cmp cmp) rest (rows_under key es) (subst (IsRising (row_cmp cmp)) (sym cut) rising)))
+
+  -- the values of a run are met from the last
+  pub row_more : (key : K) (d : Dot) (v : V) (all old new : List (K × Dot × V)) (met more : List (Dot × V))
+      → old ++ rows_under key (reverse met) ≡ all → old ≡ new ++ (key, d, v) ∷ [] → more ≡ met ++ (d, v) ∷ []
+      → (new ++ rows_under key (reverse more) ≡ all) × (reverse more ≡ [] → ⊥)
+  row_more key d v all old new met more cut popped put =
+      let first : reverse more ≡ (d, v) ∷ reverse met = ap reverse put ∙ reverse-append met ((d, v) ∷ []) in
+      let whole : new ++ (key, d, v) ∷ rows_under key (reverse met) ≡ all =
+      sym (append_assoc new ((key, d, v) ∷ []) (rows_under key (reverse met))) ∙ ap (λ rows. rows ++ rows_under key (reverse met)) (sym popped) ∙ cut in
       (ap (λ fs. new ++ rows_under key fs) first ∙ whole, λ none. filled (sym first ∙ none))
 
   -- rows before a run of the key that don't end in one of the key have lower keys
@@ -140,18 +152,18 @@ module _ {K V : Type 0} {cmp : K → K → Ordering} (total : IsTotalOrder cmp) 
         some = (run.some, done.some);
       })
 
-has_row : {V : Type 0} (f : DotFun V) (es : List (Dot × V)) → f.values.entries ≡ es → (es ≡ [] → ⊥) → HasRow (λ d (p : Unit {0}). get dot_cmp f.values d)
+has_row : {V : Type 0} (f : DotFun V) (es : List (Dot × V)) → f.values.entries ≡ es → (es ≡ [] → ⊥) → HasRow (λ d (p : Unit {0}). at_dot f.values d)
 has_row f [] same some none = some refl
-has_row f (e ∷ es) same some none = omega (arith, none_everywhere dot_total f.values (λ d. none d tt), ap length same)
+has_row f (e ∷ es) same some none = omega (arith, none_everywhere dot_total f.values.entries (λ d. none d tt), ap length same)
 
 module _ {K V : Type 0} where
-  found_has_row : (test : K → Bool) (e : K × DotFun V) (es : List (K × DotFun V)) (f : DotFun V) → HasValue e → (lookup test es ≡ Some f → HasRow (λ d (p : Unit {0}). get dot_cmp f.values d))
-      → (b : Bool) → cond b (Some e.1) (lookup test es) ≡ Some f → HasRow (λ d (p : Unit {0}). get dot_cmp f.values d)
-  found_has_row test e es f some rest true found = let same : e.1 ≡ f = cc in subst (λ (f : DotFun V). HasRow (λ d (p : Unit {0}). get dot_cmp f.values d)) same (has_row e.1 e.1.values.entries refl some)
+  found_has_row : (test : K → Bool) (e : K × DotFun V) (es : List (K × DotFun V)) (f : DotFun V) → HasValue e → (lookup test es ≡ Some f → HasRow (λ d (p : Unit {0}). at_dot f.values d))
+      → (b : Bool) → cond b (Some e.1) (lookup test es) ≡ Some f → HasRow (λ d (p : Unit {0}). at_dot f.values d)
+  found_has_row test e es f some rest true found = let same : e.1 ≡ f = cc in subst (λ (f : DotFun V). HasRow (λ d (p : Unit {0}). at_dot f.values d)) same (has_row e.1 e.1.values.entries refl some)
   found_has_row test e es f some rest false found = rest found
 
   -- each function that has a value has a row
-  pub each_has_row : (test : K → Bool) (es : List (K × DotFun V)) (f : DotFun V) → AllByRecursion HasValue es → lookup test es ≡ Some f → HasRow (λ d (p : Unit {0}). get dot_cmp f.values d)
+  pub each_has_row : (test : K → Bool) (es : List (K × DotFun V)) (f : DotFun V) → AllByRecursion HasValue es → lookup test es ≡ Some f → HasRow (λ d (p : Unit {0}). at_dot f.values d)
   each_has_row test [] f some found = absurd cc
   each_has_row test (e ∷ es) f some found = found_has_row test e es f some.0 (each_has_row test es f some.1) (test e.0) found
 

@@ -3,15 +3,15 @@ use Rattle.std.specs.declared.cmp.PartialEq.{Ghosts as EqGhosts}
 use Rattle.std.specs.declared.cmp.PartialOrd.{Ghosts as PartialOrdGhosts}
 use Rattle.std.specs.declared.cmp.Ord.{Ghosts as OrdGhosts}
 use Rattle.std.specs.BTreeMap.{BTreeMap}
-use Rattle.sup_causal.specs.declared.dot.Dot.{Dot}
 use Rattle.sup_causal.specs.Dots.{Context}
+use Rattle.sup_dot_store.specs.ByDot.{ByDot}
 use Rattle.sup_dot_store.specs.declared.dot_store.DotStore.{Ghosts as StoreGhosts}
 use Rattle.sup_dot_store.specs.declared.dot_fun.DotFun.{DotFun}
 use Rattle.sup_dot_store.specs.declared.dot_map.DotMap.{DotMap}
 use Rattle.sup_dot_store.specs.declared.causal.Causal.{Causal}
 
 -- the values of a function, by dot
-abbrev pub values_of : {V : Type 0} → DotFun V → BTreeMap Dot V
+abbrev pub values_of : {V : Type 0} → DotFun V → ByDot V
 values_of f = f.values
 
 -- the stores of a map, by key

@@ -8,13 +8,14 @@ use Rattle.std.specs.List.{count_by}
 use Rattle.sup_causal.specs.declared.dot.Dot.{Dot}
 use Rattle.sup_causal.specs.Dots.{dot_cmp, dot_eq}
 use Rattle.sup_dot_store.specs.declared.dot_fun.DotFun.{DotFun}
+use Rattle.sup_dot_store.specs.ByDot.{at_dot}
 use Rattle.sup_dot_store.specs.Contents.{values_of}
 use Rattle.sup_dot_store.specs.Points.{standing, higher, value_at}
 use Rattle.sup_dot_store.specs.Places.{optional_held, NoneEmpty}
 
 -- the value of a dot
 abbrev pub value_of : {V : Type 0} → DotFun V → Dot → Unit {0} → Option V
-value_of f d p = get dot_cmp (values_of f) d
+value_of f d p = at_dot (values_of f) d
 
 -- the value under a key and a dot
 abbrev pub value_under : {K V : Type 0} → (K → K → Ordering) → BTreeMap K (DotFun V) → K → Dot → Option V
@@ -40,15 +41,15 @@ pub record IsIndex {K V : Type 0} (cmp : K → K → Ordering) (stores : BTreeMa
 
 -- the dots of a function, which had no key, have this one now
 pub record AddsDots {K V : Type 0} (key : K) (function : DotFun V) (old new : BTreeMap Dot K) : Type 0 where
-  pub added : (d : Dot) → get dot_cmp new d ≡ cond (is_some (get dot_cmp (values_of function) d)) (Some key) (get dot_cmp old d)
-  pub apart : (d : Dot) → IsSome (get dot_cmp old d) → get dot_cmp (values_of function) d ≡ None
+  pub added : (d : Dot) → get dot_cmp new d ≡ cond (is_some (at_dot (values_of function) d)) (Some key) (get dot_cmp old d)
+  pub apart : (d : Dot) → IsSome (get dot_cmp old d) → at_dot (values_of function) d ≡ None
   pub size : length new.entries ≡ length old.entries + length (values_of function).entries
 
 -- a dot of the function has a key
 pub record HasTakenDot {K V : Type 0} (function : DotFun V) (keys : BTreeMap Dot K) : Type 0 where
   pub dot : Dot
   pub key : K
-  pub valued : IsSome (get dot_cmp (values_of function) dot)
+  pub valued : IsSome (at_dot (values_of function) dot)
   pub taken : get dot_cmp keys dot ≡ Some key
 
 -- a dot has values under two keys

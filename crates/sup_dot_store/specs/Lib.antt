@@ -1,3 +1,4 @@
+pub mod ByDot
 pub mod Points
 pub mod Places
 pub mod Contents

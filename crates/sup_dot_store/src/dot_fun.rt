@@ -2,25 +2,26 @@
 
 ghost use Rattle.std.specs.Prelude.{◌≡◌, ◌+◌, length, Option, Some, None, IsSome, IfOk, OnOk, OnErr, IfSome, IfNone, [], ◌∷◌, slice_get, if◌then◌else◌};
 ghost use Rattle.std.proofs.Props.{props};
-ghost use Rattle.std.specs.BTreeMap.{get, IsOrdered};
 ghost use Rattle.sup_specs.specs.Rising.{among};
 ghost use Rattle.sup_causal.specs.declared.dot.Dot.{Dot as DotValue};
 ghost use Rattle.sup_causal.specs.Join.{lesser as lesser_of, lesser_laws as laws_of_lesser};
 ghost use Rattle.sup_causal.specs.Dots.{dot_cmp, dot_eq};
+ghost use Rattle.sup_dot_store.specs.ByDot.{at_dot, DotsRise};
 
+use crate::dot_by_dot::{merge_values, values_below};
 use crate::dot_store::DotStore;
+use crate::short_values::ShortValues;
 use crate::values_under::{DotsIn, ValuesUnder};
 use std::alloc::{AllocError, Global};
-use std::collections::BTreeMap;
-use sup_causal::{CausalContext, Dot, all_below, keys_rise, merge_maps};
+use sup_causal::{CausalContext, Dot};
 use sup_specs::Plain;
 
 /// Values under dots. A dot has one place, so at most one value.
 #[derive(Drop)]
 pub struct DotFun<V> {
-    values: BTreeMap<Dot, V>,
-    // The dots rise. Every map's keys do; here it is said, so that a proof knows it of a function inside other values.
-    pub ghost ordered: { IsOrdered dot_cmp values } by { Prim.hlevel props },
+    values: ShortValues<V>,
+    // The dots rise, as in all short values; here it is said, so that a proof knows it of a function inside other values.
+    pub ghost ordered: { DotsRise values } by { Prim.hlevel props },
 }
 
 impl<V: Plain> DotFun<V> {
@@ -30,7 +31,9 @@ impl<V: Plain> DotFun<V> {
     pub fn new(alloc: Global) -> Self
         ensures { (values_of result).entries ≡ [] }
     {
-        let values = BTreeMap::new(alloc);
+        let values = ShortValues::new(alloc);
+        // For its clause alone: the dots rise.
+        values.rise();
         DotFun { values }
     }
 
@@ -38,17 +41,18 @@ impl<V: Plain> DotFun<V> {
     pub fn single(alloc: Global, dot: Dot, value: V) -> Result<Self, AllocError>
         ensures { IfOk result (λ s. (values_of s).entries ≡ (dot, value) ∷ []) }
     {
-        let mut values = BTreeMap::new(alloc);
-        values.insert(dot, value)?;
+        let values = ShortValues::single(alloc, dot, value)?;
+        // For its clause alone: the dots rise.
+        values.rise();
         Ok(DotFun { values })
     }
 
     // The function with these values.
-    pub(crate) fn of(values: BTreeMap<Dot, V>) -> Self
+    pub(crate) fn of(values: ShortValues<V>) -> Self
         ensures { values_of result ≡ values }
     {
         // For its clause alone: the dots rise.
-        keys_rise(&values);
+        values.rise();
         DotFun { values }
     }
 
@@ -57,31 +61,31 @@ impl<V: Plain> DotFun<V> {
         ensures some { IfSome result (λ e. slice_get (values_of self.now).entries 0 ≡ Some (e.0.now, e.1.now)) }
         ensures none { IfNone result ((values_of self.now).entries ≡ []) }
     {
-        self.values.first_key_value()
+        self.values.first()
     }
 
     // Puts a value under a dot that has none. An `Err` changes nothing.
     pub(crate) fn put(&mut self, dot: Dot, value: V) -> Result<(), AllocError>
-        requires { get dot_cmp (values_of self.old) dot ≡ None }
-        ensures put { OnOk result ((d : DotValue) → get dot_cmp (values_of self.new) d ≡ (if dot_eq dot d then Some value else get dot_cmp (values_of self.old) d)) }
+        requires { at_dot (values_of self.old) dot ≡ None }
+        ensures put { OnOk result ((d : DotValue) → at_dot (values_of self.new) d ≡ (if dot_eq dot d then Some value else at_dot (values_of self.old) d)) }
         ensures count { OnOk result (length (values_of self.new).entries ≡ length (values_of self.old).entries + 1) }
         ensures err { OnErr result ((values_of self.new).entries ≡ (values_of self.old).entries) }
     {
-        self.values.insert(dot, value)?;
+        self.values.put(dot, value)?;
         Ok(())
     }
 
     // Takes the value of a dot away.
     pub(crate) fn take(&mut self, dot: &Dot)
-        requires { IsSome (get dot_cmp (values_of self.old) dot.now) }
-        ensures taken { (d : DotValue) → get dot_cmp (values_of self.new) d ≡ (if dot_eq dot.now d then None else get dot_cmp (values_of self.old) d) }
+        requires { IsSome (at_dot (values_of self.old) dot.now) }
+        ensures taken { (d : DotValue) → at_dot (values_of self.new) d ≡ (if dot_eq dot.now d then None else at_dot (values_of self.old) d) }
         ensures count { length (values_of self.new).entries + 1 ≡ length (values_of self.old).entries }
     {
-        self.values.remove(dot);
+        self.values.take(dot);
     }
 
     /// The values, by dot: as a list they stand in dot order.
-    pub fn values(&self) -> &BTreeMap<Dot, V>
+    pub fn values(&self) -> &ShortValues<V>
         ensures { result.now ≡ values_of self.now }
     {
         &self.values
@@ -97,7 +101,7 @@ impl<V: Plain> DotStore for DotFun<V> {
 
     ghost lesser = { λ _. lesser_of V.cmp };
 
-    ghost held = { λ s d _. get dot_cmp (values_of s) d };
+    ghost held = { λ s d _. at_dot (values_of s) d };
 
     ghost lesser_laws = { λ _. laws_of_lesser V.Ord.total V.Plain.exact };
 
@@ -110,7 +114,7 @@ impl<V: Plain> DotStore for DotFun<V> {
     }
 
     fn covered_by(&self, context: &CausalContext) -> bool {
-        all_below(&self.values, &self.values, &DotsIn { context })
+        values_below(&self.values, &self.values, &DotsIn { context })
     }
 
     fn joined_under(
@@ -120,7 +124,7 @@ impl<V: Plain> DotStore for DotFun<V> {
         other: &Self,
         theirs: &CausalContext,
     ) -> Result<Self, AllocError> {
-        let values = merge_maps(
+        let values = merge_values(
             alloc,
             &self.values,
             &other.values,
@@ -130,7 +134,7 @@ impl<V: Plain> DotStore for DotFun<V> {
     }
 
     fn leq_under(&self, mine: &CausalContext, other: &Self, theirs: &CausalContext) -> bool {
-        all_below(&self.values, &other.values, &ValuesUnder { mine, theirs })
+        values_below(&self.values, &other.values, &ValuesUnder { mine, theirs })
     }
 
     fn retract(&mut self, dots: &[Dot]) {
@@ -138,14 +142,14 @@ impl<V: Plain> DotStore for DotFun<V> {
     }
 }
 
-// Takes away what the map has under the dots.
-fn take_away<V: Drop>(values: &mut BTreeMap<Dot, V>, dots: &[Dot])
-    ensures taken { (d : DotValue) → get dot_cmp values.new d ≡ (if among dot_cmp dots.now d then None else get dot_cmp values.old d) }
-    ensures ordered { IsOrdered dot_cmp values.new }
+// Takes away what stands under the dots.
+fn take_away<V: Drop>(values: &mut ShortValues<V>, dots: &[Dot])
+    ensures taken { (d : DotValue) → at_dot values.new d ≡ (if among dot_cmp dots.now d then None else at_dot values.old d) }
+    ensures ordered { DotsRise values.new }
 {
     for dot in dots {
-        values.remove(dot);
+        values.take(dot);
     }
     // For its clause alone: the dots rise.
-    keys_rise(values);
+    values.rise();
 }

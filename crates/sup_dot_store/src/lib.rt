@@ -3,12 +3,14 @@
 
 pub mod both;
 pub mod causal;
+mod dot_by_dot;
 pub mod dot_fun;
 pub mod dot_map;
 pub mod dot_store;
 pub mod indexed;
 mod row_lists;
 mod row_runs;
+pub mod short_values;
 mod stores_under;
 mod values_under;
 
@@ -20,3 +22,4 @@ pub use dot_store::DotStore;
 pub use indexed::Indexed;
 pub use indexed::index::index_of;
 pub use indexed::join::NotPut;
+pub use short_values::ShortValues;

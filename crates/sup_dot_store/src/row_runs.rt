@@ -6,6 +6,7 @@ ghost use Rattle.sup_specs.specs.Rising.{IsRising};
 ghost use Rattle.sup_dot_store.specs.RowLists.{rows_of, row_cmp, EndsOff, IsLastRun, HasValue};
 
 use crate::dot_fun::DotFun;
+use crate::short_values::ShortValues;
 use std::alloc::{AllocError, Global};
 use std::collections::BTreeMap;
 use sup_causal::Dot;
@@ -39,11 +40,12 @@ fn last_run<K: Plain, V: Plain>(
     let Some((key, dot, value)) = rows.pop() else {
         return Ok(None);
     };
-    let mut values = BTreeMap::new(alloc);
-    values.insert(dot, value)?;
+    let mut falling = Vec::with_capacity(alloc, 1)?;
+    falling.push((dot, value))?;
     while let Some((dot, value)) = pop_under(rows, &key) {
-        values.insert(dot, value)?;
+        falling.push((dot, value))?;
     }
+    let values = ShortValues::of_falling(falling);
     Ok(Some((key, DotFun::of(values))))
 }
 

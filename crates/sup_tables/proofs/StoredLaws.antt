@@ -18,6 +18,7 @@ use Rattle.sup_specs.specs.Rising.{among}
 use Rattle.sup_causal.specs.declared.dot.Dot.{Dot}
 use Rattle.sup_causal.specs.Dots.{dot_cmp}
 use Rattle.sup_causal.specs.DotLaws.{dot_total}
+use Rattle.sup_dot_store.specs.ByDot.{at_dot}
 use Rattle.sup_dot_store.specs.declared.dot_fun.DotFun.{DotFun}
 use Rattle.sup_dot_store.specs.Places.{optional_held}
 use Rattle.sup_tables.specs.declared.row.Row.{Row}
@@ -78,18 +79,18 @@ module _ {V : Type 0} (make : Bytes → Dot → V → Row) (made_dot : (k : Byte
       true≢false (sym (subst (λ l. is_at (text_cmp (key_of q.entry)) l ≡ true) same (text_itself (key_of q.entry))) ∙ h))
 
   abbrev held_by : DotFun V → Dot → Unit {0} → Option V
-  held_by f d p = get dot_cmp f.values d
+  held_by f d p = at_dot f.values d
 
   rows_in_at : (q : Row) (e : Bytes × DotFun V) (es : Values V) → (is_at (text_cmp (key_of q.entry)) e.0 ≡ true → lookup (is_at (text_cmp (key_of q.entry))) es ≡ None)
       → among row_cmp (rows_in make es) q ≡ is_row_of q (option_map (make (key_of q.entry) q.dot) (value_in es q.dot (key_of q.entry)))
       → (b : Bool) → is_at (text_cmp (key_of q.entry)) e.0 ≡ b
-      → (is_row_of q (option_map (make e.0 q.dot) (get dot_cmp e.1.values q.dot)) || among row_cmp (rows_in make es) q)
+      → (is_row_of q (option_map (make e.0 q.dot) (at_dot e.1.values q.dot)) || among row_cmp (rows_in make es) q)
       ≡ is_row_of q (option_map (make (key_of q.entry) q.dot) (optional_held held_by (cond b (Some e.1) (lookup (is_at (text_cmp (key_of q.entry))) es)) q.dot tt))
   rows_in_at q e es past rest true h =
       let same : key_of q.entry ≡ e.0 = same_text (key_of q.entry) e.0 h in
-      ap (λ b. is_row_of q (option_map (make e.0 q.dot) (get dot_cmp e.1.values q.dot)) || b) (rest ∙ ap (λ o. is_row_of q (option_map (make (key_of q.entry) q.dot) (optional_held held_by o q.dot tt))) (past h))
-      ∙ or-false _ ∙ ap (λ k. is_row_of q (option_map (make k q.dot) (get dot_cmp e.1.values q.dot))) (sym same)
-  rows_in_at q e es past rest false h = ap (λ b. b || among row_cmp (rows_in make es) q) (other_key q e.0 (get dot_cmp e.1.values q.dot) h) ∙ rest
+      ap (λ b. is_row_of q (option_map (make e.0 q.dot) (at_dot e.1.values q.dot)) || b) (rest ∙ ap (λ o. is_row_of q (option_map (make (key_of q.entry) q.dot) (optional_held held_by o q.dot tt))) (past h))
+      ∙ or-false _ ∙ ap (λ k. is_row_of q (option_map (make k q.dot) (at_dot e.1.values q.dot))) (sym same)
+  rows_in_at q e es past rest false h = ap (λ b. b || among row_cmp (rows_in make es) q) (other_key q e.0 (at_dot e.1.values q.dot) h) ∙ rest
 
   pub among-rows_in : (es : Values V) → IsStrictlySortedBy text_cmp (keys_of es) → (q : Row) → among row_cmp (rows_in make es) q ≡ is_row_of q (option_map (make (key_of q.entry) q.dot) (value_in es q.dot (key_of q.entry)))
   unfolding IsStrictlySortedBy

@@ -12,8 +12,9 @@ use Rattle.sup_specs.specs.Values.{Bytes, text_cmp}
 use Rattle.sup_specs.specs.declared.child.ChildSpec.{ChildSpec}
 use Rattle.sup_specs.specs.declared.child.MemberInfo.{MemberInfo}
 use Rattle.sup_causal.specs.declared.dot.Dot.{Dot}
-use Rattle.sup_causal.specs.Dots.{Context, has, dot_cmp}
+use Rattle.sup_causal.specs.Dots.{Context, has}
 use Rattle.sup_dot_store.specs.declared.dot_store.DotStore.{Ghosts as StoreGhosts}
+use Rattle.sup_dot_store.specs.ByDot.{at_dot}
 use Rattle.sup_dot_store.specs.declared.dot_fun.DotFun.{DotFun}
 use Rattle.sup_dot_store.specs.declared.dot_map.DotMap.{DotMap}
 use Rattle.sup_dot_store.specs.declared.both.Both.{Both}
@@ -73,7 +74,7 @@ rows_in make (e ∷ es) = map (λ f. make e.0 f.0 f.1) (values_of e.1).entries +
 
 -- the value at a key and a dot
 abbrev pub value_in : {V : Type 0} → Values V → Dot → Bytes → Option V
-value_in es d k = optional_held (λ f d (p : Unit {0}). get dot_cmp (values_of f) d) (lookup (is_at (text_cmp k)) es) d tt
+value_in es d k = optional_held (λ f d (p : Unit {0}). at_dot (values_of f) d) (lookup (is_at (text_cmp k)) es) d tt
 
 pub record Stored : Type 0 where
   pub member_values : Values MemberInfo

@@ -9,8 +9,8 @@ ghost use Rattle.sup_tables.specs.Lent.{rows_lent};
 use crate::row::Entered;
 use crate::tables::{Table, Tables};
 use std::alloc::AllocError;
-use std::collections::BTreeMap;
 use sup_causal::Dot;
+use sup_dot_store::ShortValues;
 use sup_specs::{ChildId, ChildSpec, MemberInfo, Name, NodeName, Plain};
 
 /// What an add says, lent: its table, its key and its value.
@@ -62,7 +62,7 @@ fn lend_rows<'a, K: Plain, V: Entered<K>>(
 fn lend_rows_at<'a, K, V: Entered<K>>(
     rows: &mut Vec<LentRow<'a>>,
     key: &'a K,
-    values: &'a BTreeMap<Dot, V>,
+    values: &'a ShortValues<V>,
 ) -> Result<(), AllocError>
     ensures { OnOk result (rows_lent rows.new.items ≡ rows_lent rows.old.items ++ map (λ e. row_of e.0 (V.says key.now e.1)) values.now.entries) }
 {

@@ -2,7 +2,7 @@
 ghost use Rattle.std.specs.Prelude.{◌≡◌, ◌+◌, ◌++◌, ◌<◌, IfOk, IfSome, IfNone, OnOk, drop, map, slice_get};
 ghost use Rattle.std.specs.Option.{option_map};
 ghost use Rattle.sup_tables.specs.Rows.{row_of};
-ghost use Rattle.std.specs.BTreeMap.{get, keys, values};
+ghost use Rattle.std.specs.BTreeMap.{get, values};
 ghost use Rattle.std.specs.Map.{keys_of};
 ghost use Rattle.sup_tables.specs.Stored.{values_under, triple, pair, firsts_in, dots_to, dots_to_in, rows_in};
 ghost use Rattle.sup_dot_store.specs.Contents.{stores_of};
@@ -11,8 +11,8 @@ ghost use Rattle.sup_dot_store.specs.Index.{count_in};
 use crate::row::{Entered, Row};
 use crate::tables::{Names, Table};
 use std::alloc::{AllocError, Global};
-use std::collections::BTreeMap;
 use sup_causal::Dot;
+use sup_dot_store::ShortValues;
 use sup_specs::{ChildId, Plain};
 
 /// A key with the dot and the value of its winner.
@@ -78,7 +78,7 @@ pub(crate) fn rest_under<'a, K: Plain, V: Plain>(
 // What a map has but the first, by dot.
 fn all_but_first<'a, V>(
     alloc: Global,
-    values: &'a BTreeMap<Dot, V>,
+    values: &'a ShortValues<V>,
 ) -> Result<Vec<Loser<'a, V>>, AllocError>
     ensures { IfOk result (λ rest. map (λ l. pair l.dot.now l.value.now) rest.items ≡ drop 1 values.now.entries) }
 {
@@ -109,11 +109,11 @@ pub(crate) fn dots_under<K: Plain, V: Plain>(
 }
 
 // The keys of a map.
-fn all_dots<V>(alloc: Global, values: &BTreeMap<Dot, V>) -> Result<Vec<Dot>, AllocError>
-    ensures { IfOk result (λ dots. dots.items ≡ keys values.now) }
+fn all_dots<V>(alloc: Global, values: &ShortValues<V>) -> Result<Vec<Dot>, AllocError>
+    ensures { IfOk result (λ dots. dots.items ≡ keys_of values.now.entries) }
 {
     let mut dots = Vec::new(alloc);
-    for dot in values.keys() {
+    for dot in values.dots() {
         dots.push(*dot)?;
     }
     Ok(dots)
@@ -136,7 +136,7 @@ pub(crate) fn add_dots_to(
 // Adds the dots under which the map has the child.
 fn add_dots_at(
     dots: &mut Vec<Dot>,
-    ids: &BTreeMap<Dot, ChildId>,
+    ids: &ShortValues<ChildId>,
     id: &ChildId,
 ) -> Result<(), AllocError>
     ensures { OnOk result (dots.new.items ≡ dots.old.items ++ dots_to id.now ids.now.entries) }
@@ -180,7 +180,7 @@ fn add_rows_at<K, V: Entered<K>>(
     alloc: Global,
     rows: &mut Vec<Row>,
     key: &K,
-    values: &BTreeMap<Dot, V>,
+    values: &ShortValues<V>,
 ) -> Result<(), AllocError>
     ensures { OnOk result (rows.new.items ≡ rows.old.items ++ map (λ e. row_of e.0 (V.says key.now e.1)) values.now.entries) }
 {

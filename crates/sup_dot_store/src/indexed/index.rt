@@ -38,7 +38,7 @@ fn add_dots<K: Plain, V: Plain>(
     ensures added { IfOk result (λ fresh. fresh ≡ true → AddsDots key.now function.now keys.old keys.new) }
     ensures taken { IfOk result (λ fresh. fresh ≡ false → HasTakenDot function.now keys.old) }
 {
-    for dot in function.values().keys() {
+    for dot in function.values().dots() {
         if keys.insert(*dot, key.try_clone(alloc)?)?.is_some() {
             return Ok(false);
         }

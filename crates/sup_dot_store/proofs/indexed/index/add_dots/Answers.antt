@@ -1,8 +1,10 @@
-use Rattle.std.proofs.Common.{rules, ◌≡◌, ◌∷◌, sym, ap, ◌∙◌, subst}
-use Rattle.std.specs.Option.{is_some}
+use Rattle.std.proofs.Common.{rules, ◌≡◌, ◌∷◌, sym, ap, ◌∙◌, subst, length}
 use Rattle.std.specs.List.{IsDistinct}
 use Rattle.std.specs.Set.{is_member}
-use Rattle.std.specs.BTreeMap.{get}
+use Rattle.std.specs.Map.{keys_of}
+use Rattle.std.specs.BTreeMap.{is_at}
+use Rattle.std.proofs.lemmas.List.{length-map}
+use Rattle.std.proofs.lemmas.Map.Made.{is_some-lookup}
 use Rattle.std.proofs.lemmas.Map.Keys.{IsDistinct-from_sorted}
 use Rattle.sup_causal.specs.Dots.{dot_cmp, dot_eq}
 use Rattle.sup_dot_store.proofs.IndexMade.{IsAdding, adding_none, adding_more, taken_dot}
@@ -10,10 +12,12 @@ use Rattle.sup_dot_store.proofs.indexed.index.add_dots.Goals as goal
 
 pub loop-dot-init : goal.loop-dot-init
 loop-dot-init g c =
-    let all : c.into_iter-dot-iterator.result ≡ c.keys-dot-items.result = search rules in
+    let es = c.args.function.now.values.entries in
+    let all : c.into_iter-dot-iterator.result ≡ c.dots-dot-items.result = search rules in
+    let listed = all ∙ c.dots-dot-items.ensures ∙ ap (λ m. keys_of m.entries) c.values.ensures in
     adding_none c.args.key.now c.args.function.now c.args.keys.now c.into_iter-dot-iterator.result
-    (λ d. ap (λ m. is_some (get dot_cmp m d)) (sym c.values.ensures) ∙ c.keys-dot-items.ensures.has d ∙ ap (λ dots. is_member dot_eq dots d) (sym all)) (search rules)
-    (subst (IsDistinct dot_eq) (sym all) (subst (IsDistinct dot_eq) (sym c.keys-dot-items.ensures.rest) (IsDistinct-from_sorted dot_cmp _ c.keys-dot-items.ensures.ordered)))
+    (λ d. is_some-lookup (is_at (dot_cmp d)) es ∙ ap (λ dots. is_member dot_eq dots d) (sym listed)) (ap length listed ∙ length-map es (λ e. e.0))
+    (subst (IsDistinct dot_eq) (sym listed) (IsDistinct-from_sorted dot_cmp (keys_of es) c.args.function.now.ordered))
 
 pub loop-dot-preserved : goal.loop-dot-preserved
 loop-dot-preserved g c =
