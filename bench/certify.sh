@@ -6,9 +6,7 @@ set -eu
 commands=${1:-400}
 times=${2:-5}
 rounds=${3:-3}
-top=$(cd "$(dirname "$0")/.." && pwd)
-work=$(mktemp -d)
-trap 'rm -rf "$work"' EXIT
+. "$(dirname "$0")/room.bash"
 . "$top/bench/timing.bash"
 crate=$top/crates/sup_certify_times
 program=$crate/out/sup_certify_times

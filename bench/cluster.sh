@@ -9,9 +9,7 @@
 set -eu
 other=${1:-}
 rounds=${2:-3}
-top=$(cd "$(dirname "$0")/.." && pwd)
-work=$(mktemp -d)
-trap 'rm -rf "$work"' EXIT
+. "$(dirname "$0")/room.bash"
 . "$top/bench/timing.bash"
 "$top/supctl" simulate <<<'nodes a' >"$work/output"
 program=$top/crates/supctl/out/supctl

@@ -7,9 +7,7 @@
 set -eu
 other=${1:-}
 rounds=${2:-3}
-top=$(cd "$(dirname "$0")/.." && pwd)
-work=$(mktemp -d)
-trap 'rm -rf "$work"' EXIT
+. "$(dirname "$0")/room.bash"
 . "$top/bench/timing.bash"
 operations=2000
 

@@ -9,9 +9,7 @@
 # It needs a C compiler, for the few lines that refuse.
 # usage: bench/refused_allocations.sh [FILE ...]
 set -eu
-top=$(cd "$(dirname "$0")/.." && pwd)
-work=$(mktemp -d)
-trap 'rm -rf "$work"' EXIT
+. "$(dirname "$0")/room.bash"
 rows=$top/crates/sup_rows/data
 [ $# -gt 0 ] || set -- "$top/crates/supctl/stdin" "$top"/examples/*.script "$top"/examples/*.{cluster,members,image} \
   "$rows"/{cut-and-misdirected-messages,delivery-at-a-stopped-node,interval-after-restart-without-its-text,member-leaves-rejoins-and-restarts}/stdin \

@@ -4,9 +4,7 @@
 # It needs a C compiler, for the few lines that refuse. The first run proves and builds the crates of tests.
 # usage: bench/refused_stories.sh [CRATE TEST ...]
 set -eu
-top=$(cd "$(dirname "$0")/.." && pwd)
-work=$(mktemp -d)
-trap 'rm -rf "$work"' EXIT
+. "$(dirname "$0")/room.bash"
 [ $# -gt 0 ] || set -- \
   sup_local_sup_tests refused::a_refused_growth_changes_nothing_and_the_call_can_be_made_again \
   sup_links_tests scripts::lost_doubled_and_held_messages_come_by_the_script \

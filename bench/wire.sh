@@ -8,9 +8,7 @@
 set -eu
 other=${1:-}
 rounds=${2:-7}
-top=$(cd "$(dirname "$0")/.." && pwd)
-work=$(mktemp -d)
-trap 'rm -rf "$work"' EXIT
+. "$(dirname "$0")/room.bash"
 crate=$top/crates/sup_wire_times
 own=$crate/out/sup_wire_times
 [ -x "$own" ] || (cd "$crate" && rt run -- 0 0 >"$work/built")
