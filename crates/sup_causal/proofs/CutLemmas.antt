@@ -152,7 +152,14 @@ entry_missed (e ∷ es) node none =
     entry_tail e es node ((eq_by_cmp_equiv nat_list_cmp_total).symm node e.0 ∙ none 0 e (omega arith)) ∙ entry_missed es node (λ k d within. none (suc k) d (omega (arith, within)))
 
 -- the runs that the entries give
-uncounted : (c : ℕ) → (leb 1 c && leb c 0) ≡ false
+-- a node that the first entry is of has none behind it
+pub entry_later : (e : List ℕ × ℕ) (es : List (List ℕ × ℕ)) → IsRising (λ (a b : List ℕ × ℕ). text_cmp a.0 b.0) (e ∷ es) → (node : List ℕ) → text_cmp node e.0 ≡ Equal → entry es node ≡ 0
+entry_later e es s node tie = entry_missed es node (λ k q within.
+    let above : text_cmp e.0 (get_or es k q).0 ≡ Less = All-from_recursion (λ (y : List ℕ × ℕ). text_cmp e.0 y.0 ≡ Less) es s.0 k q within in
+    let above_node : text_cmp node (get_or es k q).0 ≡ Less = subst (λ m. text_cmp m (get_or es k q).0 ≡ Less) (sym (exact_bytes node e.0 tie)) above in
+    ap is_eq (greater_from_less nat_list_cmp_total node (get_or es k q).0 above_node))
+
+pub uncounted : (c : ℕ) → (leb 1 c && leb c 0) ≡ false
 uncounted zero = refl
 uncounted (suc c) = grind arith
 
@@ -160,15 +167,9 @@ pub in_runs_is : (es : List (List ℕ × ℕ)) → IsRising (λ (a b : List ℕ 
 in_runs_is [] s d = sym (uncounted d.counter)
 in_runs_is (e ∷ es) s d = turn (eq_by_cmp text_cmp d.node e.0) refl (in_runs_is es s.1 d)
   where
-    later_missed : text_cmp d.node e.0 ≡ Equal → entry es d.node ≡ 0
-    later_missed tie = entry_missed es d.node (λ k q within.
-        let above : text_cmp e.0 (get_or es k q).0 ≡ Less = All-from_recursion (λ (y : List ℕ × ℕ). text_cmp e.0 y.0 ≡ Less) es s.0 k q within in
-        let above_node : text_cmp d.node (get_or es k q).0 ≡ Less = subst (λ m. text_cmp m (get_or es k q).0 ≡ Less) (sym (exact_bytes d.node e.0 tie)) above in
-        ap is_eq (greater_from_less nat_list_cmp_total d.node (get_or es k q).0 above_node))
-
     turn : (b : Bool) → eq_by_cmp text_cmp d.node e.0 ≡ b → in_runs es d ≡ (leb 1 d.counter && leb d.counter (entry es d.node)) → ((eq_by_cmp text_cmp d.node e.0 && (leb 1 d.counter && leb d.counter e.1)) || in_runs es d) ≡ (leb 1 d.counter && leb d.counter (entry (e ∷ es) d.node))
     turn true h further =
-        (λ k. (h k && (leb 1 d.counter && leb d.counter e.1)) || (further ∙ ap (λ n. leb 1 d.counter && leb d.counter n) (later_missed (equal_from_is_eq _ h)) ∙ uncounted d.counter) k)
+        (λ k. (h k && (leb 1 d.counter && leb d.counter e.1)) || (further ∙ ap (λ n. leb 1 d.counter && leb d.counter n) (entry_later e es s d.node (equal_from_is_eq _ h)) ∙ uncounted d.counter) k)
         ∙ or-false _ ∙ ap (λ n. leb 1 d.counter && leb d.counter n) (sym (entry_head e es d.node h))
     turn false h further =
         ap (λ b. (b && (leb 1 d.counter && leb d.counter e.1)) || in_runs es d) h ∙ further ∙ ap (λ n. leb 1 d.counter && leb d.counter n) (sym (entry_tail e es d.node h))

@@ -9,3 +9,8 @@ pub mod CutLemmas
 pub mod CutLaws
 pub mod InPlace
 pub mod GreatestLaws
+pub mod Versions
+pub mod Cuts
+pub mod Views
+pub mod Within
+pub mod Counts

@@ -5,3 +5,4 @@ pub mod Dots
 pub mod DotLaws
 pub mod Cut
 pub mod Greatest
+pub mod Parts

@@ -1,37 +1,45 @@
-//! Causal contexts: which dots a node has seen.
+//! Causal contexts: which dots a node has seen, kept as a version vector and a dot cloud.
 
-ghost use Rattle.std.specs.Prelude.{◌≡◌, ◌≤◌, ◌||◌, ◌&&◌, ◌↔◌, not, Bool, false, true, IsTrue, Err, IfOk, IfErr, OnOk, OnErr, IfSome, IsNone};
+ghost use Rattle.std.specs.Prelude.{◌≡◌, ℕ, List, ◌≤◌, ◌+◌, ◌||◌, ◌&&◌, ◌↔◌, length, not, Bool, false, true, IsTrue, Err, IfOk, IfErr, OnOk, OnErr, IfSome, IsNone};
 ghost use Rattle.std.specs.Prelude.{All};
+ghost use Rattle.std.specs.List.{AllByRecursion, filter};
 ghost use Rattle.sup_specs.specs.Rising.{among, IsRising};
-ghost use Rattle.sup_causal.specs.Cut.{IsVector, IsCloud, IsCanonical, in_parts};
+ghost use Rattle.sup_causal.specs.Cut.{entry, in_run, in_runs, in_parts, IsRun, IsVector, IsCloud, IsCanonical};
 ghost use Rattle.sup_causal.specs.declared.parts.PartsFault.TheVariants.{NotCanonical};
-ghost use Rattle.sup_causal.specs.Dots.{has, dot_cmp, dot_eq, IsCounted, IsCountOf, IsGreatest, IsNext};
+ghost use Rattle.sup_causal.specs.Dots.{has, list_has, dot_cmp, dot_eq, IsCounted, IsGreatest, IsKept, IsNext};
 ghost use Rattle.sup_causal.specs.Greatest.{greatest_in};
+ghost use Rattle.sup_causal.specs.Parts.{IsVersions, in_vector, IsWidthOf, total_of};
 
-use crate::cut::{cloud_of, runs_of, vector_of};
+use crate::absorb::absorb;
 use crate::dot::Dot;
+use crate::entries::{entry_in, lift, raise};
 use crate::lattice::Lattice;
 use crate::parts::{PartsFault, dots_of, is_canonical};
-use crate::sorted_dots::{absent, common, greatest_of, is_within, put_in, sorted, union};
+use crate::sorted_dots::{greatest_of, is_in, put, sorted, union};
 use std::alloc::{AllocError, Global};
 use std::marker::Model;
 use sup_specs::{MAX, NodeName};
 
-/// A set of dots (Almeida, Shoker and Baquero 2018). A contract sees it by one test, `has`.
+/// A set of dots (Almeida, Shoker and Baquero 2018). A contract sees it by one test, `has`. It keeps its cut alone, so
+/// no call takes more time or memory where runs are longer.
 #[derive(Drop)]
 pub struct CausalContext {
-    // In rising order.
-    dots: Vec<Dot>,
+    // By name, the run of each node that has one.
+    vector: Vec<(NodeName, u64)>,
+    // In dot order, the dots beyond the runs.
+    cloud: Vec<Dot>,
 }
 
 impl Model for CausalContext {
-    ghost use Rattle.sup_causal.specs.Dots.{Context, IsKept};
+    ghost use Rattle.sup_causal.specs.Cut.{IsCanonical};
+    ghost use Rattle.sup_causal.specs.Dots.{Context};
+    ghost use Rattle.sup_causal.specs.Parts.{dots_of};
 
     ghost Value = { Context };
 
-    ghost view = { λ c. c.dots.items };
+    ghost view = { λ c. dots_of c.vector.items c.cloud.items };
 
-    ghost invariant = { λ c. IsKept c.dots.items };
+    ghost invariant = { λ c. IsCanonical c.vector.items c.cloud.items };
 }
 
 impl CausalContext {
@@ -40,7 +48,8 @@ impl CausalContext {
         ensures { (d : Dot) → has result d ≡ false }
     {
         CausalContext {
-            dots: Vec::new(alloc),
+            vector: Vec::new(alloc),
+            cloud: Vec::new(alloc),
         }
     }
 
@@ -51,7 +60,8 @@ impl CausalContext {
         ensures { IfOk result (λ context. (d : Dot) → has context d ≡ among dot_cmp dots.now d) }
     {
         let dots = sorted(Vec::from_slice(alloc, dots)?);
-        Ok(CausalContext { dots })
+        let context = absorbed(alloc, Vec::new(alloc), &dots)?;
+        Ok(context)
     }
 
     /// The context that a version vector and a dot cloud cut: the dots 1 to n of each node with entry n, and those of
@@ -74,8 +84,9 @@ impl CausalContext {
         if !is_canonical(vector, cloud) {
             return Err(PartsFault::NotCanonical);
         }
-        let dots = dots_of(alloc, vector, cloud)?;
-        Ok(CausalContext { dots })
+        let vector = Vec::from_slice(alloc, vector)?;
+        let cloud = Vec::from_slice(alloc, cloud)?;
+        Ok(CausalContext { vector, cloud })
     }
 
     /// The counters of a context's dots are in their limits.
@@ -83,7 +94,7 @@ impl CausalContext {
         ensures { (d : Dot) → has self.now d ≡ true → IsCounted d }
     {
         // The read alone shows the prover how the dots are kept.
-        let _dots = &self.dots;
+        let _vector = &self.vector;
     }
 
     /// A contract sees a context's dots as their rising list, so two contexts with the same dots are equal.
@@ -91,7 +102,7 @@ impl CausalContext {
         ensures { IsRising dot_cmp self.now }
     {
         // The read alone shows the prover how the dots are kept.
-        let _dots = &self.dots;
+        let _vector = &self.vector;
     }
 
     /// Whether the context has the dot.
@@ -99,14 +110,7 @@ impl CausalContext {
         ensures has { result ≡ has self.now dot.now }
         ensures counted { IsTrue result → IsCounted dot.now }
     {
-        self.dots.binary_search(dot).is_ok()
-    }
-
-    /// How many dots there are.
-    pub fn len(&self) -> usize
-        ensures { IsCountOf (has self.now) result }
-    {
-        self.dots.len()
+        parts_have(&self.vector, &self.cloud, dot)
     }
 
     /// Adds a dot, which passes [`Dot::is_counted`]. Where memory is refused the context stays as it was.
@@ -115,10 +119,27 @@ impl CausalContext {
         ensures ok { OnOk result ((d : Dot) → has self.new d ≡ (dot_eq dot d || has self.old d)) }
         ensures err { OnErr result (self.new ≡ self.old) }
     {
-        match self.dots.binary_search(&dot) {
-            Ok(_) => Ok(()),
-            Err(at) => Ok(self.dots.insert(at, dot)?),
+        let entry = entry_in(&self.vector, &dot.node);
+        if dot.counter <= entry {
+            return Ok(());
         }
+        if dot.counter > entry + 1 {
+            return Ok(put(&mut self.cloud, dot)?);
+        }
+        let after = Dot {
+            counter: dot.counter + 1,
+            node: dot.node,
+        };
+        if !is_in(&after, &self.cloud) {
+            return Ok(raise(&mut self.vector, dot.node, dot.counter)?);
+        }
+        // The run now reaches the cloud.
+        let alloc = *self.vector.allocator();
+        let mut vector = Vec::from_slice(alloc, &self.vector)?;
+        raise(&mut vector, dot.node, dot.counter)?;
+        let context = absorbed(alloc, vector, &self.cloud)?;
+        *self = context;
+        Ok(())
     }
 
     /// The greatest counter of the node's dots, 0 where there is none.
@@ -127,7 +148,8 @@ impl CausalContext {
         ensures value { result ≡ greatest_in self.now node.now }
         ensures counted { result ≤ MAX }
     {
-        greatest_of(&self.dots, node)
+        let last = greatest_of(&self.cloud, node);
+        last.max(entry_in(&self.vector, node))
     }
 
     /// The node's dot after its greatest, which the context does not have. None only where the greatest is [`MAX`].
@@ -151,9 +173,7 @@ impl CausalContext {
     pub fn vector(&self) -> Result<Vec<(NodeName, u64)>, AllocError>
         ensures { IfOk result (λ vector. IsVector (has self.now) vector.items) }
     {
-        let alloc = *self.dots.allocator();
-        let runs = runs_of(alloc, &self.dots)?;
-        let vector = vector_of(alloc, &runs)?;
+        let vector = Vec::from_slice(*self.vector.allocator(), &self.vector)?;
         Ok(vector)
     }
 
@@ -161,30 +181,52 @@ impl CausalContext {
     pub fn cloud(&self) -> Result<Vec<Dot>, AllocError>
         ensures { IfOk result (λ cloud. IsCloud (has self.now) cloud.items) }
     {
-        let alloc = *self.dots.allocator();
-        let runs = runs_of(alloc, &self.dots)?;
-        let cloud = cloud_of(alloc, &self.dots, &runs)?;
+        let cloud = Vec::from_slice(*self.cloud.allocator(), &self.cloud)?;
         Ok(cloud)
     }
 
-    /// The dots of this context that the other has too, rising. Refused only for memory. One look-up in the other for
-    /// each dot of this one.
+    /// How many entries the vector and how many dots the cloud has, together: what a walk over the context costs.
+    pub fn width(&self) -> usize
+        ensures { IsWidthOf (has self.now) result }
+    {
+        self.vector.len() + self.cloud.len()
+    }
+
+    /// Whether the context has at most so many dots. It takes no memory, and one look at each entry of the vector.
+    pub fn has_at_most(&self, most: usize) -> bool
+        ensures { IsTrue result ↔ (length self.now ≤ most) }
+    {
+        is_at_most(&self.vector, self.cloud.len(), most)
+    }
+
+    /// The dots of this context that the other has too, rising. Refused only for memory. It lists all dots of this one,
+    /// so ask [`has_at_most`](Self::has_at_most) first, and makes one look-up in the other for each.
     pub fn shared(&self, alloc: Global, other: &CausalContext) -> Result<Vec<Dot>, AllocError>
         ensures dots { IfOk result (λ dots. (d : Dot) → among dot_cmp dots.items d ≡ (has self.now d && has other.now d)) }
         ensures rising { IfOk result (λ dots. IsRising dot_cmp dots.items) }
     {
-        let dots = common(alloc, &self.dots, &other.dots)?;
-        Ok(dots)
+        let dots = dots_of(alloc, &self.vector, &self.cloud)?;
+        let shared = common(alloc, &dots, other)?;
+        Ok(shared)
     }
 
     /// The dots of this context that the other lacks, rising. Refused only for memory. One look-up in the other for
-    /// each dot of this one.
+    /// each dot of this one's runs above the other's entries, and for each of its cloud.
     pub fn beyond(&self, alloc: Global, other: &CausalContext) -> Result<Vec<Dot>, AllocError>
         ensures dots { IfOk result (λ dots. (d : Dot) → among dot_cmp dots.items d ≡ (has self.now d && not (has other.now d))) }
         ensures rising { IfOk result (λ dots. IsRising dot_cmp dots.items) }
     {
-        let dots = absent(alloc, &self.dots, &other.dots)?;
+        let runs = sorted(runs_beyond(alloc, &self.vector, other)?);
+        let cloud = cloud_beyond(alloc, &self.cloud, other)?;
+        let dots = union(alloc, &runs, &cloud)?;
         Ok(dots)
+    }
+
+    // The node's entry.
+    fn run(&self, node: &NodeName) -> u64
+        ensures { IsRun (has self.now) node.now result }
+    {
+        entry_in(&self.vector, node)
     }
 }
 
@@ -204,26 +246,159 @@ impl Lattice for CausalContext {
 
     /// The context with the dots of both.
     fn joined(&self, alloc: Global, other: &CausalContext) -> Result<CausalContext, AllocError> {
-        let dots = union(alloc, &self.dots, &other.dots)?;
-        Ok(CausalContext { dots })
+        let mut vector = Vec::from_slice(alloc, &self.vector)?;
+        lift(&mut vector, &other.vector)?;
+        let dots = union(alloc, &self.cloud, &other.cloud)?;
+        let context = absorbed(alloc, vector, &dots)?;
+        Ok(context)
     }
 
-    /// Takes in the other's dots, in place where they are few beside its own. A dot above all others then costs a
-    /// look-up and a push.
+    /// Takes in the other's dots. Where it brings none this takes no memory.
     fn join_from(&mut self, alloc: Global, other: &CausalContext) -> Result<(), AllocError> {
-        // With more than an eighth as many, one pass over both is cheaper than a look-up for each.
-        if self.dots.len() / 8 < other.dots.len() {
-            let joined = self.joined(alloc, other)?;
-            *self = joined;
+        if other.leq(self) {
             return Ok(());
         }
-        let fresh = absent(alloc, &other.dots, &self.dots)?;
-        put_in(alloc, &mut self.dots, &fresh)?;
+        let joined = self.joined(alloc, other)?;
+        *self = joined;
         Ok(())
     }
 
     /// Whether the other context has all dots of this one.
     fn leq(&self, other: &CausalContext) -> bool {
-        is_within(&self.dots, &other.dots)
+        runs_within(&self.vector, &other.vector) && cloud_within(&self.cloud, other)
     }
+}
+
+// The context with the dots of a vector and of a list.
+fn absorbed(
+    alloc: Global,
+    mut vector: Vec<(NodeName, u64)>,
+    dots: &[Dot],
+) -> Result<CausalContext, AllocError>
+    requires vector { IsVersions vector.items }
+    requires dots { IsKept dots.now }
+    ensures { IfOk result (λ context. (d : Dot) → has context d ≡ (in_vector vector.items d || list_has dots.now d)) }
+{
+    let cloud = absorb(alloc, &mut vector, dots)?;
+    Ok(CausalContext { vector, cloud })
+}
+
+// Whether a vector and a cloud have the dot.
+fn parts_have(vector: &[(NodeName, u64)], cloud: &[Dot], dot: &Dot) -> bool
+    requires { IsCanonical vector.now cloud.now }
+    ensures { result ≡ in_parts vector.now cloud.now dot.now }
+{
+    let entry = entry_in(vector, &dot.node);
+    (1 <= dot.counter && dot.counter <= entry) || is_in(dot, cloud)
+}
+
+// Whether each entry is at most the other vector's.
+fn runs_within(vector: &[(NodeName, u64)], others: &[(NodeName, u64)]) -> bool
+    requires vector { IsVersions vector.now }
+    requires others { IsVersions others.now }
+    ensures { IsTrue result ↔ ((q : List ℕ) → entry vector.now q ≤ entry others.now q) }
+{
+    for (node, entry) in vector {
+        if entry_in(others, node) < *entry {
+            return false;
+        }
+    }
+    true
+}
+
+// Whether the context has all the dots.
+fn cloud_within(dots: &[Dot], other: &CausalContext) -> bool
+    ensures { IsTrue result ↔ ((d : Dot) → list_has dots.now d ≡ true → has other.now d ≡ true) }
+{
+    for dot in dots {
+        if !other.contains(dot) {
+            return false;
+        }
+    }
+    true
+}
+
+// Whether the entries and so many dots beside them are at most so many dots together.
+fn is_at_most(vector: &[(NodeName, u64)], cloud: usize, most: usize) -> bool
+    ensures { IsTrue result ↔ (total_of vector.now + cloud ≤ most) }
+{
+    if most < cloud {
+        return false;
+    }
+    let mut left = (most - cloud) as u64;
+    for entry in vector {
+        if left < entry.1 {
+            return false;
+        }
+        left -= entry.1;
+    }
+    true
+}
+
+// The dots that the other has.
+fn common(alloc: Global, dots: &[Dot], other: &CausalContext) -> Result<Vec<Dot>, AllocError>
+    ensures { IfOk result (λ shared. shared.items ≡ filter (λ d. has other.now d) dots.now) }
+{
+    let mut shared = Vec::new(alloc);
+    for dot in dots {
+        if other.contains(dot) {
+            shared.push(*dot)?;
+        }
+    }
+    Ok(shared)
+}
+
+// The dots of the runs that the other lacks.
+fn runs_beyond(
+    alloc: Global,
+    vector: &[(NodeName, u64)],
+    other: &CausalContext,
+) -> Result<Vec<Dot>, AllocError>
+    requires { IsVersions vector.now }
+    ensures counted { IfOk result (λ dots. AllByRecursion IsCounted dots.items) }
+    ensures dots { IfOk result (λ dots. (d : Dot) → list_has dots.items d ≡ (in_runs vector.now d && not (has other.now d))) }
+{
+    let mut dots = Vec::new(alloc);
+    for (node, entry) in vector {
+        run_beyond(&mut dots, *node, *entry, other)?;
+    }
+    Ok(dots)
+}
+
+// Pushes those of the node's dots 1 to last that the other lacks. Those of its run are not even looked at.
+fn run_beyond(
+    dots: &mut Vec<Dot>,
+    node: NodeName,
+    last: u64,
+    other: &CausalContext,
+) -> Result<(), AllocError>
+    requires last { last ≤ MAX }
+    requires counted { AllByRecursion IsCounted dots.old.items }
+    ensures counted { AllByRecursion IsCounted dots.new.items }
+    ensures dots { OnOk result ((d : Dot) → list_has dots.new.items d ≡ (list_has dots.old.items d || (in_run node last d && not (has other.now d)))) }
+{
+    let seen = last.min(other.run(&node));
+    for done in seen..last {
+        let dot = Dot {
+            counter: done + 1,
+            node,
+        };
+        if !other.contains(&dot) {
+            dots.push(dot)?;
+        }
+    }
+    Ok(())
+}
+
+// The dots that the other lacks.
+fn cloud_beyond(alloc: Global, dots: &[Dot], other: &CausalContext) -> Result<Vec<Dot>, AllocError>
+    ensures { IfOk result (λ fresh. fresh.items ≡ filter (λ d. not (has other.now d)) dots.now) }
+{
+    let mut fresh = Vec::new(alloc);
+    for dot in dots {
+        if !other.contains(dot) {
+            fresh.push(*dot)?;
+        }
+    }
+    Ok(fresh)
 }

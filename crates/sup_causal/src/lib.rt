@@ -1,10 +1,11 @@
 //! Join semilattices, dots and causal contexts.
 #![tactic(auto)]
 
+mod absorb;
 pub mod below;
 pub mod context;
-mod cut;
 pub mod dot;
+mod entries;
 pub mod lattice;
 pub mod least;
 pub mod map_join;

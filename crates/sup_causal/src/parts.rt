@@ -9,6 +9,7 @@ ghost use Rattle.sup_causal.specs.Cut.{entry, IsCanonical, in_run, in_runs, in_p
 ghost use Rattle.sup_causal.specs.Dots.{list_has, dot_cmp, IsCounted, IsKept};
 
 use crate::dot::Dot;
+use crate::entries::entry_in;
 use crate::sorted_dots::{sorted, union};
 use std::alloc::{AllocError, Global};
 use sup_specs::{MAX, NodeName};
@@ -92,17 +93,6 @@ fn is_apart(vector: &[(NodeName, u64)], dot: &Dot) -> bool
     ensures { IsTrue result ↔ (entry vector.now dot.now.node + 2 ≤ dot.now.counter) × (dot.now.counter ≤ MAX) }
 {
     dot.counter <= MAX && entry_in(vector, &dot.node).saturating_add(2) <= dot.counter
-}
-
-// A node's entry, 0 where it has none.
-fn entry_in(vector: &[(NodeName, u64)], node: &NodeName) -> u64
-    requires { IsRising text_cmp (keys_of vector.now) }
-    ensures { result ≡ entry vector.now node.now }
-{
-    match vector.binary_search_by(|entry| entry.0.cmp(node)) {
-        Ok(at) => vector[at].1,
-        Err(_) => 0,
-    }
 }
 
 // The dots 1 to n of each node with entry n.

@@ -1,10 +1,9 @@
-//! Lists of dots in rising order: their union, inclusion, and a node's greatest counter.
+//! Lists of dots in rising order: a list sorted, the union of two, and the greatest counter of a node.
 
-ghost use Rattle.std.specs.Prelude.{◌≡◌, ℕ, ◌+◌, ◌<◌, ◌≤◌, ◌||◌, ◌↔◌, not, length, slice_index_or, IsTrue, IfOk, OnOk, OnErr, true};
-ghost use Rattle.std.specs.declared.cmp.Ordering.TheVariants.{Less};
-ghost use Rattle.std.specs.List.{AllByRecursion, filter};
+ghost use Rattle.std.specs.Prelude.{◌≡◌, ◌+◌, ◌≤◌, ◌||◌, length, IfOk, OnOk, OnErr};
+ghost use Rattle.std.specs.List.{AllByRecursion};
 ghost use Rattle.sup_specs.specs.Rising.{IsRising};
-ghost use Rattle.sup_causal.specs.Dots.{dot_cmp, list_has, IsCounted, IsGreatest, IsKept};
+ghost use Rattle.sup_causal.specs.Dots.{dot_cmp, dot_eq, list_has, IsCounted, IsGreatest, IsKept};
 
 use crate::dot::Dot;
 use std::alloc::{AllocError, Global};
@@ -55,90 +54,8 @@ pub(crate) fn union(alloc: Global, left: &[Dot], right: &[Dot]) -> Result<Vec<Do
     Ok(both)
 }
 
-// Whether the second list has all dots of the first, in one pass.
-pub(crate) fn is_within(left: &[Dot], right: &[Dot]) -> bool
-    requires left { IsRising dot_cmp left.now }
-    requires right { IsRising dot_cmp right.now }
-    ensures { IsTrue result ↔ ((d : Dot) → list_has left.now d ≡ true → list_has right.now d ≡ true) }
-{
-    let mut i = 0;
-    let mut j = 0;
-    while i < left.len() && j < right.len() {
-        match left[i].cmp(&right[j]) {
-            Ordering::Less => return false,
-            Ordering::Equal => {
-                i += 1;
-                j += 1;
-            }
-            Ordering::Greater => j += 1,
-        }
-    }
-    i == left.len()
-}
-
-// The dots of the first list that the second has too.
-pub(crate) fn common(alloc: Global, left: &[Dot], right: &[Dot]) -> Result<Vec<Dot>, AllocError>
-    requires { IsRising dot_cmp right.now }
-    ensures { IfOk result (λ dots. dots.items ≡ filter (λ d. list_has right.now d) left.now) }
-{
-    let mut dots = Vec::new(alloc);
-    for dot in left {
-        if is_in(dot, right) {
-            dots.push(*dot)?;
-        }
-    }
-    Ok(dots)
-}
-
-// The dots of the first list that the second lacks.
-pub(crate) fn absent(alloc: Global, left: &[Dot], right: &[Dot]) -> Result<Vec<Dot>, AllocError>
-    requires { IsRising dot_cmp right.now }
-    ensures { IfOk result (λ dots. dots.items ≡ filter (λ d. not (list_has right.now d)) left.now) }
-{
-    let mut dots = Vec::new(alloc);
-    for dot in left {
-        if !is_in(dot, right) {
-            dots.push(*dot)?;
-        }
-    }
-    Ok(dots)
-}
-
-// Puts the dots of the second list into the first. What stands below the least of them stays where it is. Where memory
-// is refused, the first list stays as it was.
-pub(crate) fn put_in(alloc: Global, dots: &mut Vec<Dot>, fresh: &[Dot]) -> Result<(), AllocError>
-    requires dots { IsKept dots.old.items }
-    requires fresh { IsKept fresh.now }
-    ensures kept { IsKept dots.new.items }
-    ensures ok { OnOk result ((d : Dot) → list_has dots.new.items d ≡ (list_has dots.old.items d || list_has fresh.now d)) }
-    ensures err { OnErr result (dots.new.items ≡ dots.old.items) }
-{
-    if fresh.is_empty() {
-        return Ok(());
-    }
-    let at = place_of(&fresh[0], dots);
-    let mut tail = union(alloc, &dots[at..], fresh)?;
-    dots.reserve(fresh.len())?;
-    // From here on nothing is refused: there is room for the tail.
-    dots.truncate(at);
-    dots.append(&mut tail)?;
-    Ok(())
-}
-
-// How many dots of the list are below the dot.
-fn place_of(dot: &Dot, dots: &[Dot]) -> usize
-    requires { IsRising dot_cmp dots.now }
-    ensures bound { result ≤ length dots.now }
-    ensures below { (k : ℕ) (d : Dot) → k < result → dot_cmp (slice_index_or dots.now k d) dot.now ≡ Less }
-    ensures no_more { (k : ℕ) (d : Dot) → result ≤ k → k < length dots.now → ¬ (dot_cmp (slice_index_or dots.now k d) dot.now ≡ Less) }
-{
-    match dots.binary_search(dot) {
-        Ok(at) | Err(at) => at,
-    }
-}
-
 // Whether the list has the dot, by binary search.
-fn is_in(dot: &Dot, dots: &[Dot]) -> bool
+pub(crate) fn is_in(dot: &Dot, dots: &[Dot]) -> bool
     requires { IsRising dot_cmp dots.now }
     ensures { result ≡ list_has dots.now dot.now }
 {
@@ -158,4 +75,17 @@ pub(crate) fn greatest_of(dots: &[Dot], node: &NodeName) -> u64
         }
     }
     0
+}
+
+// Puts a dot in at its place, where it is not there. Where memory is refused the list stays as it was.
+pub(crate) fn put(dots: &mut Vec<Dot>, dot: Dot) -> Result<(), AllocError>
+    requires { IsRising dot_cmp dots.old.items }
+    ensures rising { IsRising dot_cmp dots.new.items }
+    ensures ok { OnOk result ((d : Dot) → list_has dots.new.items d ≡ (list_has dots.old.items d || dot_eq dot d)) }
+    ensures err { OnErr result (dots.new.items ≡ dots.old.items) }
+{
+    match dots.binary_search(&dot) {
+        Ok(_) => Ok(()),
+        Err(at) => Ok(dots.insert(at, dot)?),
+    }
 }

@@ -1,0 +1,109 @@
+-- The dots of parts, as a context: what it has, and that it rises.
+use Rattle.std.proofs.Common.{◌≡◌, ℕ, suc, zero, ◌+◌, ◌≤◌, Bool, true, false, ◌||◌, ◌&&◌, leb, eqb, List, [], ◌∷◌, ◌++◌, refl, sym, ap, ◌∙◌, arith, inl, inr}
+use Rattle.std.specs.declared.cmp.Ordering.{Ordering}
+use Rattle.std.specs.declared.cmp.Ordering.TheVariants.{Less, Equal, Greater}
+use Rattle.std.specs.Ordering.{eq_by_cmp}
+use Rattle.std.specs.FinMap.Entries.{by_order}
+use Rattle.std.specs.Cmp.{IsTotalOrder}
+use Rattle.std.specs.List.{AllByRecursion}
+use Rattle.std.proofs.lemmas.Bool.{or_cases, and_parts, leb-true}
+use Rattle.std.proofs.lemmas.Bool.Decides.{nat_tests}
+use Rattle.std.proofs.lemmas.Cmp.{eq_by_cmp_equiv, nat_list_cmp_total}
+use Rattle.sup_specs.specs.Rising.{IsRising, among, put_in, rising}
+use Rattle.sup_specs.proofs.RisingLaws.{among-rising}
+use Rattle.sup_specs.specs.Values.{text_cmp}
+use Rattle.sup_specs.specs.declared.limits.TheConstants.{MAX}
+use Rattle.sup_causal.specs.declared.dot.Dot.{Dot}
+use Rattle.sup_causal.specs.Dots.{has, dot_cmp, list_has, IsCounted, IsKept}
+use Rattle.sup_causal.specs.DotLaws.{dot_total}
+use Rattle.sup_causal.specs.Cut.{entry, IsCanonical, in_run, in_runs, in_parts}
+use Rattle.sup_causal.proofs.Rising.{less_from_greater}
+use Rattle.sup_causal.proofs.Union.{each_weaker}
+use Rattle.sup_causal.proofs.Sorted.{pairs_rise}
+use Rattle.sup_causal.proofs.CutLemmas.{in_runs_is, uncounted}
+use Rattle.sup_causal.proofs.DotLemmas.{list_has-append, among_is, each_has}
+use Rattle.sup_causal.specs.Parts.{in_vector, run_dots, runs_dots, dots_of}
+use Rattle.sup_causal.proofs.Versions.{entry_most}
+use Rattle.sup_causal.proofs.Cuts.{dot_parts}
+
+-- ---- a list put in order rises
+module _ {K : Type 0} {R : K → K → Ordering} (total : IsTotalOrder R) where
+  each_put_in : (P : K → Type 0) (x : K) (ys : List K) → P x → AllByRecursion P ys → AllByRecursion P (put_in R x ys)
+  each_put_in P x [] here all = (here, tt)
+  each_put_in P x (y ∷ ys) here all =
+      let later : AllByRecursion P (put_in R x ys) = each_put_in P x ys here all.1 in
+      elim (R x y) as (λ o. AllByRecursion P (by_order o (x ∷ y ∷ ys) (y ∷ ys) (y ∷ put_in R x ys))) [
+        | Less ↦ (here, all)
+        | Equal ↦ all
+        | Greater ↦ (all.0, later)
+      ]
+
+  rising_put_in : (x : K) (ys : List K) → IsRising R ys → IsRising R (put_in R x ys)
+  rising_put_in x [] s = (tt, tt)
+  rising_put_in x (y ∷ ys) s = at (R x y) refl (rising_put_in x ys s.1)
+    where
+      at : (o : Ordering) → R x y ≡ o → IsRising R (put_in R x ys) → IsRising R (by_order o (x ∷ y ∷ ys) (y ∷ ys) (y ∷ put_in R x ys))
+      at Less e later = ((e, each_weaker (λ z. R y z ≡ Less) (λ z. R x z ≡ Less) (λ z h. total.trans x y z e h) ys s.0), s)
+      at Equal e later = s
+      at Greater e later = (each_put_in (λ z. R y z ≡ Less) x ys (less_from_greater total x y e) s.0, later)
+
+  rising_rises : (xs : List K) → IsRising R (rising R xs)
+  rising_rises [] = tt
+  rising_rises (x ∷ xs) = rising_put_in x (rising R xs) (rising_rises xs)
+
+pub dots_rise : (v : List (List ℕ × ℕ)) (c : List Dot) → IsRising dot_cmp (dots_of v c)
+unfolding dots_of
+dots_rise v c = rising_rises dot_total (runs_dots v ++ c)
+
+-- ---- what parts have
+none_of_none : (c : ℕ) (b : Bool) → false ≡ (b && (leb 1 c && leb c 0))
+none_of_none c true = grind (arith, nat_tests)
+none_of_none c false = refl
+
+one_more : (b : Bool) (n c : ℕ) → ((eqb (suc n) c && b) || (b && (leb 1 c && leb c n))) ≡ (b && (leb 1 c && leb c (suc n)))
+one_more true n c = grind (arith, nat_tests)
+one_more false n c = grind (arith, nat_tests)
+
+pub has_run : (node : List ℕ) (n : ℕ) (d : Dot) → list_has (run_dots node n) d ≡ in_run node n d
+has_run node zero d = none_of_none d.counter (eq_by_cmp text_cmp d.node node)
+has_run node (suc n) d =
+    (λ k. (dot_parts (record { counter = suc n; node = node }) d ∙ ap (λ b. eqb (suc n) d.counter && b) ((eq_by_cmp_equiv nat_list_cmp_total).symm node d.node)) k || has_run node n d k)
+    ∙ one_more (eq_by_cmp text_cmp d.node node) n d.counter
+
+pub has_runs : (v : List (List ℕ × ℕ)) (d : Dot) → list_has (runs_dots v) d ≡ in_runs v d
+has_runs [] d = refl
+has_runs (e ∷ es) d = list_has-append (run_dots e.0 e.1) (runs_dots es) d ∙ (λ k. has_run e.0 e.1 d k || has_runs es d k)
+
+pub has_dots : (v : List (List ℕ × ℕ)) (c : List Dot) → IsCanonical v c → (d : Dot) → has (dots_of v c) d ≡ in_parts v c d
+unfolding dots_of has
+has_dots v c canonical d =
+    among_is (dots_of v c) d
+    ∙ among-rising dot_cmp dot_total (runs_dots v ++ c) d
+    ∙ sym (among_is (runs_dots v ++ c) d)
+    ∙ list_has-append (runs_dots v) c d
+    ∙ (λ k. (has_runs v d ∙ in_runs_is v (pairs_rise text_cmp v canonical.by_name) d) k || among_is c d k)
+
+-- of a kept context
+pub has_kept : (context v : _) (c : List Dot) → IsCanonical v c → dots_of v c ≡ context → (d : Dot) → has context d ≡ in_parts v c d
+has_kept context v c canonical is d = ap (λ dots. has dots d) (sym is) ∙ has_dots v c canonical d
+
+-- ---- they are counted
+pub cloud_kept : (v : List (List ℕ × ℕ)) (c : List Dot) → IsCanonical v c → IsKept c
+cloud_kept v c canonical = record {
+  rising = canonical.in_order;
+  counted = each_weaker (λ d. (entry v d.node + 2 ≤ d.counter) × (d.counter ≤ MAX)) IsCounted (λ d far. (omega (arith, far.0), far.1)) c canonical.apart;
+}
+
+pub parts_counted : (v : List (List ℕ × ℕ)) (c : List Dot) → IsCanonical v c → (d : Dot) → in_parts v c d ≡ true → IsCounted d
+parts_counted v c canonical d there = elim (or_cases (in_vector v d) (among dot_cmp c d) there) [
+  | inl run ↦
+      let both = and_parts (leb 1 d.counter) (leb d.counter (entry v d.node)) run in
+      let most : entry v d.node ≤ MAX = entry_most v canonical.entries d.node in
+      let low : 1 ≤ d.counter = leb-true _ _ both.0 in
+      let high : d.counter ≤ entry v d.node = leb-true _ _ both.1 in
+      (low, omega (arith, most, high))
+  | inr cloud ↦ each_has IsCounted c (cloud_kept v c canonical).counted d (among_is c d ∙ cloud)
+]
+
+pub none_in_empty : (d : Dot) → in_vector [] d ≡ false
+none_in_empty d = uncounted d.counter

@@ -1,0 +1,123 @@
+-- Parts beside others: that one pair's dots are the other's, the dots beyond them, and a node's greatest.
+use Rattle.std.proofs.Common.{◌≡◌, ℕ, ◌+◌, ◌<◌, ◌≤◌, Bool, true, false, not, ◌||◌, ◌&&◌, leb, eqb, List, refl, sym, ap, ◌∙◌, subst, arith, inl, inr}
+use Rattle.std.specs.Prelude.{max}
+use Rattle.std.specs.Ordering.{eq_by_cmp}
+use Rattle.std.proofs.lemmas.Bool.{or_cases, or_right, and_parts, leb-true, cases_lt}
+use Rattle.std.proofs.lemmas.Bool.Decides.{nat_tests}
+use Rattle.std.proofs.lemmas.Cmp.{eq_by_cmp_equiv, nat_list_cmp_total}
+use Rattle.std.proofs.lemmas.Map.Lookups.{exact_bytes}
+use mathlib.Core.Bool.{false≢true}
+use Rattle.sup_specs.specs.Rising.{among}
+use Rattle.sup_specs.specs.Values.{text_cmp}
+use Rattle.sup_causal.specs.declared.dot.Dot.{Dot}
+use Rattle.sup_causal.specs.Dots.{dot_cmp, dot_eq, list_has, IsGreatest}
+use Rattle.sup_causal.specs.Cut.{entry, IsRun, IsCanonical, in_run, in_parts}
+use Rattle.sup_causal.proofs.CutLaws.{runs_are}
+use Rattle.sup_causal.proofs.DotLemmas.{among_is, dot_eq-true, equal_from_is_eq}
+use Rattle.sup_causal.specs.Parts.{in_vector}
+use Rattle.sup_causal.proofs.Cuts.{in_its_run, dot_parts}
+
+-- ---- one pair within another
+in_run_of : (v : List (List ℕ × ℕ)) (d : Dot) → in_vector v d ≡ true → (1 ≤ d.counter) × (d.counter ≤ entry v d.node)
+in_run_of v d run = let both = and_parts (leb 1 d.counter) (leb d.counter (entry v d.node)) run in (leb-true _ _ both.0, leb-true _ _ both.1)
+
+module _ (v w : List (List ℕ × ℕ)) (c e : List Dot) where
+  pub parts_within : ((q : List ℕ) → entry v q ≤ entry w q) → ((d : Dot) → list_has c d ≡ true → in_parts w e d ≡ true) → (d : Dot) → in_parts v c d ≡ true → in_parts w e d ≡ true
+  parts_within runs cloud d there = elim (or_cases (in_vector v d) (among dot_cmp c d) there) [
+    | inl run ↦ let at = in_run_of v d run in in_its_run w e d at.0 (omega (arith, at.1, runs d.node))
+    | inr rest ↦ cloud d (among_is c d ∙ rest)
+  ]
+
+  -- the dot after a run is missing, so no run within is longer
+  pub runs_from_within : IsCanonical w e → ((d : Dot) → in_parts v c d ≡ true → in_parts w e d ≡ true) → (q : List ℕ) → entry v q ≤ entry w q
+  runs_from_within canonical within q = elim (cases_lt (entry w q) (entry v q)) [
+    | inl lt ↦
+        let run : IsRun (in_parts w e) q (entry w q) = runs_are (in_parts w e) w e canonical (λ d. refl) q in
+        absurd (false≢true (sym run.next_missing ∙ within (record { counter = entry w q + 1; node = q }) (in_its_run v c (record { counter = entry w q + 1; node = q }) (omega arith) (omega (arith, lt)))))
+    | inr ge ↦ ge
+  ]
+
+pub or_four : (a b c d : Bool) → ((a || b) || (c || d)) ≡ ((a || c) || (b || d))
+or_four true b c d = refl
+or_four false true true d = refl
+or_four false true false d = refl
+or_four false false c d = refl
+
+-- ---- what is beyond
+pub run_not_beyond : (holds : Dot → Bool) (node : List ℕ) (n m : ℕ) → IsRun holds node n → m ≤ n → (d : Dot) → (in_run node m d && not (holds d)) ≡ false
+run_not_beyond holds node n m run le d = at (in_run node m d) refl
+  where
+    there : in_run node m d ≡ true → holds d ≡ true
+    there h =
+        let both = and_parts (eq_by_cmp text_cmp d.node node) (leb 1 d.counter && leb d.counter m) h in
+        let ends = and_parts (leb 1 d.counter) (leb d.counter m) both.1 in
+        let own : d.node ≡ node = exact_bytes d.node node (equal_from_is_eq _ both.0) in
+        let low : 1 ≤ d.counter = leb-true _ _ ends.0 in
+        let high : d.counter ≤ m = leb-true _ _ ends.1 in
+        ap holds (λ k. record { counter = d.counter; node = own k }) ∙ run.all_there d.counter low (omega (arith, high, le))
+
+    at : (b : Bool) → in_run node m d ≡ b → (b && not (holds d)) ≡ false
+    at true h = ap not (there h)
+    at false h = refl
+
+one_more : (b : Bool) (n c : ℕ) → (b && (leb 1 c && leb c (n + 1))) ≡ ((b && (leb 1 c && leb c n)) || (eqb (n + 1) c && b))
+one_more true n c = grind (arith, nat_tests)
+one_more false n c = grind (arith, nat_tests)
+
+run_more : (node : List ℕ) (n : ℕ) (d : Dot) → in_run node (n + 1) d ≡ (in_run node n d || dot_eq (record { counter = n + 1; node = node }) d)
+run_more node n d =
+    one_more (eq_by_cmp text_cmp d.node node) n d.counter
+    ∙ ap (λ b. in_run node n d || b) (sym (dot_parts (record { counter = n + 1; node = node }) d ∙ ap (λ b. eqb (n + 1) d.counter && b) ((eq_by_cmp_equiv nat_list_cmp_total).symm node d.node)))
+
+beyond_more : (r q h : Bool) → (q ≡ true → h ≡ false) → ((r && not h) || q) ≡ ((r || q) && not h)
+beyond_more r true true e = absurd (false≢true (sym (e refl)))
+beyond_more true true false e = refl
+beyond_more false true false e = refl
+beyond_more true false true e = refl
+beyond_more true false false e = refl
+beyond_more false false h e = refl
+
+beyond_same : (r q h : Bool) → (q ≡ true → h ≡ true) → (r && not h) ≡ ((r || q) && not h)
+beyond_same r true false e = absurd (false≢true (e refl))
+beyond_same true true true e = refl
+beyond_same false true true e = refl
+beyond_same true false h e = refl
+beyond_same false false h e = refl
+
+module _ (holds : Dot → Bool) (node : List ℕ) (n : ℕ) (d : Dot) where
+  -- the next dot of a run, which holds does not have
+  pub next_beyond : holds (record { counter = n + 1; node = node }) ≡ false → ((in_run node n d && not (holds d)) || dot_eq (record { counter = n + 1; node = node }) d) ≡ (in_run node (n + 1) d && not (holds d))
+  next_beyond none =
+      beyond_more (in_run node n d) (dot_eq (record { counter = n + 1; node = node }) d) (holds d) (λ same. ap holds (sym (dot_eq-true (record { counter = n + 1; node = node }) d same)) ∙ none)
+      ∙ ap (λ b. b && not (holds d)) (sym (run_more node n d))
+
+  -- and one that it has
+  pub next_not_beyond : holds (record { counter = n + 1; node = node }) ≡ true → (in_run node n d && not (holds d)) ≡ (in_run node (n + 1) d && not (holds d))
+  next_not_beyond there =
+      beyond_same (in_run node n d) (dot_eq (record { counter = n + 1; node = node }) d) (holds d) (λ same. ap holds (sym (dot_eq-true (record { counter = n + 1; node = node }) d same)) ∙ there)
+      ∙ ap (λ b. b && not (holds d)) (sym (run_more node n d))
+
+pub or_and : (a b n : Bool) → ((a && n) || (b && n)) ≡ ((a || b) && n)
+or_and true true true = refl
+or_and true true false = refl
+or_and true false true = refl
+or_and true false false = refl
+or_and false b n = refl
+
+-- ---- a node's greatest counter
+pub greatest_parts : (v : List (List ℕ × ℕ)) (c : List Dot) (node : List ℕ) (n : ℕ) → IsGreatest (list_has c) node n → IsGreatest (in_parts v c) node (max n (entry v node))
+greatest_parts v c node n g = record { bound = bound; reached = reached }
+  where
+    bound : (d : Dot) → d.node ≡ node → in_parts v c d ≡ true → d.counter ≤ max n (entry v node)
+    bound d mine there = elim (or_cases (in_vector v d) (among dot_cmp c d) there) [
+      | inl run ↦ let at = in_run_of v d run in let is : entry v d.node ≡ entry v node = ap (entry v) mine in omega (arith, at.1, is)
+      | inr rest ↦ let le : d.counter ≤ n = g.bound d mine (among_is c d ∙ rest) in omega (arith, le)
+    ]
+
+    reached : 0 < max n (entry v node) → in_parts v c (record { counter = max n (entry v node); node = node }) ≡ true
+    reached some = elim (cases_lt n (entry v node)) [
+      | inl lt ↦ in_its_run v c (record { counter = max n (entry v node); node = node }) (omega (arith, some)) (omega (arith, lt))
+      | inr ge ↦
+          let is : max n (entry v node) ≡ n = omega (arith, ge) in
+          subst (λ t. in_parts v c (record { counter = t; node = node }) ≡ true) (sym is) (or_right (in_vector v (record { counter = n; node = node })) _ (sym (among_is c (record { counter = n; node = node })) ∙ g.reached (omega (arith, some, is))))
+    ]

@@ -1,7 +1,0 @@
-use Rattle.std.proofs.Common.{◌≡◌, take}
-use Rattle.std.specs.List.{filter}
-use Rattle.sup_causal.specs.Dots.{list_has}
-use Rattle.sup_causal.proofs.sorted_dots.common.Given as goal
-
-abbrev pub invariant-loop-dot : goal.invariant-loop-dot
-invariant-loop-dot l = l.dots.items ≡ filter (λ d. list_has l.right d) (take l.dot-index l.left)
