@@ -2,8 +2,9 @@
 use Rattle.std.proofs.Common.{◌≡◌, ℕ, suc, zero, ◌+◌, ◌≤◌, Bool, true, false, ◌||◌, ◌&&◌, leb, List, [], ◌∷◌, ◌++◌, length, refl, sym, ap, ◌∙◌, subst, arith}
 use Rattle.std.specs.declared.cmp.Ordering.{Ordering}
 use Rattle.std.specs.declared.cmp.Ordering.TheVariants.{Less, Equal, Greater}
-use Rattle.std.specs.Ordering.{eq_by_cmp}
+use Rattle.std.specs.Ordering.{is_eq, eq_by_cmp}
 use Rattle.std.specs.FinMap.Entries.{by_order}
+use Rattle.std.specs.List.{AllByRecursion}
 use Rattle.std.proofs.lemmas.Bool.{or_left, or_right, and_parts, leb-true, false_from_ne_true}
 use Rattle.std.proofs.lemmas.Bool.Decides.{nat_tests}
 use Rattle.std.proofs.lemmas.List.{length-append}
@@ -15,12 +16,13 @@ use Rattle.sup_specs.specs.declared.limits.TheConstants.{MAX}
 use Rattle.sup_causal.specs.declared.dot.Dot.{Dot}
 use Rattle.sup_causal.specs.Dots.{dot_cmp, dot_eq, list_has}
 use Rattle.sup_causal.specs.DotLaws.{dot_total, dot_exact}
-use Rattle.sup_causal.specs.Cut.{entry, IsCanonical, in_runs}
+use Rattle.sup_causal.specs.Cut.{entry, IsCanonical}
 use Rattle.sup_causal.specs.Parts.{run_dots, runs_dots, dots_of, total_of}
 use Rattle.sup_causal.proofs.Sorted.{pairs_rise}
-use Rattle.sup_causal.proofs.Inclusion.{none_above}
+use Rattle.sup_causal.proofs.Rising.{greater_from_less}
+use Rattle.sup_causal.proofs.Union.{each_weaker}
 use Rattle.sup_causal.proofs.CutLemmas.{entry_later, in_runs_is, uncounted}
-use Rattle.sup_causal.proofs.DotLemmas.{list_has-append, among_is, each_has, dot_eq-refl, equal_from_is_eq}
+use Rattle.sup_causal.proofs.DotLemmas.{list_has-append, among_is, each_has, has_none, dot_eq-refl, equal_from_is_eq}
 use Rattle.sup_causal.proofs.Views.{has_run, has_runs}
 
 -- each dot of a list stands in it once
@@ -72,6 +74,10 @@ once_runs (e ∷ es) s = once_append (run_dots e.0 e.1) (runs_dots es) (once_run
     ∙ in_runs_is es s.1 d
     ∙ ap (λ n. leb 1 d.counter && leb d.counter n) (entry_later e es s d.node (equal_from_is_eq _ own.0))
     ∙ uncounted d.counter)
+
+-- a dot below each of a list is not in it
+none_above : (x : Dot) (ys : List Dot) → AllByRecursion (λ y. dot_cmp x y ≡ Less) ys → list_has ys x ≡ false
+none_above x ys all = has_none ys x (each_weaker (λ y. dot_cmp x y ≡ Less) (λ y. is_eq (dot_cmp y x) ≡ false) (λ y h. ap is_eq (greater_from_less dot_total x y h)) ys all)
 
 once_rising : (c : List Dot) → IsRising dot_cmp c → Once c
 once_rising [] s = tt

@@ -1,42 +1,20 @@
 -- That runs and the rest are a set's cut, and that canonical parts are just the cuts.
-use Rattle.std.proofs.Common.{◌≡◌, ℕ, suc, zero, ◌+◌, ◌<◌, ◌≤◌, Bool, true, false, ◌||◌, ◌&&◌, cond, leb, ltb, List, [], ◌∷◌, length, get_or, refl, sym, ap, ◌∙◌, subst, arith, Some, inl, inr}
-use Rattle.std.specs.Map.{keys_of}
-use Rattle.std.specs.List.{AllByRecursion, filter, slice_get}
-use Rattle.std.specs.BTreeMap.{BTreeMap, get, IsOrdered}
-use Rattle.std.proofs.lemmas.Bool.{both_ways, or_left, or_right, or_cases, or_from, and_parts, and_from, cases_order, false_from_ne_true, ltb-true, lt-ltb, le-leb, lt-leb}
+use Rattle.std.proofs.Common.{◌≡◌, ℕ, ◌+◌, ◌<◌, ◌≤◌, Bool, true, false, ◌||◌, ◌&&◌, cond, leb, List, [], ◌∷◌, get_or, refl, sym, ap, ◌∙◌, subst, arith, inl, inr}
+use Rattle.std.specs.List.{AllByRecursion, filter}
+use Rattle.std.proofs.lemmas.Bool.{both_ways, or_left, or_right, or_cases, or_from, and_from, cases_order, false_from_ne_true, le-leb, lt-leb}
 use Rattle.std.proofs.lemmas.Cmp.{nat_list_cmp_total, tied_itself}
 use Rattle.std.proofs.lemmas.List.Elements.{recursion_from_All, All-from_recursion}
-use Rattle.std.proofs.lemmas.List.Kept.{IsStrictlySortedBy-filter}
-use Rattle.std.proofs.lemmas.Map.Entries.{btree_map_get_place}
-use Rattle.sup_specs.specs.Rising.{IsRising, among}
+use Rattle.sup_specs.specs.Rising.{among}
 use Rattle.sup_causal.specs.declared.dot.Dot.{Dot}
 use Rattle.sup_specs.specs.declared.limits.TheConstants.{MAX}
 use Rattle.sup_causal.specs.Dots.{dot_cmp, dot_eq, list_has, IsCounted}
 use Rattle.sup_specs.specs.Values.{text_cmp}
 use Rattle.sup_causal.specs.Cut.{entry, IsRun, IsVector, IsCloud, IsCanonical, in_parts}
 use Rattle.sup_causal.proofs.DotLemmas.{dot_eq-true, among_is, each_has, each_from_has}
-use Rattle.sup_causal.proofs.Sorted.{rising_from_sorted, sorted_from_rising, pairs_rise}
+use Rattle.sup_causal.proofs.Sorted.{pairs_rise}
 use Rattle.sup_causal.proofs.CutLemmas.{run_is_one, entry_found}
 
--- ---- the vector
-get_slice : {X : Type 0} (xs : List X) (i : ℕ) (d : X) → i < length xs → slice_get xs i ≡ Some (get_or xs i d)
-get_slice [] i d within = absurd (omega (arith, within))
-get_slice (x ∷ xs) zero d within = refl
-get_slice (x ∷ xs) (suc i) d within = get_slice xs i d (omega (arith, within))
-
-positive : (n : ℕ) → (n ≡ 0 → ⊥) → 1 ≤ n
-positive zero none = absurd (none refl)
-positive (suc n) none = omega arith
-
-pub vector_is : (holds : Dot → Bool) (m : BTreeMap (List ℕ) ℕ) → IsOrdered text_cmp m → ((node : List ℕ) → IsRun holds node (entry m.entries node)) → ((node : List ℕ) → ¬ (get text_cmp m node ≡ Some 0)) → IsVector holds m.entries
-vector_is holds m ordered runs none_zero = record {
-  by_name = rising_from_sorted text_cmp (keys_of m.entries) ordered;
-  runs = runs;
-  left_out = recursion_from_All (λ (e : List ℕ × ℕ). 1 ≤ e.1) m.entries (λ k d within. positive _ (λ none. none_zero (get_or m.entries k d).0 (
-      btree_map_get_place nat_list_cmp_total m k (get_or m.entries k d).0 (get_or m.entries k d).1 ordered (get_slice m.entries k d within) ∙ ap Some none)));
-}
-
--- ---- the cloud
+-- ---- those that pass a test
 pub has-filter : (p : Dot → Bool) (xs : List Dot) (d : Dot) → list_has (filter p xs) d ≡ (list_has xs d && p d)
 has-filter p [] d = refl
 has-filter p (x ∷ xs) d = turn (p x) refl (dot_eq x d) refl (has-filter p xs d)
@@ -53,21 +31,6 @@ has-filter p (x ∷ xs) d = turn (p x) refl (dot_eq x d) refl (has-filter p xs d
         and-false true = refl
         and-false false = refl
     turn false h false e further = further ∙ ap (λ b. (b || list_has xs d) && p d) (sym e)
-
-pub cloud_is : (xs : List Dot) → IsRising dot_cmp xs → (entries : List (List ℕ × ℕ)) → ((node : List ℕ) → IsRun (list_has xs) node (entry entries node)) → IsCloud (list_has xs) (filter (λ d. ltb (entry entries d.node) d.counter) xs)
-cloud_is xs rises entries runs = record {
-  in_order = rising_from_sorted dot_cmp (filter beyond_run xs) (IsStrictlySortedBy-filter dot_cmp beyond_run xs (sorted_from_rising dot_cmp xs rises));
-  beyond = λ d. (
-    λ there. ((both d there).0, λ n run. subst (λ m. m < d.counter) (run_is_one (list_has xs) d.node (entry entries d.node) n (runs d.node) run) (ltb-true (entry entries d.node) d.counter (both d there).1)),
-    λ h. sym (among_is (filter beyond_run xs) d) ∙ has-filter beyond_run xs d ∙ and_from (list_has xs d) (beyond_run d) h.0 (lt-ltb (entry entries d.node) d.counter (h.1 (entry entries d.node) (runs d.node))),
-  );
-}
-  where
-    beyond_run : Dot → Bool
-    beyond_run d = ltb (entry entries d.node) d.counter
-
-    both : (d : Dot) → among dot_cmp (filter beyond_run xs) d ≡ true → (list_has xs d ≡ true) × (beyond_run d ≡ true)
-    both d there = and_parts (list_has xs d) (beyond_run d) (sym (has-filter beyond_run xs d) ∙ among_is (filter beyond_run xs) d ∙ there)
 
 -- ---- canonical parts are the cut of what they have
 module _ (holds : Dot → Bool) (vector : List (List ℕ × ℕ)) (cloud : List Dot) (canonical : IsCanonical vector cloud) (same : (d : Dot) → holds d ≡ in_parts vector cloud d) where

@@ -12,10 +12,10 @@ use Rattle.std.proofs.Common.{subst, Result, Ok, Err, inl, inr, is_ok}
 use Rattle.std.specs.List.Sorted.{IsSearchInRange, IsBinarySearchResult}
 use Rattle.std.proofs.lemmas.Bool.{cases_lt, cases_order}
 use Rattle.sup_specs.specs.Rising.{IsRising, among}
-use Rattle.sup_causal.proofs.Rising.{searched, rising_insert, each_insert, rising_at}
+use Rattle.sup_causal.proofs.Rising.{searched, rising_at}
 use Rattle.sup_causal.proofs.Union.{union, any_union}
 use Rattle.sup_causal.specs.DotLaws.{dot_total, dot_exact}
-use Rattle.sup_causal.specs.Dots.{dot_cmp, dot_eq, list_has, IsKept, IsCounted, IsGreatest}
+use Rattle.sup_causal.specs.Dots.{dot_cmp, dot_eq, list_has, IsCounted, IsGreatest}
 use Rattle.sup_specs.specs.declared.limits.TheConstants.{MAX}
 use Rattle.std.specs.List.{list_any}
 use mathlib.Core.Bool.{false≢true}
@@ -82,11 +82,6 @@ search_has xs s d (Err i) within parted =
     ])))
 
 -- a context with one dot more at its gap
-pub kept_insert : (xs : List Dot) (d : Dot) (i : ℕ) → IsKept xs → IsCounted d → IsSearchInRange (Err i) (length xs) → IsBinarySearchResult (λ y. dot_cmp y d) xs (Err i) → IsKept (insert xs i d)
-kept_insert xs d i kept counted within parted =
-    let gap = searched dot_total xs kept.rising d (Err i) within parted in
-    record { rising = rising_insert dot_total xs i d kept.rising gap.1 gap.2; counted = each_insert IsCounted xs i d kept.counted counted }
-
 again : (xs : List Dot) (y d : Dot) → list_has xs y ≡ true → (b : Bool) → dot_eq y d ≡ b → list_has xs d ≡ (b || list_has xs d)
 again xs y d there true e = ap (list_has xs) (sym (dot_eq-true y d e)) ∙ there
 again xs y d there false e = refl
@@ -118,9 +113,6 @@ pub both_ways : (b : Bool) → b ≡ true → b ≡ false → ⊥
 both_ways b e f = cc
 
 -- dots that a context has are counted
-pub counted_from_has : (xs : List Dot) → AllByRecursion IsCounted xs → (d : Dot) → list_has xs d ≡ true → IsCounted d
-counted_from_has xs all d there = each_has IsCounted xs all d there
-
 or_within : (a b : Bool) → (a ≡ true → b ≡ true) → (a || b) ≡ b
 or_within true b h = sym (h refl)
 or_within false b h = refl

@@ -3,11 +3,10 @@ pub mod DotLemmas
 pub mod Merges
 pub mod Walk
 pub mod Union
-pub mod Inclusion
 pub mod Sorted
 pub mod CutLemmas
 pub mod CutLaws
-pub mod InPlace
+pub mod Filters
 pub mod GreatestLaws
 pub mod Versions
 pub mod Cuts

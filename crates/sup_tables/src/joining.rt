@@ -71,13 +71,13 @@ impl Lattice for Tables {
     }
 }
 
-// A join is made in place where the other tables know at most an eighth as many dots.
+// A join is made in place where the other tables know at most an eighth as many dots as these have rows.
 const SMALL: usize = 8;
 
 impl Tables {
     // Whether a join with the other tables costs less in place than by a merge, which copies all rows.
     fn is_small_beside(&self, other: &Tables) -> bool {
-        self.context().len() <= other.context().len() / SMALL
+        self.context().has_at_most(other.row_count() / SMALL)
     }
 
     // Becomes the join of both, in place where that costs less.

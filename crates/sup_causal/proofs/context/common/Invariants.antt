@@ -1,4 +1,4 @@
-use Rattle.std.proofs.Common.{◌≡◌, take, not}
+use Rattle.std.proofs.Common.{◌≡◌, take}
 use Rattle.std.specs.List.{filter}
 use Rattle.sup_causal.specs.Dots.{has}
 use Rattle.sup_causal.proofs.context.common.Given as goal

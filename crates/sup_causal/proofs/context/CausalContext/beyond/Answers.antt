@@ -6,7 +6,7 @@ use Rattle.sup_causal.specs.Dots.{has, list_has, dot_cmp, IsKept}
 use Rattle.sup_causal.proofs.Sorted.{pairs_rise}
 use Rattle.sup_causal.proofs.CutLemmas.{in_runs_is}
 use Rattle.sup_causal.proofs.CutLaws.{has-filter}
-use Rattle.sup_causal.proofs.InPlace.{kept_filter}
+use Rattle.sup_causal.proofs.Filters.{kept_filter}
 use Rattle.sup_causal.proofs.DotLemmas.{among_is}
 use Rattle.sup_causal.specs.Parts.{in_vector}
 use Rattle.sup_causal.proofs.Views.{has_kept, cloud_kept}

@@ -4,7 +4,7 @@ use Rattle.sup_causal.specs.Cut.{in_parts}
 use Rattle.sup_causal.specs.Dots.{has, list_has, dot_cmp}
 use Rattle.sup_causal.proofs.DotLemmas.{among_is}
 use Rattle.sup_causal.proofs.CutLaws.{has-filter}
-use Rattle.sup_causal.proofs.InPlace.{rising_filter}
+use Rattle.sup_causal.proofs.Filters.{rising_filter}
 use Rattle.sup_causal.proofs.Views.{has_kept}
 use Rattle.sup_causal.proofs.context.CausalContext.shared.Goals as goal
 

@@ -1,8 +1,7 @@
 //! Values of the tests, told by texts and numbers. These calls promise nothing: a test knows no more than what it sees
 //! when it runs. They end it where there is no such value, or where a call of the crates fails.
 use std::process::Abort;
-use sup_causal::{Dot, Lattice, PartsFault};
-use sup_cut_context::CutContext;
+use sup_causal::{CausalContext, Dot, Lattice, PartsFault};
 use sup_specs::NodeName;
 
 /// Counters of nodes, told by name.
@@ -43,22 +42,22 @@ pub(crate) fn cut(
     rt: &(impl Abort + AllocGlobal),
     vector: Counters<'_>,
     cloud: Counters<'_>,
-) -> Result<CutContext, PartsFault> {
-    CutContext::from_parts(rt.alloc(), &entries(rt, vector), &dots(rt, cloud))
+) -> Result<CausalContext, PartsFault> {
+    CausalContext::from_parts(rt.alloc(), &entries(rt, vector), &dots(rt, cloud))
 }
 
 pub(crate) fn context(
     rt: &(impl Abort + AllocGlobal),
     vector: Counters<'_>,
     cloud: Counters<'_>,
-) -> CutContext {
+) -> CausalContext {
     cut(rt, vector, cloud).expect(rt, "a cut")
 }
 
 /// Expects a context to be cut into these parts.
 pub(crate) fn expect_cut(
     rt: &(impl Abort + AllocGlobal),
-    context: &CutContext,
+    context: &CausalContext,
     vector: Counters<'_>,
     cloud: Counters<'_>,
 ) {
@@ -72,7 +71,7 @@ pub(crate) fn joined<L: Lattice>(rt: &(impl Abort + AllocGlobal), left: &L, righ
     left.joined(rt.alloc(), right).expect(rt, "room")
 }
 
-pub(crate) fn add(rt: &impl Abort, context: &mut CutContext, name: &str, counter: u64) {
+pub(crate) fn add(rt: &impl Abort, context: &mut CausalContext, name: &str, counter: u64) {
     let dot = dot(rt, name, counter);
     assert!(rt; dot.is_counted());
     context.insert(dot).expect(rt, "room");

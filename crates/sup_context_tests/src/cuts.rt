@@ -1,15 +1,14 @@
 //! Contexts at values that were worked out by hand.
 use crate::given::{Counters, add, context, cut, dot, dots, expect_cut, joined, node};
 use std::process::Abort;
-use sup_causal::{Lattice, PartsFault};
-use sup_cut_context::CutContext;
+use sup_causal::{CausalContext, Lattice, PartsFault};
 use sup_specs::MAX;
 
-fn left(rt: &(impl Abort + AllocGlobal)) -> CutContext {
+fn left(rt: &(impl Abort + AllocGlobal)) -> CausalContext {
     context(rt, &[("a", 2)], &[("b", 2), ("a", 5)])
 }
 
-fn right(rt: &(impl Abort + AllocGlobal)) -> CutContext {
+fn right(rt: &(impl Abort + AllocGlobal)) -> CausalContext {
     context(rt, &[("a", 1), ("b", 1)], &[("a", 4)])
 }
 
@@ -69,7 +68,7 @@ fn a_gap_is_left_and_closed(rt: HostRuntime) {
             .iter()
             .all(|dot| 1 <= dot.counter && dot.counter <= MAX)
     );
-    let mut known = CutContext::of_dots(rt.alloc(), &found).expect(&rt, "room");
+    let mut known = CausalContext::of_dots(rt.alloc(), &found).expect(&rt, "room");
     expect_cut(&rt, &known, &[("a", 1)], &[("a", 3)]);
     assert!(rt; known.contains(&dot(&rt, "a", 3)) && !known.contains(&dot(&rt, "a", 2)));
     assert!(rt; known.greatest(&node(&rt, "a")) == 3);
@@ -87,7 +86,7 @@ fn a_dot_beyond_a_gap_is_not_below(rt: HostRuntime) {
     let far = context(&rt, &[], &[("a", 3)]);
     let near = context(&rt, &[("a", 2)], &[]);
     assert!(rt; !far.leq(&near) && !near.leq(&far));
-    assert!(rt; CutContext::empty(rt.alloc()).leq(&far));
+    assert!(rt; CausalContext::empty(rt.alloc()).leq(&far));
 }
 
 #[test]

@@ -3,6 +3,6 @@
 #![tactic(auto)]
 
 #[cfg(test)]
-mod contexts;
+mod cuts;
 #[cfg(test)]
 mod given;

@@ -1,4 +1,0 @@
-pub mod Versions
-pub mod Cuts
-pub mod Views
-pub mod Within
