@@ -57,7 +57,7 @@ fn of_dots(rt: &(impl Abort + AllocGlobal), counters: Counters<'_>) -> CausalCon
 fn a_list_of_dots_may_stand_in_any_order_and_repeat(rt: HostRuntime) {
     let known = of_dots(&rt, &[("b", 3), ("a", 2), ("b", 1), ("b", 2), ("a", 2)]);
     expect_cut(&rt, &known, &[("b", 3)], &[("a", 2)]);
-    assert!(rt; known.len() == 4);
+    assert!(rt; known.has_at_most(4) && !known.has_at_most(3));
 }
 
 // Expects the greatest counter of a node, and that of its next dot, if there is one.
@@ -110,12 +110,6 @@ fn parts_that_are_not_canonical_are_refused(rt: HostRuntime) {
     for (vector, cloud) in cases {
         assert!(rt; cut(&rt, vector, cloud).err() == Some(PartsFault::NotCanonical));
     }
-}
-
-// No memory holds so many dots: they are refused at once, and not after many were written.
-#[test]
-fn the_greatest_entry_is_refused_for_memory(rt: HostRuntime) {
-    assert!(rt; cut(&rt, &[("a", MAX)], &[]).err() == Some(PartsFault::OutOfMemory));
 }
 
 // Expects the join of two contexts, each told by its parts, to have these parts, made anew or in place.

@@ -1,15 +1,15 @@
 //! Joins in place beside joins by a merge: the plain way and the quick one give the same tables. `joined` is a merge.
-//! `join_from` goes in place where the other tables know at most an eighth as many dots.
+//! `join_from` goes in place where the other tables know at most an eighth as many dots as these have rows.
 use crate::acts::{absorb, copy, delete, empty, join, merged, register, replace, start};
 use crate::reading::tables;
 use crate::seen::{Shown, expect_same, expect_shown};
 use std::process::Abort;
 use sup_tables::Tables;
 
-// Expects that joins with other tables, which know few dots beside these, give what merges give: the first one, which
+// Expects that joins with other tables, which know few dots beside these tables' rows, give what merges give: the first one, which
 // looks for the rows' dots, and the next one, which knows them.
 fn expect_as_merged(rt: &(impl Abort + AllocGlobal), mine: &Tables, other: &Tables) {
-    assert!(rt; other.context().len() <= mine.context().len() / 8);
+    assert!(rt; other.context().has_at_most(mine.row_count() / 8));
     let merged = merged(rt, mine, other);
     let mut joined = copy(rt, mine);
     for _ in 0..2 {
@@ -18,28 +18,47 @@ fn expect_as_merged(rt: &(impl Abort + AllocGlobal), mine: &Tables, other: &Tabl
     }
 }
 
-// What `many` shows.
-const MANY: [Shown<'static>; 5] = [
-    ("member", "many", "many", 27, "zone"),
-    ("child", "w", "many", 23, "one"),
-    ("child", "y", "many", 24, "two"),
-    ("loser", "y", "many", 25, "three"),
-    ("name", "m", "many", 26, "w"),
+// The last rows of what `many` shows.
+const LAST: [Shown<'static>; 4] = [
+    ("child", "w", "many", 24, "one"),
+    ("child", "y", "many", 25, "two"),
+    ("loser", "y", "many", 26, "three"),
+    ("name", "m", "many", 27, "w"),
 ];
 
-// Tables that know 27 dots, beside which a short story is small: a winner in each table, a loser, and what was removed.
+// What `many` shows, and further rows behind it.
+fn shown_many(rt: &(impl Abort + AllocGlobal), further: &[Shown<'static>]) -> Vec<Shown<'static>> {
+    let mut shown = Vec::new(rt.alloc());
+    shown
+        .push(("member", "many", "many", 28, "zone"))
+        .expect(rt, "room");
+    shown
+        .push(("child", "p", "many", 2, "one"))
+        .expect(rt, "room");
+    for counter in 3..24 {
+        shown
+            .push(("loser", "p", "many", counter, "one"))
+            .expect(rt, "room");
+    }
+    shown.extend_from_slice(&LAST).expect(rt, "room");
+    shown.extend_from_slice(further).expect(rt, "room");
+    shown
+}
+
+// Tables with 27 rows, beside which a short story is small: winners in each table, losers, and what was removed.
 fn many(rt: &(impl Abort + AllocGlobal)) -> Tables {
     let mut many = empty(rt);
-    for _ in 0..22 {
-        start(rt, &mut many, "many", "w", "one");
-    }
+    start(rt, &mut many, "many", "w", "one");
     drop(delete(rt, &mut many, "w"));
+    for _ in 0..22 {
+        start(rt, &mut many, "many", "p", "one");
+    }
     for (id, kind) in [("w", "one"), ("y", "two"), ("y", "three")] {
         start(rt, &mut many, "many", id, kind);
     }
     register(rt, &mut many, "many", "m", "w");
     join(rt, &mut many, "many", "zone");
-    expect_shown(rt, &many, &MANY);
+    expect_shown(rt, &many, &shown_many(rt, &[]));
     many
 }
 
@@ -67,7 +86,7 @@ fn after(rt: &(impl Abort + AllocGlobal), story: u32) -> (Tables, Tables) {
     (a, b)
 }
 
-// Expects two tables to be taken in alike by ones that know many dots beside, the two's own among them.
+// Expects two tables to be taken in alike by ones that have many rows beside, the two's own among them.
 fn expect_alike(rt: &(impl Abort + AllocGlobal), many: &Tables, a: &Tables, b: &Tables) {
     let more_than_a = merged(rt, a, many);
     expect_as_merged(rt, &more_than_a, b);
@@ -90,16 +109,14 @@ fn with_name(rt: &(impl Abort + AllocGlobal), id: &str) -> Tables {
     tables(rt, &[("a", 1)], &[("name", "n", "a", 1, id)])
 }
 
-// Expects that tables with one name, for the first child, and many dots beside show it for child a once the other name
+// Expects that tables with one name, for the first child, and many rows beside show it for child a once the other name
 // has come.
 fn expect_a_stays(rt: &(impl Abort + AllocGlobal), first: &str, other: &str) {
     let mut mine = merged(rt, &with_name(rt, first), &many(rt));
     let other = with_name(rt, other);
     expect_as_merged(rt, &mine, &other);
     absorb(rt, &mut mine, &other);
-    let [member, w, y, lost, name] = MANY;
-    let named = ("name", "n", "a", 1, "a");
-    expect_shown(rt, &mine, &[member, w, y, lost, name, named]);
+    expect_shown(rt, &mine, &shown_many(rt, &[("name", "n", "a", 1, "a")]));
 }
 
 // Of two children for one name under one dot, which no run makes, the lesser stays, whichever comes first.
@@ -116,7 +133,7 @@ fn a_dot_under_two_keys_comes_in_as_by_a_merge(rt: HostRuntime) {
     let twice = tables(&rt, &[("a", 1)], &rows);
     expect_as_merged(&rt, &many, &twice);
     absorb(&rt, &mut many, &twice);
-    assert!(rt; many.row_count() == 7);
+    assert!(rt; many.row_count() == 29);
     expect_as_merged(&rt, &many, &twice);
     expect_as_merged(&rt, &many, &empty(&rt));
 }

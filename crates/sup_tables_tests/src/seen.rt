@@ -142,7 +142,7 @@ pub(crate) fn expect_more(rt: &impl Abort, more: &Tables, less: &Tables) {
 // Expects two tables to know and to show the same.
 pub(crate) fn expect_same(rt: &(impl Abort + AllocGlobal), left: &Tables, right: &Tables) {
     assert!(rt; left.leq(right) && right.leq(left));
-    assert!(rt; left.context().len() == right.context().len());
+    assert!(rt; left.context().leq(right.context()) && right.context().leq(left.context()));
     let rows = rows_of(rt, right);
     expect_rows(rt, left, &shown_rows(rt, &rows));
 }
