@@ -3,7 +3,7 @@
 ghost use Rattle.std.specs.Prelude.{◌≡◌, Option, None, IfOk, OnOk};
 ghost use Rattle.std.specs.Option.{option_copied};
 ghost use Rattle.std.specs.BTreeMap.{get, IsOrdered};
-ghost use Rattle.sup_causal.specs.Merge.{IsMergeAt, PutsMerge};
+ghost use Rattle.sup_causal.specs.Merge.{IsMergeAt, PutsMerge, last_at};
 
 mod peeked;
 pub(crate) mod walk;
@@ -44,14 +44,28 @@ pub fn merge_maps<K: Plain, V: Drop, M: Merge<K, V>>(
     ensures merged { IfOk result (λ out. (q : K) → IsMergeAt (M.gives by.now q) (get K.cmp left.now q) (get K.cmp right.now q) (get K.cmp out q)) }
     ensures ordered { IfOk result (IsOrdered K.cmp) }
 {
-    let mut out = BTreeMap::new(alloc);
+    let pairs = merged_pairs(alloc, left, right, by)?;
+    let out = pairs.into_iter().collect(alloc)?;
+    Ok(out)
+}
+
+// The keys that the merge has, in their order, each with its value: of such a list a map is built in one pass, in full nodes.
+fn merged_pairs<K: Plain, V: Drop, M: Merge<K, V>>(
+    alloc: Global,
+    left: &BTreeMap<K, V>,
+    right: &BTreeMap<K, V>,
+    by: &M,
+) -> Result<Vec<(K, V)>, AllocError>
+    requires { (q : K) → M.can_merge by.now q (get K.cmp left.now q) (get K.cmp right.now q) }
+    ensures { IfOk result (λ pairs. (q : K) → IsMergeAt (M.gives by.now q) (get K.cmp left.now q) (get K.cmp right.now q) (last_at K.cmp pairs.items q)) }
+{
+    let room = left.len().saturating_add(right.len());
+    let mut pairs = Vec::with_capacity(alloc, room)?;
     for (key, left_value, right_value) in KeyByKey::new(left, right) {
         let merged = by.merge(alloc, key, left_value, right_value)?;
-        put_merge(alloc, &mut out, key, merged)?;
+        push_merge(alloc, &mut pairs, key, merged)?;
     }
-    // For its clause alone, as a map is not told to be in order by its puts.
-    keys_rise(&out);
-    Ok(out)
+    Ok(pairs)
 }
 
 /// The keys of a map rise.
@@ -61,18 +75,18 @@ pub fn keys_rise<K: Ord, V>(map: &BTreeMap<K, V>)
     let _count = map.len();
 }
 
-// Puts what the merge has at a key that is not there yet.
-fn put_merge<K: Plain, V: Drop>(
+// Pushes what the merge has at a key that is not there yet.
+fn push_merge<K: Plain, V: Drop>(
     alloc: Global,
-    out: &mut BTreeMap<K, V>,
+    pairs: &mut Vec<(K, V)>,
     key: &K,
     merged: Option<V>,
 ) -> Result<(), AllocError>
-    requires { get K.cmp out.old key.now ≡ None }
-    ensures { OnOk result (PutsMerge K.cmp key.now merged out.old out.new) }
+    requires { last_at K.cmp pairs.old.items key.now ≡ None }
+    ensures { OnOk result (PutsMerge K.cmp key.now merged pairs.old.items pairs.new.items) }
 {
     if let Some(value) = merged {
-        out.insert(key.try_clone(alloc)?, value)?;
+        pairs.push((key.try_clone(alloc)?, value))?;
     }
     Ok(())
 }
