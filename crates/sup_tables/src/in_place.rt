@@ -53,34 +53,8 @@ impl From<NotPut> for NotJoined {
     }
 }
 
-impl Tables {
-    // The tables with what others know, changed in place. An `Err` gives the tables as they were.
-    pub(crate) fn joined_in_place(
-        self,
-        alloc: Global,
-        other: &Tables,
-    ) -> (Tables, Result<(), NotJoined>)
-        ensures knowledge { OnOk result.1 (knowledge result.0 ≡ together (knowledge self) (knowledge other.now)) }
-        ensures err { OnErr result.1 (result.0 ≡ self) }
-    {
-        let Tables {
-            state,
-            count,
-            index,
-            alloc: own,
-        } = self;
-        match index {
-            Some(index) => {
-                let (opened, context) = opened_state(state, count, index);
-                joined_with(alloc, own, opened, context, other)
-            }
-            None => (unindexed(own, state, count), Err(NotJoined::ByMerge)),
-        }
-    }
-}
-
 // The tables of a state, without an index.
-fn unindexed(alloc: Global, state: Causal<Stores>, count: usize) -> Tables
+pub(crate) fn unindexed(alloc: Global, state: Causal<Stores>, count: usize) -> Tables
     requires { count ≡ count_stored (stored_in (store_of state)) }
     ensures { result ≡ state_of (context_of state) (stored_in (store_of state)) }
 {
@@ -94,7 +68,11 @@ fn unindexed(alloc: Global, state: Causal<Stores>, count: usize) -> Tables
 
 // The rows of a state, open to change, and the context that covers them. The count is asked for because it says that the
 // rows can be counted.
-fn opened_state(state: Causal<Stores>, _count: usize, index: Index) -> (Opened, CausalContext)
+pub(crate) fn opened_state(
+    state: Causal<Stores>,
+    _count: usize,
+    index: Index,
+) -> (Opened, CausalContext)
     requires members { IsIndex text_cmp (stores_of (store_of state).first) index.members }
     requires children { IsIndex text_cmp (stores_of (store_of state).second.first) index.children }
     requires names { IsIndex text_cmp (stores_of (store_of state).second.second) index.names }
@@ -109,7 +87,7 @@ fn opened_state(state: Causal<Stores>, _count: usize, index: Index) -> (Opened, 
 }
 
 // The tables of rows and a context with what others know. An `Err` gives the tables of the rows and the context.
-fn joined_with(
+pub(crate) fn joined_with(
     alloc: Global,
     own: Global,
     mut opened: Opened,

@@ -1,13 +1,14 @@
 //! The three tables under one context.
-ghost use Rattle.std.specs.Prelude.{◌≡◌, [], length, IfSome};
+ghost use Rattle.std.specs.Prelude.{◌≡◌, [], length, IfSome, OnOk, OnErr};
 ghost use Rattle.sup_specs.specs.Values.{text_cmp};
 ghost use Rattle.std.proofs.Props.{props};
 ghost use Rattle.sup_tables.specs.Stored.{AreCovered, stored, stored_in, count_stored, state_of};
 ghost use Rattle.sup_dot_store.specs.Contents.{stores_of, store_of, context_of};
 ghost use Rattle.sup_dot_store.specs.Index.{IsIndex};
-ghost use Rattle.sup_tables.specs.States.{StandsFor, IsKept};
+ghost use Rattle.sup_tables.specs.States.{StandsFor, IsKept, knowledge, together};
 ghost use Rattle.sup_tables.specs.Joined.{IsTables, no_state};
 
+use crate::in_place::{NotJoined, joined_with, opened_state, unindexed};
 use crate::index::Index;
 use std::alloc::Global;
 use std::marker::Model;
@@ -28,7 +29,6 @@ pub(crate) type Stores = Both<Members, Both<Children, Names>>;
 
 /// What a node knows of members, children and names. A contract sees it as its context, by the test `has`, and its
 /// rows, by table, key and dot.
-#[derive(Drop)]
 pub struct Tables {
     pub(crate) state: Causal<Stores>,
     // How many rows there are, so that nobody has to count them.
@@ -38,6 +38,18 @@ pub struct Tables {
     pub(crate) alloc: Global,
     pub ghost counted: { count ≡ count_stored (stored_in (store_of state)) },
     pub ghost indexed: { IfSome index (λ i. IsIndex text_cmp (stores_of (store_of state).first) i.members × (IsIndex text_cmp (stores_of (store_of state).second.first) i.children × IsIndex text_cmp (stores_of (store_of state).second.second) i.names)) } by { Prim.hlevel props },
+}
+
+// By hand, so that it is proved once: a derived one is proved anew in each crate that lets tables go.
+impl Drop for Tables {
+    fn drop(self) {
+        let Tables {
+            state: _,
+            count: _,
+            index: _,
+            alloc: _,
+        } = self;
+    }
 }
 
 impl Model for Tables {
@@ -90,6 +102,30 @@ impl Tables {
         ensures covered { AreCovered self.now.context (stored_in result.now) }
     {
         store_in(&self.state)
+    }
+
+    // The tables with what others know, changed in place. An `Err` gives the tables as they were.
+    pub(crate) fn joined_in_place(
+        self,
+        alloc: Global,
+        other: &Tables,
+    ) -> (Tables, Result<(), NotJoined>)
+        ensures knowledge { OnOk result.1 (knowledge result.0 ≡ together (knowledge self) (knowledge other.now)) }
+        ensures err { OnErr result.1 (result.0 ≡ self) }
+    {
+        let Tables {
+            state,
+            count,
+            index,
+            alloc: own,
+        } = self;
+        match index {
+            Some(index) => {
+                let (opened, context) = opened_state(state, count, index);
+                joined_with(alloc, own, opened, context, other)
+            }
+            None => (unindexed(own, state, count), Err(NotJoined::ByMerge)),
+        }
     }
 
     /// How many rows there are, losers among them.
