@@ -52,11 +52,11 @@ apart_longer vs id n v w at own rises apart i j p a b at_i at_j in_a in_b = ⊎_
     (at_set vs id i w a at_i)
 
 module _ {H : Type 0} where
-  abbrev held_or : H → P.Option H → H
+  abbrev pub held_or : H → P.Option H → H
   held_or d (Some h) = h
   held_or d None = d
 
-  abbrev slot_or : H → List (ℕ × P.Option H) → H
+  abbrev pub slot_or : H → List (ℕ × P.Option H) → H
   slot_or d [] = d
   slot_or d (x ∷ xs) = held_or d x.1
 

@@ -18,7 +18,8 @@ use Rattle.sup_node_gate.specs.Parts.{still_in, still_at, IsLike}
 use Rattle.sup_node_gate.specs.Views.{Rises, calls_of, taking, raising, freeing, looking, joining}
 use Rattle.sup_node_gate.specs.Holdings.{Adds}
 use Rattle.sup_node_gate.specs.Rule.{IsSeenAt, IsTurnTaken}
-use Rattle.sup_node_gate.specs.Calls.{Enters, KeepsOwn, IsFull, Refuses, Acts, Joined, IsIdle}
+use Rattle.sup_node_gate.specs.Calls.{Enters, KeepsOwn, IsFull, Refuses, Acts, Joined, MayAct, IsIdle}
+use Rattle.sup_node_gate.proofs.Keeps.{slot_or}
 use Rattle.sup_node_gate.proofs.Lists.{replays_one, rises_one, entries_more}
 
 pub enters_acts : (g : Weigher) (s : Still) (bound : ℕ) (v : View) (a : Act) (now : ℕ) (r : Answer) (v' : View) → IsEntered r → Enters g s v (entry a now r) v' → Acts g s bound v a now r v'
@@ -53,19 +54,21 @@ looked_keeps g start v h opens seen = record { begins = seen.0; replays = (still
 pub looked_joins : (g : Weigher) (start : Parts) (v u : View) (h : Holding) → v.opening ≡ Some start → IsSeenAt g (joining v u) h → Joined g (still_in start) v u (looking (joining v u) h.history)
 looked_joins g start v u h opens seen = record { begins = seen.0; others = seen.1; replays = (still_at h, seen.3 start opens); places = refl; rises = seen.2; tries = refl }
 
-abbrev value_or : {A : Type 0} → A → List (ℕ × A) → A
-value_or d [] = d
-value_or d (x ∷ xs) = x.1
+module _ {H : Type 0} where
+  -- the turn is taken, and the slot with it
+  pub turn_taken : (sight : H → Holding) (g : Weigher) (m m' : Me (P.Option H) View) (held : Holding) (h : H) → IsSeenAt g m.0 held → sight h ≡ held → m' ≡ (taking m.0 held, (0, Some h) ∷ m.1) → m.1 ≡ []
+      → IsTurnTaken sight g m m'
+  turn_taken sight g m m' held h seen same took empty = let all = took ∙ ap (λ (l : List (ℕ × P.Option H)). (taking m.0 held, (0, Some h) ∷ l)) empty in
+      let taken = subst (λ (x : Holding). IsSeenAt g m.0 x × (m' ≡ (taking m.0 x, (0, Some h) ∷ []))) (sym same) (seen, all) in (h, taken.0, taken.1)
 
--- the turn is taken, and then the slot
-pub turn_taken : {H : Type 0} (sight : H → Holding) (g : Weigher) (m m1 m2 : Me (P.Option H) View) (held : Holding) (h : H) (r : P.Option H)
-    → IsSeenAt g m.0 held → sight h ≡ held → m1 ≡ (taking m.0 held, (0, Some h) ∷ m.1) → m.1 ≡ [] → m1.1 ≡ (0, r) ∷ rest m1.1 → m2 ≡ (m1.0, (0, None) ∷ rest m1.1)
-    → (r ≡ Some h) × IsTurnTaken sight g m h m2
-turn_taken {H = H} sight g m m1 m2 held h r seen same took empty out after =
-    let none : P.Option H = None in let all = after ∙ (ap (λ (x : Me (P.Option H) View). (x.0, (0, none) ∷ rest x.1)) took ∙ ap (λ (l : List (ℕ × P.Option H)). (taking m.0 held, (0, none) ∷ l)) empty) in (
-      ap (value_or (Some h)) (sym out ∙ ap (λ (x : Me (P.Option H) View). x.1) took),
-      subst (λ (x : Holding). IsSeenAt g m.0 x × (m2 ≡ (taking m.0 x, (0, none) ∷ []))) (sym same) (seen, all),
-    )
+  -- a pass that took the turn may act
+  pub may_act : (sight : H → Holding) (g : Weigher) (opening : Parts) (m m' : Me (P.Option H) View) → IsTurnTaken sight g m m' → m.0.told ≡ [] → m.0.opening ≡ Some opening → Rises 0 m.0.own (length m.0.seen)
+      → MayAct sight g opening m'
+  may_act sight g opening m m' t told opens placed = subst (λ (x : Me (P.Option H) View). MayAct sight g opening x) (sym t.2) (t.0, refl, refl, told, opens, t.1, placed)
+
+  -- what is lent of a slot is what the seat has there
+  pub lent_slot : (m : Me (P.Option H) View) (h : H) (lent : P.Option H) (held : H) → m.1 ≡ (0, Some h) ∷ [] → m.1 ≡ (0, lent) ∷ rest m.1 → lent ≡ Some held → held ≡ h
+  lent_slot m h lent held out there is = ap (slot_or held) ((λ i. (0, sym is i) ∷ rest m.1) ∙ (sym there ∙ out))
 
 -- once the turn is given back
 pub idle_after : {H : Type 0} (m : Me (P.Option H) View) (v w : View) → m ≡ (freeing w, []) → w.told ≡ [] → Rises 0 w.own (length w.seen) → w.opening ≡ v.opening → w.tries ≡ v.tries

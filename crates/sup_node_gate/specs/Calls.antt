@@ -8,6 +8,8 @@ use Rattle.sup_replica.specs.declared.event.Act.{Act}
 use Rattle.sup_station.specs.Stills.{Still}
 use Rattle.sup_node_gate.specs.declared.entry.Entry.{Entry}
 use Rattle.sup_node_gate.specs.Histories.{Answer, Standing, full, no_room, entered, standing_of, Replays, IsHistory, IsPrefix, entry}
+use Rattle.sup_node_gate.specs.declared.held.Made.{Made}
+use Rattle.sup_node_gate.specs.Holdings.{IsMade}
 use Rattle.sup_node_gate.specs.declared.view.Holding.{Holding}
 use Rattle.sup_node_gate.specs.declared.view.Parts.{Parts}
 use Rattle.sup_node_gate.specs.declared.view.View.{View}
@@ -67,9 +69,17 @@ pub record Joined (g : Weigher) (opening : Still) (v u v' : View) : Type 0 where
   pub tries : v'.tries ≡ v.tries
 
 module _ {H : Type 0} where
-  -- the seat has the turn, and took h out
-  abbrev pub MayAct : (H → Holding) → Weigher → Parts → Me (P.Option H) View → H → Type 0
-  MayAct sight g opening m h = (m.0.turn ≡ Some (sight h)) × (m.1 ≡ (0, None) ∷ []) × (m.0.told ≡ []) × (m.0.opening ≡ Some opening) × IsSeenAt g m.0 (sight h) × Rises 0 m.0.own (length m.0.seen)
+  -- the seat has the slot, in which a station lies
+  abbrev pub HasSlot : Me (P.Option H) View → Type 0
+  HasSlot m = (h : H) × (m.1 ≡ (0, Some h) ∷ [])
+
+  -- what lies in the slot has made the act
+  abbrev pub IsMadeAt : (H → Holding) → Weigher → Me (P.Option H) View → Act → ℕ → ℕ → Made → Me (P.Option H) View → Type 0
+  IsMadeAt sight g m act now bound made m' = (h : H) → m.1 ≡ (0, Some h) ∷ [] → (h' : H) × (m' ≡ (m.0, (0, Some h') ∷ [])) × IsMade g (sight h) act now bound made (sight h')
+
+  -- the seat has the turn, and the slot
+  abbrev pub MayAct : (H → Holding) → Weigher → Parts → Me (P.Option H) View → Type 0
+  MayAct sight g opening m = (h : H) × (m.0.turn ≡ Some (sight h)) × (m.1 ≡ (0, Some h) ∷ []) × (m.0.told ≡ []) × (m.0.opening ≡ Some opening) × IsSeenAt g m.0 (sight h) × Rises 0 m.0.own (length m.0.seen)
 
   abbrev pub IsIdle : Me (P.Option H) View → Type 0
   IsIdle m = (is_some m.0.turn ≡ false) × (m.0.told ≡ []) × (m.1 ≡ []) × Rises 0 m.0.own (length m.0.seen)

@@ -63,7 +63,7 @@ module _ {H : Type 0} where
   took sight g st m found m' = (held : Holding) × IsSeenAt g m.0 held
       × (found ≡ 0 → (h : H) × (sight h ≡ held) × (m' ≡ (taking m.0 held, (0, Some h) ∷ m.1))) × (found ≢ 0 → m' ≡ (losing m.0 held, m.1))
 
-  -- what was put in is counted
+  -- the entry that was made is counted
   abbrev pub raises : (H → Holding) → Me (P.Option H) View → Me (P.Option H) View → Type 0
   raises sight m m' = (held : Holding) (h : H) → m.0.turn ≡ Some held → m.1 ≡ (0, Some h) ∷ [] → m' ≡ (raising m.0 (length held.history) (sight h), m.1)
 
@@ -80,9 +80,9 @@ module _ {H : Type 0} where
   abbrev pub looked : Weigher → Step (P.Option H) → Me (P.Option H) View → ℕ → Me (P.Option H) View → Type 0
   looked g st m found m' = looks g m found m'
 
-  -- the seat has the turn, and has taken h out
-  abbrev pub IsTurnTaken : (H → Holding) → Weigher → Me (P.Option H) View → H → Me (P.Option H) View → Type 0
-  IsTurnTaken sight g m h m' = IsSeenAt g m.0 (sight h) × (m' ≡ (taking m.0 (sight h), (0, None) ∷ []))
+  -- the seat has the turn, and the slot
+  abbrev pub IsTurnTaken : (H → Holding) → Weigher → Me (P.Option H) View → Me (P.Option H) View → Type 0
+  IsTurnTaken sight g m m' = (h : H) × IsSeenAt g m.0 (sight h) × (m' ≡ (taking m.0 (sight h), (0, Some h) ∷ []))
 
   -- another seat had it
   abbrev pub IsTurnLost : Weigher → Me (P.Option H) View → Me (P.Option H) View → Type 0

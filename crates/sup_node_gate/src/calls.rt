@@ -86,10 +86,10 @@ impl<K: Keeper, W: Weigh> NodeGate<K, W> {
         ensures answer { IfOk result (λ answer. Acts W.weight_of (opening_of K.kept self.now) (bound_of self.now) (view_of pass.old) act now answer (view_of pass.new)) }
         ensures busy { OnErr result (IsTurnedAway W.weight_of (opening_of K.kept self.now) (view_of pass.old) (view_of pass.new)) }
     {
-        match self.take_turn(&mut pass.seat) {
-            None => Err(Busy),
-            Some(held) => Ok(self.act(&mut pass.seat, held, act, now, weigher)),
+        if !self.take_turn(&mut pass.seat) {
+            return Err(Busy);
         }
+        Ok(self.act(&mut pass.seat, act, now, weigher))
     }
 
     /// One act at the moment `now`, once it has the turn, for which it may wait.
@@ -112,8 +112,8 @@ impl<K: Keeper, W: Weigh> NodeGate<K, W> {
     {
         let backoff = Backoff::new();
         for _ in rt.forever() {
-            if let Some(held) = self.take_turn(&mut pass.seat) {
-                return self.act(&mut pass.seat, held, act, now, weigher);
+            if self.take_turn(&mut pass.seat) {
+                return self.act(&mut pass.seat, act, now, weigher);
             }
             backoff.snooze();
         }

@@ -1,13 +1,13 @@
 //! The steps round an act. A seat is what a pass has; its view is what it knows.
-ghost use Rattle.std.specs.Prelude.{◌≡◌, [], ◌∷◌, None, Some, MatchOption, is_some, false};
-ghost use Rattle.sup_node_gate.specs.Calls.{MayAct, IsIdle, Acts};
+ghost use Rattle.std.specs.Prelude.{◌≡◌, [], is_some, true, false};
+ghost use Rattle.sup_node_gate.specs.Calls.{HasSlot, IsMadeAt, MayAct, IsIdle, Acts};
 ghost use Rattle.sup_node_gate.specs.Gates.{opening_of, opening_parts};
 ghost use Rattle.sup_node_gate.specs.Holdings.{holding_of};
 ghost use Rattle.sup_node_gate.specs.Rule.{IsTurnTaken, IsTurnLost, MayGiveBack, Makes, raises, looks};
 ghost use Rattle.sup_node_gate.specs.Views.{freeing};
 
 use crate::gate::NodeGate;
-use crate::held::{Held, Made};
+use crate::held::Made;
 use crate::plays::{GiveBack, Look, Raise, Take};
 use crate::rule::Place;
 use sup_keeper::Keeper;
@@ -15,31 +15,28 @@ use sup_placement::Weigh;
 use sup_replica::{Act, Done, Refusal};
 
 impl<K: Keeper, W: Weigh> NodeGate<K, W> {
-    // One try of the turn, with what lies in the slot. None where another seat has it.
-    pub(crate) fn take_turn(&self, seat: &mut Place<K, W>) -> Option<Held<K, W>>
+    // One try of the turn. The seat has the slot then.
+    pub(crate) fn take_turn(&self, seat: &mut Place<K, W>) -> bool
         requires { (seat.old.table_id ≡ self.now.table.shared.table_id) × (is_some seat.old.me.0.turn ≡ false) × (seat.old.me.1 ≡ []) }
         ensures same { seat.new.table_id ≡ seat.old.table_id }
-        ensures taken { MatchOption result
-            (IsTurnLost W.weight_of seat.old.me seat.new.me)
-            (λ h. IsTurnTaken (holding_of K.kept) W.weight_of seat.old.me h seat.new.me) }
+        ensures taken { result ≡ true → IsTurnTaken (holding_of K.kept) W.weight_of seat.old.me seat.new.me }
+        ensures lost { result ≡ false → IsTurnLost W.weight_of seat.old.me seat.new.me }
     {
-        let shared = &self.table.shared;
-        if shared.compare_exchange::<Take>(seat, 1, 0, 1) != 0 {
-            return None;
-        }
-        shared.exchange(seat, 0, None)
+        self.table.shared.compare_exchange::<Take>(seat, 1, 0, 1) == 0
     }
 
-    // Puts back what was taken out.
-    pub(crate) fn put_back(&self, seat: &mut Place<K, W>, held: Held<K, W>)
-        requires { (seat.old.table_id ≡ self.now.table.shared.table_id) × (seat.old.me.1 ≡ (0, None) ∷ []) }
-        ensures { (seat.new.table_id ≡ seat.old.table_id) × (seat.new.me ≡ (seat.old.me.0, (0, Some held) ∷ [])) }
+    // The act, by the station that lies in the slot, which the seat has. It is changed in its place.
+    fn make(&self, seat: &mut Place<K, W>, act: Act, now: u64, weigher: &W) -> Made
+        requires { (seat.old.table_id ≡ self.now.table.shared.table_id) × HasSlot seat.old.me }
+        ensures same { seat.new.table_id ≡ seat.old.table_id }
+        ensures made { IsMadeAt (holding_of K.kept) W.weight_of seat.old.me act now self.now.bound result seat.new.me }
     {
-        let empty = self.table.shared.exchange(seat, 0, Some(held));
-        let None = empty else { unreachable!() };
+        let slot = seat.slot_mut(&self.table.shared, 0);
+        let Some(held) = slot else { unreachable!() };
+        held.make(self.alloc, act, now, self.bound, weigher)
     }
 
-    // The act: the entry that was put in is counted.
+    // The entry that was made is counted.
     pub(crate) fn raise(&self, seat: &mut Place<K, W>)
         requires { (seat.old.table_id ≡ self.now.table.shared.table_id) × Makes (holding_of K.kept) W.weight_of self.now.bound seat.old.me }
         ensures { (seat.new.table_id ≡ seat.old.table_id) × raises (holding_of K.kept) seat.old.me seat.new.me }
@@ -67,21 +64,16 @@ impl<K: Keeper, W: Weigh> NodeGate<K, W> {
     pub(crate) fn act(
         &self,
         seat: &mut Place<K, W>,
-        held: Held<K, W>,
         act: Act,
         now: u64,
         weigher: &W,
     ) -> Result<Done, Refusal>
-        requires { (seat.old.table_id ≡ self.now.table.shared.table_id) × MayAct (holding_of K.kept) W.weight_of (opening_parts K.kept self.now) seat.old.me held }
+        requires { (seat.old.table_id ≡ self.now.table.shared.table_id) × MayAct (holding_of K.kept) W.weight_of (opening_parts K.kept self.now) seat.old.me }
         ensures same { seat.new.table_id ≡ seat.old.table_id }
         ensures idle { IsIdle seat.new.me × (seat.new.me.0.opening ≡ seat.old.me.0.opening) × (seat.new.me.0.tries ≡ seat.old.me.0.tries) }
         ensures answer { Acts W.weight_of (opening_of K.kept self.now) self.now.bound seat.old.me.0 act now result seat.new.me.0 }
     {
-        let mut held = held;
-        let made = held.make(self.alloc, act, now, self.bound, weigher);
-        // The slot goes back in before the count is raised, so that what is counted is there to be seen.
-        self.put_back(seat, held);
-        match made {
+        match self.make(seat, act, now, weigher) {
             Made::Entered(answer) => {
                 self.raise(seat);
                 self.give_back(seat);

@@ -1,15 +1,18 @@
-use Rattle.std.proofs.Common.{ap}
-use Rattle.sup_node_gate.specs.Gates.{view_of, opening_parts, opening_of, bound_of}
-use Rattle.sup_node_gate.proofs.Outcomes.{acts_same}
+use Rattle.std.proofs.Common.{ap, ◌∙◌}
+use Rattle.sup_node_gate.specs.Gates.{opening_parts}
+use Rattle.sup_node_gate.specs.Holdings.{holding_of}
+use Rattle.sup_node_gate.proofs.Outcomes.{may_act}
 use Rattle.sup_node_gate.proofs.gate.NodeGate.try_call.Goals as goal
 
-pub returns-in-Some-clause-answer : goal.returns-in-Some-clause-answer
-returns-in-Some-clause-answer g c = let t = c.in-Some.ensures.taken in let gate = c.args.self.now in
-    acts_same g.W.Weigh.weight_of (opening_of g.K.Keeper.kept gate) (bound_of gate) c.take_turn.new.seat.me.0 (view_of c.args.pass.now) c.args.act c.args.now c.act.result c.act.new.seat.me.0
-    (ap (λ m. m.0.seen) t.1) (ap (λ m. m.0.own) t.1) c.act.ensures.answer
+pub act-requires : goal.act-requires
+act-requires g c = let of = c.requires in let pass = c.args.pass.now in (
+  c.take_turn.ensures.same ∙ of.0,
+  may_act (holding_of {K = g.row.K.Denot} {W = g.row.W.Denot} {g = g.K.Keeper} {h = g.W.Weigh} g.K.Keeper.kept) g.W.Weigh.weight_of (opening_parts g.K.Keeper.kept c.args.self.now) pass.seat.me c.take_turn.new.seat.me
+      (c.take_turn.ensures.taken c.if-not-take_turn.false) pass.idle.1 of.1 pass.placed,
+)
 
-pub returns-in-None-clause-busy : goal.returns-in-None-clause-busy
-returns-in-None-clause-busy g c = let t = c.in-None.ensures.taken in let gate = c.args.self.now in record {
+pub returns-then-not-take_turn-clause-busy : goal.returns-then-not-take_turn-clause-busy
+returns-then-not-take_turn-clause-busy g c = let t = c.take_turn.ensures.lost c.if-not-take_turn.true in let gate = c.args.self.now in record {
   held = t.0;
   lost = ap (λ m. m.0.lost) t.2;
   begins = t.1.0;
