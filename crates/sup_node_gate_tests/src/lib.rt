@@ -11,6 +11,8 @@ mod given;
 #[cfg(test)]
 mod refused;
 #[cfg(test)]
+mod restarts;
+#[cfg(test)]
 mod shared;
 #[cfg(test)]
 mod told;
