@@ -51,6 +51,7 @@ pub trait Keeper: Drop {
         ensures leaves { OnOk result (kept self.new ≡ bytes.now) }
         ensures refused { OnErr result (kept self.new ≡ kept self.old) }
         ensures rose { result ≡ Err Failed → failures self.old < failures self.new }
+        ensures told { failures self.old < failures self.new → result ≡ Err Failed }
         ensures never_falls { failures self.old ≤ failures self.new }
         ensures by_one { failures self.new ≤ failures self.old + 1 }
         ensures uncounted { OnOk result (failures self.new ≡ failures self.old) }
@@ -67,6 +68,7 @@ pub trait Keeper: Drop {
         ensures gives { IfOk result (λ bytes. bytes.items ≡ kept self.old) }
         ensures leaves { kept self.new ≡ kept self.old }
         ensures rose { result ≡ Err Failed → failures self.old < failures self.new }
+        ensures told { failures self.old < failures self.new → result ≡ Err Failed }
         ensures never_falls { failures self.old ≤ failures self.new }
         ensures by_one { failures self.new ≤ failures self.old + 1 }
         ensures uncounted { OnOk result (failures self.new ≡ failures self.old) }

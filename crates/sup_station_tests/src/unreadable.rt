@@ -17,6 +17,7 @@ impl Unreadable {
 
     fn fails(&mut self) -> KeepFault
         ensures rose { result ≡ Failed → self.old.failures < self.new.failures }
+        ensures told { self.old.failures < self.new.failures → result ≡ Failed }
         ensures never_falls { self.old.failures ≤ self.new.failures }
         ensures by_one { self.new.failures ≤ self.old.failures + 1 }
     {

@@ -6,8 +6,9 @@ use Rattle.std.specs.Option.{option_map, unwrap_or}
 use Rattle.std.proofs.Common.{sym, ap, ◌∙◌, subst, arith}
 use Rattle.std.proofs.lemmas.List.{take_more, take_all, take-append-le}
 use Rattle.sup_specs.specs.Values.{Bytes}
+use Rattle.sup_replica.specs.declared.refusal.Refusal.{Refusal}
 use Rattle.sup_replica.specs.Nodes.{is_named}
-use Rattle.sup_world.specs.Seen.{Seen, IsAsBefore, FailedOnceAtMost, FailedNoMore}
+use Rattle.sup_world.specs.Seen.{Seen, IsAsBefore, FailedOnceAtMost, FailedNoMore, IsTold}
 use Rattle.sup_world.specs.Carrying.{seen_at, failures_at}
 use Rattle.sup_world.proofs.Places.{place}
 
@@ -92,6 +93,13 @@ once_at_most s = omega arith
 
 pub no_more : (s : Seen) → FailedNoMore s s
 no_more s = refl
+
+-- who didn't fail has nothing to be told
+pub untold : {A : Type 0} (answer : Result A Refusal) (s : Seen) → IsTold answer s s
+untold answer s lt = absurd (above_itself s.failures lt)
+  where
+    above_itself : (n : ℕ) → n < n → ⊥
+    above_itself n l = omega (arith, l)
 
 -- one node of a list, and the list with another in its place
 module _ {A : Type 0} (f : A → Seen) (xs : List A) (i : ℕ) (old : A) (lt : i < length xs) (is : old ≡ slice_index_or xs i old) where

@@ -1,7 +1,9 @@
 -- What a contract sees of a world: of each node its station, how often its keeper has failed, and every letter that it ever sent.
-use Rattle.std.specs.Prelude.{◌≡◌, ◌≤◌, ◌+◌, ℕ, List, ◌∷◌, [], ◌++◌, length, map, Option, Some, None}
+use Rattle.std.specs.Prelude.{◌≡◌, ◌≤◌, ◌<◌, ◌+◌, ℕ, List, ◌∷◌, [], ◌++◌, length, map, Option, Some, None, Result, Err}
 use Rattle.sup_specs.specs.Values.{Bytes}
 use Rattle.sup_replica.specs.declared.letter.Letter.{Letter}
+use Rattle.sup_replica.specs.declared.refusal.Refusal.{Refusal}
+use Rattle.sup_replica.specs.declared.refusal.Refusal.TheVariants.{KeepFailed}
 use Rattle.sup_station.specs.Opening.{kept_by}
 use Rattle.sup_station.specs.Stills.{Still, still_of, keeper_of}
 use Rattle.sup_world.specs.declared.site.Site.{Site}
@@ -41,3 +43,7 @@ FailedOnceAtMost old new = new.failures ≤ old.failures + 1
 -- it didn't fail
 abbrev pub FailedNoMore : Seen → Seen → Type 0
 FailedNoMore old new = new.failures ≡ old.failures
+
+-- where it failed, the answer tells that
+abbrev pub IsTold : {A : Type 0} → Result A Refusal → Seen → Seen → Type 0
+IsTold answer old new = old.failures < new.failures → answer ≡ Err KeepFailed

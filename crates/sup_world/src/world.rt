@@ -16,7 +16,7 @@ ghost use Rattle.sup_world.specs.Following.{Steps, StandsFor, Follows};
 ghost use Rattle.sup_world.specs.Naming.{AreWorldNames, IsFaultOf};
 ghost use Rattle.sup_world.specs.Newness.{IsNew, setting_in};
 ghost use Rattle.sup_world.specs.Runs.{Ran};
-ghost use Rattle.sup_world.specs.Seen.{seen_of, sites_of, IsAsBefore, FailedOnceAtMost, FailedNoMore};
+ghost use Rattle.sup_world.specs.Seen.{seen_of, sites_of, IsAsBefore, FailedOnceAtMost, FailedNoMore, IsTold};
 ghost use Rattle.sup_world.specs.Showing.{IsShownAs};
 ghost use Rattle.sup_world.specs.Telling.{Shows};
 
@@ -67,7 +67,8 @@ impl<W: Weigh + Drop> World<W> {
 impl<W: Weigh> World<W> {
     /// Makes a step, and tells how it is answered. It is the code's step of the definitions, and so it follows the model:
     /// the answer is one that the model allows, and this world then stands for the model's. A refused step changes nothing
-    /// but how often a node's keeper has failed, which rises by one at most, and only where the step's save is told to fail.
+    /// but how often a node's keeper has failed, which rises by one at most, and only where the step's save is told to fail;
+    /// where it rises the answer is `KeepFailed`.
     ///
     /// # Errors
     ///
@@ -81,6 +82,7 @@ impl<W: Weigh> World<W> {
         ensures refused { OnErr result (AllZip IsAsBefore (sites_of self.old) (sites_of self.new)) }
         ensures counted { AllZip FailedOnceAtMost (sites_of self.old) (sites_of self.new) }
         ensures uncounted { lets_save step.now ≡ true → AllZip FailedNoMore (sites_of self.old) (sites_of self.new) }
+        ensures told { AllZip (IsTold result) (sites_of self.old) (sites_of self.new) }
     {
         match step {
             Step::Node {

@@ -37,6 +37,7 @@ impl<K: Keeper, W: Weigh> Station<K, W> {
         ensures refused { IfErr result (λ r. K.kept r.keeper ≡ K.kept keeper) }
         ensures reason { IfErr result (λ r. IsKeepRefusal r.reason) }
         ensures rose { IfErr result (λ r. r.reason ≡ KeepFailed → K.failures keeper < K.failures r.keeper) }
+        ensures told { IfErr result (λ r. K.failures keeper < K.failures r.keeper → r.reason ≡ KeepFailed) }
         ensures never_falls { IfErr result (λ r. K.failures keeper ≤ K.failures r.keeper) }
         ensures by_one { IfErr result (λ r. K.failures r.keeper ≤ K.failures keeper + 1) }
         ensures uncounted { IfOk result (λ s. K.failures (keeper_of s) ≡ K.failures keeper) }
@@ -98,6 +99,7 @@ impl<K: Keeper, W: Weigh> Station<K, W> {
         ensures answer { MatchResult result (IsPreparedFor W.weight_of (still_of K.kept self.old) act.now now) (Refuses W.weight_of (still_of K.kept self.old) (still_of K.kept self.old).node act.now now) }
         ensures loads { act.now ≢ Restart → (keeper_of self.new ≡ keeper_of self.old) × (result ≢ Err KeepFailed) }
         ensures rose { result ≡ Err KeepFailed → K.failures (keeper_of self.old) < K.failures (keeper_of self.new) }
+        ensures told { K.failures (keeper_of self.old) < K.failures (keeper_of self.new) → result ≡ Err KeepFailed }
         ensures never_falls { K.failures (keeper_of self.old) ≤ K.failures (keeper_of self.new) }
         ensures by_one { K.failures (keeper_of self.new) ≤ K.failures (keeper_of self.old) + 1 }
         ensures uncounted { OnOk result (K.failures (keeper_of self.new) ≡ K.failures (keeper_of self.old)) }
@@ -123,6 +125,7 @@ impl<K: Keeper, W: Weigh> Station<K, W> {
         requires { IsReadyFor (still_of K.kept self.old) prepared }
         ensures answer { Commits (still_of K.kept self.old) prepared result (still_of K.kept self.new) }
         ensures rose { result ≡ Err KeepFailed → K.failures (keeper_of self.old) < K.failures (keeper_of self.new) }
+        ensures told { K.failures (keeper_of self.old) < K.failures (keeper_of self.new) → result ≡ Err KeepFailed }
         ensures never_falls { K.failures (keeper_of self.old) ≤ K.failures (keeper_of self.new) }
         ensures by_one { K.failures (keeper_of self.new) ≤ K.failures (keeper_of self.old) + 1 }
         ensures uncounted { OnOk result (K.failures (keeper_of self.new) ≡ K.failures (keeper_of self.old)) }
@@ -144,6 +147,7 @@ impl<K: Keeper, W: Weigh> Station<K, W> {
     pub fn step(&mut self, act: Act, now: u64, weigher: &W) -> Result<Done, Refusal>
         ensures goes { Goes W.weight_of (still_of K.kept self.old) act now result (still_of K.kept self.new) }
         ensures failed { result ≡ Err KeepFailed → K.failures (keeper_of self.old) < K.failures (keeper_of self.new) }
+        ensures told { K.failures (keeper_of self.old) < K.failures (keeper_of self.new) → result ≡ Err KeepFailed }
         ensures never_falls { K.failures (keeper_of self.old) ≤ K.failures (keeper_of self.new) }
         ensures by_one { K.failures (keeper_of self.new) ≤ K.failures (keeper_of self.old) + 1 }
         ensures uncounted { OnOk result (K.failures (keeper_of self.new) ≡ K.failures (keeper_of self.old)) }

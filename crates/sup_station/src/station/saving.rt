@@ -48,6 +48,7 @@ pub(super) fn save_text<K: Keeper>(keeper: &mut K, text: Option<Vec<u8>>) -> Res
     ensures reason { IfErr result (λ r. IsKeepRefusal r) }
     ensures only { IsErr result → has_text text ≡ true }
     ensures rose { result ≡ Err KeepFailed → K.failures keeper.old < K.failures keeper.new }
+    ensures told { K.failures keeper.old < K.failures keeper.new → result ≡ Err KeepFailed }
     ensures never_falls { K.failures keeper.old ≤ K.failures keeper.new }
     ensures by_one { K.failures keeper.new ≤ K.failures keeper.old + 1 }
     ensures uncounted { OnOk result (K.failures keeper.new ≡ K.failures keeper.old) }

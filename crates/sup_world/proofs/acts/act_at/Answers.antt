@@ -1,10 +1,10 @@
 use Rattle.std.proofs.Common.{◌<◌, map, slice_index_or, sym, ap, subst}
 use Rattle.sup_replica.specs.declared.refusal.Refusal.TheVariants.{UnknownNode}
 use Rattle.sup_model.specs.declared.step.Step.TheVariants.{Node as AtNode}
-use Rattle.sup_world.specs.Seen.{seen_of, IsAsBefore, FailedOnceAtMost, FailedNoMore}
+use Rattle.sup_world.specs.Seen.{seen_of, IsAsBefore, FailedOnceAtMost, FailedNoMore, IsTold}
 use Rattle.sup_world.specs.Carrying.{holds, failures_at, carried}
 use Rattle.sup_world.specs.Following.{Steps}
-use Rattle.sup_world.proofs.Lists.{map_set, map_length, within_seen, at_seen, one_set, on_err, on_err_more, all_same, as_before, once_at_most, no_more}
+use Rattle.sup_world.proofs.Lists.{map_set, map_length, within_seen, at_seen, one_set, on_err, on_err_more, all_same, as_before, once_at_most, no_more, untold}
 use Rattle.sup_world.proofs.Acting.{told_on, act_nowhere, act_untargeted, act_steps}
 use Rattle.sup_world.proofs.acts.act_at.Goals as goal
 
@@ -69,3 +69,13 @@ returns-in_err-check_target-clause-uncounted g c e = all_same FailedNoMore no_mo
 pub returns-clause-uncounted : goal.returns-clause-uncounted
 returns-clause-uncounted g c e =
     one_set seen_of c.args.sites.now c.in_ok-place.place (slice_index_or c.args.sites.now c.in_ok-place.place c.index-sites-place.result) c.in_ok-place.ensures.within (ap (slice_index_or c.args.sites.now c.in_ok-place.place) c.index-sites-place.is) FailedNoMore no_more c.act.new.self (c.act.ensures.uncounted e)
+
+pub returns-in_err-place-clause-told : goal.returns-in_err-place-clause-told
+returns-in_err-place-clause-told g c = all_same (IsTold c.from_residual.result) (untold c.from_residual.result) (map seen_of c.args.sites.now)
+
+pub returns-in_err-check_target-clause-told : goal.returns-in_err-check_target-clause-told
+returns-in_err-check_target-clause-told g c = all_same (IsTold c.from_residual-in_err-check_target.result) (untold c.from_residual-in_err-check_target.result) (map seen_of c.args.sites.now)
+
+pub returns-clause-told : goal.returns-clause-told
+returns-clause-told g c =
+    one_set seen_of c.args.sites.now c.in_ok-place.place (slice_index_or c.args.sites.now c.in_ok-place.place c.index-sites-place.result) c.in_ok-place.ensures.within (ap (slice_index_or c.args.sites.now c.in_ok-place.place) c.index-sites-place.is) (IsTold c.act.result) (untold c.act.result) c.act.new.self c.act.ensures.told

@@ -16,7 +16,7 @@ returns-in_err-check_answer-clause-fault g c =
     let after = sites_of c.step-told.new.self in
     let e = c.args.entry.now in
     let goes : StepGoes w sites c.args.step c.step-told.result after =
-    record { steps = c.step-told.ensures.steps; follows = c.step-told.ensures.follows; refused = c.step-told.ensures.refused; counted = c.step-told.ensures.counted; uncounted = c.step-told.ensures.uncounted } in
+    record { steps = c.step-told.ensures.steps; follows = c.step-told.ensures.follows; refused = c.step-told.ensures.refused; counted = c.step-told.ensures.counted; uncounted = c.step-told.ensures.uncounted; told = c.step-told.ensures.told } in
     err_as c.from_residual.result c.in_err-check_answer.field-0.0 (IsMiss w sites (placed_at c.args.node e) c.args.place) c.from_residual.ensures.1
     (miss_from w sites after c.args.node e c.args.place c.args.step c.step-told.result c.in_err-check_answer.field-0.0 c.requires goes c.in_err-check_answer.ensures.fault)
 
@@ -24,6 +24,6 @@ pub returns-clause-made : goal.returns-clause-made
 returns-clause-made g c = record {
   answer = c.step-told.result;
   is_step = c.requires;
-  goes = record { steps = c.step-told.ensures.steps; follows = c.step-told.ensures.follows; refused = c.step-told.ensures.refused; counted = c.step-told.ensures.counted; uncounted = c.step-told.ensures.uncounted };
+  goes = record { steps = c.step-told.ensures.steps; follows = c.step-told.ensures.follows; refused = c.step-told.ensures.refused; counted = c.step-told.ensures.counted; uncounted = c.step-told.ensures.uncounted; told = c.step-told.ensures.told };
   says = c.in_ok-check_answer.ensures.same;
 }

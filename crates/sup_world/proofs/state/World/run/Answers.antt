@@ -13,7 +13,7 @@ loop-step-preserved g c =
       ran = subst (λ answers. Ran w (sites_of c.args.self.now) (take (i + 1) c.args.steps.now) answers (sites_of c.step.new.self)) (sym e)
           (ran_taken w (sites_of c.args.self.now) (sites_of c.loop-step.self) (sites_of c.step.new.self) c.args.steps.now i c.loop-step.answers.items c.step-item.result c.step.result c.loop-step-test.true c.step-item.is
           c.loop-step.invariant.ran
-          (record { steps = c.step.ensures.steps; follows = c.step.ensures.follows; refused = c.step.ensures.refused; counted = c.step.ensures.counted; uncounted = c.step.ensures.uncounted }));
+          (record { steps = c.step.ensures.steps; follows = c.step.ensures.follows; refused = c.step.ensures.refused; counted = c.step.ensures.counted; uncounted = c.step.ensures.uncounted; told = c.step.ensures.told }));
       count = first_of (search rules, omega arith);
       room = first_of (search rules, omega arith);
     }

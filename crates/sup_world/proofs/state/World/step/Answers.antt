@@ -1,12 +1,12 @@
 use Rattle.std.proofs.Common.{◌≡◌, ◌++◌, map, take, drop, length, sym, subst, rules, arith}
 use Rattle.sup_model.specs.declared.step.Step.{Step}
 use Rattle.sup_model.specs.declared.step.Step.TheVariants.{Node as AtNode, Deliver as Delivery, Raw}
-use Rattle.sup_world.specs.Seen.{seen_of, sites_of, IsAsBefore, FailedOnceAtMost, FailedNoMore}
+use Rattle.sup_world.specs.Seen.{seen_of, sites_of, IsAsBefore, FailedOnceAtMost, FailedNoMore, IsTold}
 use Rattle.sup_world.specs.Carrying.{carried, Knows}
 use Rattle.sup_world.specs.Following.{Steps}
 use Rattle.sup_world.specs.Telling.{Shows}
 use Rattle.sup_model.specs.Posts.{reads}
-use Rattle.sup_world.proofs.Lists.{lent_back, on_err, all_same, as_before, once_at_most, no_more}
+use Rattle.sup_world.proofs.Lists.{lent_back, on_err, all_same, as_before, once_at_most, no_more, untold}
 use Rattle.sup_world.proofs.Following.{steps_as}
 use Rattle.sup_world.proofs.state.World.step.Goals as goal
 
@@ -64,3 +64,6 @@ returns-in-Raw-clause-counted g c = all_same FailedOnceAtMost once_at_most (site
 
 pub returns-in-Raw-clause-uncounted : goal.returns-in-Raw-clause-uncounted
 returns-in-Raw-clause-uncounted g c e = all_same FailedNoMore no_more (sites_of c.args.self.now)
+
+pub returns-in-Raw-clause-told : goal.returns-in-Raw-clause-told
+returns-in-Raw-clause-told g c = all_same (IsTold c.raw_at.result) (untold c.raw_at.result) (sites_of c.args.self.now)
