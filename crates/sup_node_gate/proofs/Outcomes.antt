@@ -18,7 +18,7 @@ use Rattle.sup_node_gate.specs.Parts.{still_in, still_at, IsLike}
 use Rattle.sup_node_gate.specs.Views.{Rises, calls_of, taking, raising, freeing, looking, joining}
 use Rattle.sup_node_gate.specs.Holdings.{Adds}
 use Rattle.sup_node_gate.specs.Rule.{IsSeenAt, IsTurnTaken}
-use Rattle.sup_node_gate.specs.Calls.{Enters, KeepsOwn, IsFull, Refuses, Acts, Joined, MayAct, IsIdle}
+use Rattle.sup_node_gate.specs.Calls.{Enters, KeepsOwn, IsFull, HasNoMemory, Refuses, Acts, Joined, MayAct, IsIdle}
 use Rattle.sup_node_gate.proofs.Keeps.{slot_or}
 use Rattle.sup_node_gate.proofs.Lists.{replays_one, rises_one, entries_more}
 
@@ -48,6 +48,10 @@ made_enters g start v h h' a now r opens seen placed made = let n : ℕ = length
 pub is_full : (g : Weigher) (start : Parts) (bound : ℕ) (v : View) (h : Holding) → v.opening ≡ Some start → IsSeenAt g v h → length h.history ≡ bound → IsFull g (still_in start) bound v (freeing (looking v h.history))
 is_full g start bound v h opens seen len = (len, record { begins = seen.0; replays = (still_at h, seen.3 start opens); places = refl; rises = seen.2 })
 
+pub has_no_memory : (g : Weigher) (start : Parts) (bound : ℕ) (v : View) (h : Holding) → v.opening ≡ Some start → v.taken ≡ Some h → IsSeenAt g v h → length h.history ≢ bound
+    → HasNoMemory g (still_in start) bound v (freeing v)
+has_no_memory g start bound v h opens taken seen not_full = record { held = h; taken = taken; begins = seen.0; replays = seen.3 start opens; not_full = not_full; same = (refl, refl) }
+
 pub looked_keeps : (g : Weigher) (start : Parts) (v : View) (h : Holding) → v.opening ≡ Some start → IsSeenAt g v h → KeepsOwn g (still_in start) v (looking v h.history)
 looked_keeps g start v h opens seen = record { begins = seen.0; replays = (still_at h, seen.3 start opens); places = refl; rises = seen.2 }
 
@@ -64,7 +68,7 @@ module _ {H : Type 0} where
   -- a pass that took the turn may act
   pub may_act : (sight : H → Holding) (g : Weigher) (opening : Parts) (m m' : Me (P.Option H) View) → IsTurnTaken sight g m m' → m.0.told ≡ [] → m.0.opening ≡ Some opening → Rises 0 m.0.own (length m.0.seen)
       → MayAct sight g opening m'
-  may_act sight g opening m m' t told opens placed = subst (λ (x : Me (P.Option H) View). MayAct sight g opening x) (sym t.2) (t.0, refl, refl, told, opens, t.1, placed)
+  may_act sight g opening m m' t told opens placed = subst (λ (x : Me (P.Option H) View). MayAct sight g opening x) (sym t.2) (t.0, refl, refl, told, opens, t.1, placed, refl)
 
   -- what is lent of a slot is what the seat has there
   pub lent_slot : (m : Me (P.Option H) View) (h : H) (lent : P.Option H) (held : H) → m.1 ≡ (0, Some h) ∷ [] → m.1 ≡ (0, lent) ∷ rest m.1 → lent ≡ Some held → held ≡ h
@@ -94,9 +98,19 @@ keeps_same g s v u v' seen own x = record {
   rises = x.rises;
 }
 
+no_memory_same : (g : Weigher) (s : Still) (bound : ℕ) (v u v' : View) → v.seen ≡ u.seen → v.own ≡ u.own → HasNoMemory g s bound v v' → HasNoMemory g s bound u v'
+no_memory_same g s bound v u v' seen own x = record {
+  held = x.held;
+  taken = x.taken;
+  begins = subst (λ (l : List Entry). IsPrefix l x.held.history) seen x.begins;
+  replays = x.replays;
+  not_full = x.not_full;
+  same = (x.same.0 ∙ seen, x.same.1 ∙ own);
+}
+
 refuses_same : (k : Standing) (g : Weigher) (s : Still) (bound : ℕ) (v u : View) (e : Entry) (v' : View) → v.seen ≡ u.seen → v.own ≡ u.own → Refuses k g s bound v e v' → Refuses k g s bound u e v'
 refuses_same full g s bound v u e v' seen own x = (x.0, keeps_same g s v u v' seen own x.1)
-refuses_same no_room g s bound v u e v' seen own x = (x.0 ∙ seen, x.1 ∙ own)
+refuses_same no_room g s bound v u e v' seen own x = no_memory_same g s bound v u v' seen own x
 refuses_same entered g s bound v u e v' seen own x = enters_same g s v u e v' seen own x
 
 pub acts_same : (g : Weigher) (s : Still) (bound : ℕ) (v u : View) (a : Act) (now : ℕ) (r : Answer) (v' : View) → v.seen ≡ u.seen → v.own ≡ u.own → Acts g s bound v a now r v' → Acts g s bound u a now r v'

@@ -1,5 +1,5 @@
 -- What the calls of a gate promise, said of the views before and after (this project).
-use Rattle.std.specs.Prelude.{◌≡◌, ℕ, ◌+◌, false, List, [], ◌∷◌, ◌++◌, length, is_some, Ok, Err, None, Some}
+use Rattle.std.specs.Prelude.{◌≡◌, ◌≢◌, ℕ, ◌+◌, false, List, [], ◌∷◌, ◌++◌, length, is_some, Ok, Err, None, Some}
 use Rattle.std.specs.declared.option.Option as P
 use mathlib.Core.Option.{some}
 use Rattle.atomic_table.specs.Table.{Me}
@@ -41,9 +41,18 @@ IsFull g opening bound v v' = (length v'.seen ≡ bound) × KeepsOwn g opening v
 abbrev pub ChangesNothing : View → View → Type 0
 ChangesNothing v v' = (v'.seen ≡ v.seen) × (v'.own ≡ v.own)
 
+-- the pass had the turn, with a history that is not full, and nothing changes
+pub record HasNoMemory (g : Weigher) (opening : Still) (bound : ℕ) (v v' : View) : Type 0 where
+  pub held : Holding
+  pub taken : v'.taken ≡ Some held
+  pub begins : IsPrefix v.seen held.history
+  pub replays : Replays g opening held.history (still_at held)
+  pub not_full : length held.history ≢ bound
+  pub same : ChangesNothing v v'
+
 abbrev pub Refuses : Standing → Weigher → Still → ℕ → View → Entry → View → Type 0
 Refuses full g opening bound v call v' = IsFull g opening bound v v'
-Refuses no_room g opening bound v call v' = ChangesNothing v v'
+Refuses no_room g opening bound v call v' = HasNoMemory g opening bound v v'
 Refuses entered g opening bound v call v' = Enters g opening v call v'
 
 -- what a call does that has the turn
@@ -80,6 +89,7 @@ module _ {H : Type 0} where
   -- the seat has the turn, and the slot
   abbrev pub MayAct : (H → Holding) → Weigher → Parts → Me (P.Option H) View → Type 0
   MayAct sight g opening m = (h : H) × (m.0.turn ≡ Some (sight h)) × (m.1 ≡ (0, Some h) ∷ []) × (m.0.told ≡ []) × (m.0.opening ≡ Some opening) × IsSeenAt g m.0 (sight h) × Rises 0 m.0.own (length m.0.seen)
+      × (m.0.taken ≡ Some (sight h))
 
   abbrev pub IsIdle : Me (P.Option H) View → Type 0
   IsIdle m = (is_some m.0.turn ≡ false) × (m.0.told ≡ []) × (m.1 ≡ []) × Rises 0 m.0.own (length m.0.seen)

@@ -30,8 +30,8 @@ abbrev pub AddsIfRoom : Weigher → Holding → Act → ℕ → Option Answer �
 AddsIfRoom g h act now (Some answer) h' = Adds g h act now answer h'
 AddsIfRoom g h act now None h' = IsLike h' h
 
--- the same, or the history is at its bound and nothing changes
+-- the same, where the history is not at its bound; or it is, and nothing changes
 abbrev pub IsMade : Weigher → Holding → Act → ℕ → ℕ → Made → Holding → Type 0
 IsMade g h act now bound (Entered answer) h' = (length h.history ≢ bound) × Adds g h act now answer h'
 IsMade g h act now bound Full h' = (length h.history ≡ bound) × (h' ≡ h)
-IsMade g h act now bound NoRoom h' = IsLike h' h
+IsMade g h act now bound NoRoom h' = (length h.history ≢ bound) × IsLike h' h

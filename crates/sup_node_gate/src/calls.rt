@@ -72,7 +72,8 @@ impl<K: Keeper, W: Weigh> NodeGate<K, W> {
     ///
     /// # Errors
     ///
-    /// `Busy` where another pass has the turn. What is answered else is as [`NodeGate::call`] tells.
+    /// `Busy` where another pass has the turn, in whose place no `OutOfMemory` is told. What is answered else is as
+    /// [`NodeGate::call`] tells.
     pub fn try_call(
         &self,
         pass: &mut Pass<K, W>,
@@ -96,8 +97,8 @@ impl<K: Keeper, W: Weigh> NodeGate<K, W> {
     ///
     /// # Errors
     ///
-    /// `HistoryFull` where the history has as many entries as it may; `OutOfMemory`. Neither is entered. Else the station's
-    /// refusals.
+    /// `HistoryFull` where the history has as many entries as it may; `OutOfMemory`, but never for that. Neither is entered.
+    /// Else the station's refusals.
     pub fn call<R: Wait>(
         &self,
         rt: &R,

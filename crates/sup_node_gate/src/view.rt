@@ -31,6 +31,8 @@ pub struct View {
     pub told: LinkedList<Entry>,
     /// What the pass took, while it has the turn.
     pub turn: Option<Holding>,
+    /// What the pass took at the last try, if that got the turn. It is known still when the turn is given back.
+    pub taken: Option<Holding>,
     /// What another pass had taken at the last try, if that failed.
     pub lost: Option<Holding>,
     pub tries: u64,

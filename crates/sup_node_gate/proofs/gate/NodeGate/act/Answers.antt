@@ -1,11 +1,11 @@
 use Rattle.std.proofs.Common.{rules, ◌≡◌, ℕ, [], ◌∷◌, length, Some, Err, refl, ap, ◌∙◌, sym, subst}
-use Rattle.sup_replica.specs.declared.refusal.Refusal.TheVariants.{HistoryFull}
+use Rattle.sup_replica.specs.declared.refusal.Refusal.TheVariants.{HistoryFull, OutOfMemory}
 use Rattle.sup_node_gate.specs.Holdings.{holding_of}
 use Rattle.sup_node_gate.specs.Views.{raising, freeing, looking}
 use Rattle.sup_node_gate.specs.Calls.{Acts}
 use Rattle.sup_node_gate.specs.Gates.{opening_of, opening_parts}
 use Rattle.sup_node_gate.specs.Parts.{still_at}
-use Rattle.sup_node_gate.proofs.Outcomes.{enters_acts, made_enters, is_full, idle_after}
+use Rattle.sup_node_gate.proofs.Outcomes.{enters_acts, made_enters, is_full, has_no_memory, idle_after}
 use Rattle.sup_node_gate.proofs.gate.NodeGate.act.Goals as goal
 
 pub raise-requires : goal.raise-requires
@@ -52,12 +52,14 @@ returns-in-Full-clause-answer g c = let t = c.requires.1 in let k = c.in-Full.en
 
 pub give_back-requires-in-NoRoom : goal.give_back-requires-in-NoRoom
 give_back-requires-in-NoRoom g c = let t = c.requires.1 in let k = c.in-NoRoom.ensures.made t.0 t.2 in let put = k.1 in let made = k.2 in
-    (search rules, (k.0, holding_of g.K.Keeper.kept t.0, ap (λ m. m.0.turn) put ∙ t.1, made, ap (λ m. m.1) put))
+    (search rules, (k.0, holding_of g.K.Keeper.kept t.0, ap (λ m. m.0.turn) put ∙ t.1, made.1, ap (λ m. m.1) put))
 
 pub returns-in-NoRoom-clause-idle : goal.returns-in-NoRoom-clause-idle
 returns-in-NoRoom-clause-idle g c = let t = c.requires.1 in let put = (c.in-NoRoom.ensures.made t.0 t.2).1 in let v = c.args.seat.now.me.0 in
     idle_after _ v v (c.give_back-in-NoRoom.ensures.1 ∙ ap (λ m. (freeing m.0, [])) put) t.3 t.6 refl refl
 
 pub returns-in-NoRoom-clause-answer : goal.returns-in-NoRoom-clause-answer
-returns-in-NoRoom-clause-answer g c = let t = c.requires.1 in let put = (c.in-NoRoom.ensures.made t.0 t.2).1 in let all = c.give_back-in-NoRoom.ensures.1 ∙ ap (λ m. (freeing m.0, [])) put in
-    (ap (λ m. m.0.seen) all, ap (λ m. m.0.own) all)
+returns-in-NoRoom-clause-answer g c = let t = c.requires.1 in let k = c.in-NoRoom.ensures.made t.0 t.2 in let gate = c.args.self.now in
+    let v = c.args.seat.now.me.0 in let h = holding_of g.K.Keeper.kept t.0 in let all = c.give_back-in-NoRoom.ensures.1 ∙ ap (λ m. (freeing m.0, [])) k.1 in
+    let weigh = g.W.Weigh.weight_of in let start = opening_of g.K.Keeper.kept gate in
+    subst (λ m. Acts weigh start gate.bound v c.args.act c.args.now (Err OutOfMemory) m.0) (sym all) (has_no_memory weigh (opening_parts g.K.Keeper.kept gate) gate.bound v h t.4 t.7 t.5 k.2.0)
