@@ -6,3 +6,5 @@ mod line;
 mod play;
 pub mod run;
 mod simulate;
+
+pub use run::{Options, Ran, run_plain};

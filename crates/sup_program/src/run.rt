@@ -25,7 +25,7 @@ pub const USAGE: u8 = 2;
 #[derive(Clone, Copy, Debug, PartialEq, Eq)]
 pub struct Options {
     /// How its nodes weigh members.
-    pub weighing: Weighing,
+    pub weigh: Weighing,
     /// What is set for each of its nodes.
     pub config: Config,
 }
@@ -51,7 +51,7 @@ pub fn run_plain<S: AsStr, R: Read, W: Write, E: Write>(
 ) -> Ran
     ensures status { IfStatus result (Runs R.remaining W.contents E.contents (map S.text words.now) reader.old reader.new
         writer.old writer.new errors.old errors.new) }
-    ensures asked { IfCluster result (λ o. request_of (map S.text words.now) ≡ Some (Request.Cluster o.weighing o.config)) }
+    ensures asked { IfCluster result (λ o. request_of (map S.text words.now) ≡ Some (Request.Cluster o.weigh o.config)) }
     ensures unread { IfCluster result (λ _. reader.new ≡ reader.old) }
     ensures unwritten { IfCluster result (λ _. writer.new ≡ writer.old) }
     ensures untold { IfCluster result (λ _. errors.new ≡ errors.old) }
@@ -74,7 +74,7 @@ fn perform<R: Read, W: Write, E: Write>(
     ensures status { IfStatus result (λ status. EndsWith status (Performs (Some request) (R.remaining reader.old) (R.remaining reader.new)
         (W.contents writer.old) (W.contents writer.new) (E.contents errors.old) (E.contents errors.new))) }
     ensures taken { TakesAtMost (LIMIT + 1) (R.remaining reader.old) (R.remaining reader.new) }
-    ensures asked { IfCluster result (λ o. request ≡ Request.Cluster o.weighing o.config) }
+    ensures asked { IfCluster result (λ o. request ≡ Request.Cluster o.weigh o.config) }
     ensures unread { IfCluster result (λ _. reader.new ≡ reader.old) }
     ensures unwritten { IfCluster result (λ _. writer.new ≡ writer.old) }
     ensures untold { IfCluster result (λ _. errors.new ≡ errors.old) }
@@ -83,7 +83,10 @@ fn perform<R: Read, W: Write, E: Write>(
         Request::Simulate { weighing, config } => {
             Ran::Status(simulate_by(alloc, weighing, config, reader, writer, errors).status)
         }
-        Request::Cluster { weighing, config } => Ran::Cluster(Options { weighing, config }),
+        Request::Cluster {
+            weighing: weigh,
+            config,
+        } => Ran::Cluster(Options { weigh, config }),
         Request::Place { weighing } => {
             Ran::Status(place_by(alloc, weighing, reader, writer, errors).status)
         }

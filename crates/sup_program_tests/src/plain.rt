@@ -34,7 +34,13 @@ fn expect_cluster(
     let mut told = Vec::new(rt.alloc());
     let ended = run_plain(rt.alloc(), words, &mut reader, &mut written, &mut told);
     match Config::new(numbers.0, numbers.1, numbers.2) {
-        Some(config) => assert!(rt; ended == Ran::Cluster(Options { weighing, config })),
+        Some(config) => assert!(rt;
+            ended
+                == Ran::Cluster(Options {
+                    weigh: weighing,
+                    config
+                })
+        ),
         None => assert!(rt; false),
     }
     assert!(rt; reader.len() == SCRIPT.len() && written.is_empty() && told.is_empty());

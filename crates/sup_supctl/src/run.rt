@@ -47,12 +47,12 @@ fn run_options<T: Threads + Wait + Sync, R: Read, W: Write, E: Write>(
     writer: &mut W,
     errors: &mut E,
 ) -> Ended
-    ensures clusters { Clusters (weight_of options.weighing) options.config (R.remaining reader.old) (R.remaining reader.new)
+    ensures clusters { Clusters (weight_of options.weigh) options.config (R.remaining reader.old) (R.remaining reader.new)
         (W.contents writer.old) (W.contents writer.new) (E.contents errors.old) (E.contents errors.new) result }
     ensures taken { TakesAtMost (LIMIT + 1) (R.remaining reader.old) (R.remaining reader.new) }
 {
-    let Options { weighing, config } = options;
-    match weighing {
+    let Options { weigh, config } = options;
+    match weigh {
         Weighing::Sha256 => run_cluster(rt, alloc, &Sha256Weigh, config, reader, writer, errors),
         Weighing::Flat => run_cluster(rt, alloc, &FlatWeigh, config, reader, writer, errors),
     }

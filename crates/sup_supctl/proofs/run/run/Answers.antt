@@ -8,5 +8,5 @@ pub returns-in-Cluster : goal.returns-in-Cluster
 returns-in-Cluster g c =
     let options = c.in-Cluster.options in
     let began = c.in-Cluster.ensures in
-    clustered _ _ _ _ _ _ _ _ _ _ c.run_plain.new.reader c.run_plain.new.writer c.run_plain.new.errors options.weighing options.config c.run_options.result
+    clustered _ _ _ _ _ _ _ _ _ _ c.run_plain.new.reader c.run_plain.new.writer c.run_plain.new.errors options.weigh options.config c.run_options.result
     began.asked began.unread began.unwritten began.untold c.run_options.ensures.clusters c.run_options.ensures.taken
