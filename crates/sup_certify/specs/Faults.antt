@@ -88,11 +88,11 @@ pub record IsHalt (g : Weigher) (start : List Seen) (histories : List History) :
   pub left : ¬ AllZip IsWhole histories placed
   pub each : AllZip Waits histories placed
 
--- why a world's answer isn't the one that is said: it differs, or memory was wanted
+-- why a world's answer isn't the one that is said: it differs, or it tells want of memory
 abbrev pub IsOtherwise : Result Told Refusal → Answer → Bytes → ℕ → CertifyFault → Type 0
 IsOtherwise told said node place Stuck = ⊥
 IsOtherwise told said node place (Differs n k) = (n ≡ node) × (k ≡ place) × (answer_of told ≢ said) × (told ≢ Err NoMemory)
-IsOtherwise told said node place OutOfMemory = Unit {0}
+IsOtherwise told said node place OutOfMemory = told ≡ Err NoMemory
 
 -- why an entry isn't placed that is a step of the world: it is answered otherwise, or memory was wanted
 abbrev pub IsMiss : Weigher → List Seen → Placed → ℕ → CertifyFault → Type 0

@@ -1,6 +1,6 @@
 //! The judgement.
-ghost use Rattle.std.specs.Prelude.{◌≡◌, All, Bool, List, [], length, map, IsPermutation, IfOk, IfErr};
-ghost use Rattle.sup_specs.specs.Values.{Bytes};
+ghost use Rattle.std.specs.Prelude.{◌≡◌, All, Bool, List, [], length, map, IsPermutation, IsSorted, IfOk, IfErr};
+ghost use Rattle.sup_specs.specs.Values.{Bytes, text_cmp};
 ghost use Rattle.sup_model.specs.Worlds.{new};
 ghost use Rattle.sup_world.specs.Newness.{setting_in};
 ghost use Rattle.sup_world.specs.Seen.{Seen, sites_of};
@@ -53,7 +53,8 @@ pub fn certify<W: Weigh + Drop>(
 
 // The names in their order.
 fn in_order(alloc: Global, names: &[NodeName]) -> Result<Vec<NodeName>, AllocError>
-    ensures { IfOk result (λ sorted. IsPermutation names.now sorted.items) }
+    ensures sorted { IfOk result (λ sorted. IsSorted text_cmp sorted.items) }
+    ensures all { IfOk result (λ sorted. IsPermutation names.now sorted.items) }
 {
     let mut names = names.to_vec(alloc)?;
     names.sort()?;

@@ -1,5 +1,5 @@
 -- The command inspect: what a stored image tells (this project).
-use Rattle.std.specs.Prelude.{◌≡◌, ◌<◌, ◌≤◌, ◌⊎◌, ℕ, List, length, take, Result, Ok, Err}
+use Rattle.std.specs.Prelude.{◌<◌, ◌≤◌, ◌⊎◌, ℕ, List, length, take, Result, Ok, Err}
 use Rattle.std.specs.Io.KnownBytes.{Appends, Keeps}
 use Rattle.sup_placement.specs.Place.{Weigher}
 use Rattle.sup_wire.specs.declared.image.Image.{Image}
@@ -19,19 +19,30 @@ pub record TellsImage (weigher : Weigher) (input : List ℕ) (said : List ℕ) :
   pub says : Says IsDraftOfImage input image
   pub told : IsStillText weigher image said
 
+-- why nothing is told of an input that isn't too long: it is no image; or want of memory
+abbrev pub IsUntold : List ℕ → Fault → Type 0
+IsUntold input (BadLine number) = ⊥
+IsUntold input BadInput = ⊥
+IsUntold input (BadImage fault) = IsFault SaysImage input (text_fault fault)
+IsUntold input Device = ⊥
+IsUntold input OutOfMemory = Unit {0}
+
+-- the writer has got a front of what is told of the image
+abbrev pub TellsFront : Weigher → List ℕ → Bytes → Bytes → Type 0
+TellsFront weigher input before written = (said : List ℕ) × TellsImage weigher input said × (count : ℕ) × Appends before written (take count said)
+
 -- The run was stopped: nothing was written, or a front of what is told of an image.
 abbrev pub StopsAt : Weigher → List ℕ → Bytes → Bytes → Type 0
-StopsAt weigher input before written = Keeps before written
-    ⊎ ((length input ≤ 1048576) × (said : List ℕ) × TellsImage weigher input said × (count : ℕ) × Appends before written (take count said))
+StopsAt weigher input before written = Keeps before written ⊎ ((length input ≤ 1048576) × TellsFront weigher input before written)
 
--- How an inspection of this input ends, and what the writer has got then.
+-- How an inspection of this input ends, and what the writer has got then: memory is wanted before anything is written.
 abbrev pub InspectsTo : {X : Type 0} → Weigher → List ℕ → Bytes → Bytes → Result X Fault → Type 0
 InspectsTo weigher input before written (Ok x) = (length input ≤ 1048576) × (said : List ℕ) × TellsImage weigher input said × Appends before written said
 InspectsTo weigher input before written (Err (BadLine number)) = ⊥
 InspectsTo weigher input before written (Err BadInput) = (1048576 < length input) × Keeps before written
 InspectsTo weigher input before written (Err (BadImage fault)) = (length input ≤ 1048576) × IsFault SaysImage input (text_fault fault) × Keeps before written
 InspectsTo weigher input before written (Err Device) = StopsAt weigher input before written
-InspectsTo weigher input before written (Err OutOfMemory) = StopsAt weigher input before written
+InspectsTo weigher input before written (Err OutOfMemory) = Keeps before written
 
 -- The status tells how the run ended, and the error writer was told of that end.
 abbrev pub Inspects : Weigher → Bytes → Bytes → Bytes → Bytes → Bytes → Bytes → Ended → Type 0

@@ -1,8 +1,8 @@
 //! The command `inspect`: what a stored image tells.
 
-ghost use Rattle.std.specs.Prelude.{◌≤◌, ◌+◌, length, IfSome};
+ghost use Rattle.std.specs.Prelude.{◌≡◌, ◌≤◌, ◌+◌, length, string_bytes, Err, IfErr, IfOk, IfSome};
 ghost use Rattle.sup_jobs.specs.Ends.{TakesAtMost, TakesFor};
-ghost use Rattle.sup_inspecting.specs.Inspecting.{InspectsTo, Inspects};
+ghost use Rattle.sup_inspecting.specs.Inspecting.{InspectsTo, Inspects, IsUntold, TellsFront, TellsImage};
 
 use crate::fault::fault_of;
 use std::alloc::Global;
@@ -52,13 +52,24 @@ fn inspect_bytes<G: Weigh, W: Write>(
     writer: &mut W,
 ) -> Result<(), Fault>
     requires { length input.now ≤ LIMIT }
-    ensures { InspectsTo G.weight_of input.now (W.contents writer.old) (W.contents writer.new) result }
+    ensures ends { InspectsTo G.weight_of input.now (W.contents writer.old) (W.contents writer.new) result }
+    // The device fails only once there is something to write.
+    ensures device { result ≡ Err Fault.Device → TellsFront G.weight_of input.now (W.contents writer.old) (W.contents writer.new) }
+{
+    let text = image_text(alloc, weigher, input)?;
+    put_all(writer, text.as_bytes())?;
+    Ok(())
+}
+
+// What is told of the image that the input is.
+fn image_text<G: Weigh>(alloc: Global, weigher: &G, input: &[u8]) -> Result<String, Fault>
+    ensures told { IfOk result (λ s. TellsImage G.weight_of input.now (string_bytes s)) }
+    ensures fault { IfErr result (IsUntold input.now) }
 {
     let still = match Still::read(alloc, input) {
         Ok(still) => still,
         Err(fault) => return Err(fault_of(fault)),
     };
     let text = still_text(alloc, &still, weigher)?;
-    put_all(writer, text.as_bytes())?;
-    Ok(())
+    Ok(text)
 }
