@@ -4,7 +4,7 @@ ghost use Rattle.std.specs.Prelude.{◌≡◌, [], IfOk, map};
 ghost use Rattle.sup_lines.specs.Script.{ReadsAll};
 ghost use Rattle.std.specs.List.{list_any};
 ghost use Rattle.sup_cluster_lines.specs.Script.{all_behind, is_same_pair, plan_script_of};
-ghost use Rattle.sup_cluster_lines.specs.Scripts.{TakesIn, asked_in, numbered};
+ghost use Rattle.sup_cluster_lines.specs.Scripts.{TakesIn, asked_in, numbered, of_line};
 ghost use Rattle.sup_cluster_lines.specs.Links.{link_in};
 
 use crate::line::{PlanLine, read_plan_line};
@@ -43,8 +43,7 @@ pub fn read_plan_script(alloc: Global, bytes: &[u8]) -> Result<PlanScript, Scrip
                 let script = read_lines(alloc, nodes, others)?;
                 Ok(script)
             }
-            Err(LineFault::Bad) => Err(ScriptFault::BadLine(first.number)),
-            Err(LineFault::OutOfMemory) => Err(ScriptFault::OutOfMemory),
+            Err(fault) => Err(of_line(first.number, fault)),
         },
     }
 }
@@ -66,11 +65,20 @@ fn read_lines(
     for line in lines {
         match script.take_in(alloc, line.bytes) {
             Ok(()) => {}
-            Err(LineFault::Bad) => return Err(ScriptFault::BadLine(line.number)),
-            Err(LineFault::OutOfMemory) => return Err(ScriptFault::OutOfMemory),
+            Err(fault) => return Err(of_line(line.number, fault)),
         }
     }
     Ok(script)
+}
+
+// A fault of the line of this number, as one of the script.
+fn of_line(number: u64, fault: LineFault) -> ScriptFault
+    ensures { result ≡ of_line number fault }
+{
+    match fault {
+        LineFault::Bad => ScriptFault::BadLine(number),
+        LineFault::OutOfMemory => ScriptFault::OutOfMemory,
+    }
 }
 
 // Whether one of these links has the same ends.
@@ -81,7 +89,7 @@ fn is_linked(links: &[Route], route: &Route) -> bool
 }
 
 impl PlanScript {
-    // Takes in a line, behind those before it.
+    // Takes in a line, behind those before it. What is refused isn't kept.
     fn take_in(&mut self, alloc: Global, line: &[u8]) -> Result<(), LineFault>
         ensures same { self.new.nodes ≡ self.old.nodes }
         ensures takes { TakesIn self.old.nodes.items (asked_in self.old) line.now result (asked_in self.new) }
