@@ -28,7 +28,7 @@ unstarted job (Some bytes) before errors_before errors_written ended h = (Err Ou
 
 unlooked : (weigher : Weigher) (input before errors_before errors_written : Bytes) (ended : Ended) → WantsMemory errors_before errors_written ended → Inspects weigher input input before before errors_before errors_written ended
 unlooked weigher None before errors_before errors_written ended h = (Err OutOfMemory, h.0, h.1, ([], omega arith, tt), tt)
-unlooked weigher (Some bytes) before errors_before errors_written ended h = (Err OutOfMemory, h.0, h.1, ([], omega arith, refl), inl (Keeps-refl before))
+unlooked weigher (Some bytes) before errors_before errors_written ended h = (Err OutOfMemory, h.0, h.1, ([], omega arith, refl), Keeps-refl before)
 
 -- whatever was asked for
 pub unperformed : (asked : Option Request) (input before errors_before errors_written : Bytes) (ended : Ended) → WantsMemory errors_before errors_written ended → Performs asked input input before before errors_before errors_written ended
