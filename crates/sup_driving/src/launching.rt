@@ -16,8 +16,8 @@ use sup_posts::{Drive, Driven, Post, RunFault};
 
 /// Does the jobs of the drivers of these nodes, each in a thread of its own, with one more for each of their links, and gives what each
 /// driver hands back, in their order: its commands stand in its node's history, each once with its moment, and what the links make of
-/// their letters stands among the other nodes' deliveries. Of the faults of a driver and of the receivers behind its links the gravest is
-/// told: want of memory before a full history, and that before a closed link.
+/// their letters stands among the other nodes' deliveries. Where a driver fails, the gravest is told of its fault and of those of the
+/// receivers behind its links: want of memory before a full history, and that before a closed link. Where it doesn't, the first of theirs.
 ///
 /// # Errors
 ///
