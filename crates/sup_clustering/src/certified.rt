@@ -1,20 +1,22 @@
 //! A plan's run by threads, judged, and what its nodes know once they have settled.
 
-ghost use Rattle.std.specs.Prelude.{◌≡◌, IfErr, IfOk, string_bytes};
+ghost use Rattle.std.specs.Prelude.{◌≡◌, ◌≢◌, Err, IfErr, IfOk, MatchResult, string_bytes};
 ghost use Rattle.sup_plan.specs.Plans.{IsPlan};
 ghost use Rattle.sup_world.specs.Seen.{sites_of};
-ghost use Rattle.sup_clustering.specs.Certifying.{IsCertified, IsRefused, PrintsCluster, SettlesFrom};
+ghost use Rattle.sup_clustering.specs.Certifying.{IsCertified, IsNoRun, IsRefused, PrintsCluster, SettlesFrom};
+ghost use Rattle.sup_clustering.specs.Faults.{judged_as};
 
 use crate::fault::{ClusterFault, of_certify, of_run};
 use crate::text::cluster_text;
 use std::alloc::Global;
 use std::sync::Wait;
 use std::thread::Threads;
-use sup_certify::{Run, certify};
+use sup_certify::{CertifyFault, Run, certify};
 use sup_cluster::Quiet;
 use sup_jobs::Fault;
 use sup_placement::Weigh;
 use sup_plan::Plan;
+use sup_posts::RunFault;
 use sup_world::{Settled, World};
 
 /// Runs a plan by threads, and gives what is printed of its nodes once the run is certified and they have settled.
@@ -38,7 +40,7 @@ pub fn plan_text<T: Threads + Wait + Sync, G: Weigh + Copy + Drop + Send + Sync>
     Ok(text)
 }
 
-// Runs a plan by threads, and judges what they did.
+// Runs a plan by threads, and gives their run once it is certified.
 fn certified_run<T: Threads + Wait + Sync, G: Weigh + Copy + Drop + Send + Sync>(
     rt: &T,
     alloc: Global,
@@ -49,13 +51,38 @@ fn certified_run<T: Threads + Wait + Sync, G: Weigh + Copy + Drop + Send + Sync>
     ensures certified { IfOk result (λ run. IsCertified G.weight_of plan.now run.steps.items (sites_of run.world)) }
     ensures refused { IfErr result (IsRefused G.weight_of plan.now) }
 {
-    let histories = match sup_cluster::run(rt, alloc, plan, &Quiet, &Quiet, weigher) {
-        Ok(histories) => histories,
-        Err(fault) => return Err(of_run(fault)),
-    };
-    match certify(alloc, plan, &histories, *weigher) {
-        Ok(run) => Ok(run),
-        Err(fault) => Err(of_certify(fault)),
+    judged_as(judged_run(rt, alloc, weigher, plan))
+}
+
+// Runs a plan by threads, and judges what they did. Here the threads' faults and those of the judgement are of two types, so that none is
+// taken for the other.
+fn judged_run<T: Threads + Wait + Sync, G: Weigh + Copy + Drop + Send + Sync>(
+    rt: &T,
+    alloc: Global,
+    weigher: &G,
+    plan: &Plan,
+) -> Result<Result<Run<G>, CertifyFault>, RunFault>
+    requires { IsPlan plan.now }
+    ensures good { result ≢ Err RunFault.BadPlan }
+    ensures judged { IfOk result (λ judged. MatchResult judged
+        (λ run. IsCertified G.weight_of plan.now run.steps.items (sites_of run.world))
+        (IsNoRun G.weight_of plan.now)) }
+{
+    match sup_cluster::run(rt, alloc, plan, &Quiet, &Quiet, weigher) {
+        Ok(histories) => Ok(certify(alloc, plan, &histories, *weigher)),
+        Err(fault) => Err(fault),
+    }
+}
+
+// The end of a cluster whose threads' run was judged so.
+fn judged_as<R: Drop>(run: Result<Result<R, CertifyFault>, RunFault>) -> Result<R, ClusterFault>
+    requires { run ≢ Err RunFault.BadPlan }
+    ensures { result ≡ judged_as run }
+{
+    match run {
+        Ok(Ok(run)) => Ok(run),
+        Ok(Err(fault)) => Err(of_certify(fault)),
+        Err(fault) => Err(of_run(fault)),
     }
 }
 

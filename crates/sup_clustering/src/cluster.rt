@@ -1,6 +1,6 @@
 //! The command `cluster`.
 
-ghost use Rattle.std.specs.Prelude.{◌≤◌, ◌+◌, length, IfSome};
+ghost use Rattle.std.specs.Prelude.{◌≡◌, ◌≤◌, ◌+◌, length, Ok, IfSome};
 ghost use Rattle.sup_jobs.specs.Ends.{TakesAtMost};
 ghost use Rattle.sup_clustering.specs.Clustering.{Clusters, ClustersTo, TakesFor};
 
@@ -37,6 +37,8 @@ pub fn run_cluster<
     ensures clusters { Clusters G.weight_of config (R.remaining reader.old) (R.remaining reader.new)
         (W.contents writer.old) (W.contents writer.new) (E.contents errors.old)
         (E.contents errors.new) result }
+    // The error writer can't fail at a good end, of which nothing is told.
+    ensures quiet { result.status ≡ 0 → result.told ≡ Ok tt }
     ensures taken { TakesAtMost (LIMIT + 1) (R.remaining reader.old) (R.remaining reader.new) }
 {
     let end = run_input(rt, alloc, weigher, config, reader, writer);

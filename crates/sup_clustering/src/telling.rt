@@ -1,6 +1,6 @@
 //! How a cluster's end is told.
 
-ghost use Rattle.std.specs.Prelude.{◌≡◌, ◌++◌, codes};
+ghost use Rattle.std.specs.Prelude.{◌≡◌, ◌++◌, Ok, codes};
 ghost use Rattle.sup_jobs.specs.Tells.{Tells};
 ghost use Rattle.sup_clustering.specs.Faults.{fault_line_at, fault_text, status_at};
 
@@ -14,6 +14,8 @@ use sup_specs::NodeName;
 pub fn finish<E: Write>(errors: &mut E, end: Result<(), ClusterFault>) -> Ended
     ensures status { result.status ≡ status_at end }
     ensures told { Tells result.told (E.contents errors.old) (E.contents errors.new) (fault_line_at end) }
+    // The error writer can't fail at a good end, of which nothing is told.
+    ensures quiet { result.status ≡ 0 → result.told ≡ Ok tt }
 {
     match end {
         Ok(()) => Ended {
