@@ -10,10 +10,19 @@ rounds=${3:-3}
 . "$top/bench/timing.bash"
 crate=$top/crates/sup_certify_times
 program=$crate/out/sup_certify_times
-[ -x "$program" ] || (cd "$crate" && rt run -- 0 0 0 >"$work/built")
-once=$(least "$rounds" /dev/null "$program" "$commands" 0 0)
-judged=$(least "$rounds" /dev/null "$program" "$commands" "$times" 0)
-replayed=$(least "$rounds" /dev/null "$program" "$commands" 0 "$times")
+[ -x "$program" ] || (cd "$crate" && rt run -- 0 0 <"$crate/stdin" >"$work/built")
+# Every tenth command ships to the next node, the others start children.
+awk -v commands="$commands" 'BEGIN {
+  print "nodes a b c d e"
+  split("a b c d e", node)
+  for (at = 1; at <= 5; at++)
+    for (place = 0; place < commands; place++)
+      if (place % 10 == 9) print "ship " node[at] " " node[at % 5 + 1]
+      else print "start " node[at] " child-" at "-" place
+}' >"$work/script"
+once=$(least "$rounds" "$work/script" "$program" 0 0)
+judged=$(least "$rounds" "$work/script" "$program" "$times" 0)
+replayed=$(least "$rounds" "$work/script" "$program" 0 "$times")
 awk -v once="$once" -v judged="$judged" -v replayed="$replayed" -v times="$times" 'BEGIN {
   judgement = (judged - once) / times
   replay = (replayed - once) / times

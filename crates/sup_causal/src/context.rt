@@ -1,16 +1,20 @@
 //! Causal contexts: which dots a node has seen, kept as a version vector and a dot cloud.
 
-ghost use Rattle.std.specs.Prelude.{◌≡◌, ℕ, List, ◌≤◌, ◌+◌, ◌||◌, ◌&&◌, ◌↔◌, length, not, Bool, false, true, IsTrue, Err, IfOk, IfErr, OnOk, OnErr, IfSome, IsNone};
+ghost use Rattle.std.specs.Prelude.{◌≡◌, ◌≤◌, ◌+◌, ◌||◌, ◌&&◌, ◌↔◌, length, not, Bool, false, true, IsTrue, Err, IfOk, IfErr, OnOk, OnErr, IfSome, IsNone};
 ghost use Rattle.std.specs.Prelude.{All};
-ghost use Rattle.std.specs.List.{AllByRecursion, filter};
 ghost use Rattle.sup_specs.specs.Rising.{among, IsRising};
-ghost use Rattle.sup_causal.specs.Cut.{entry, in_run, in_runs, in_parts, IsRun, IsVector, IsCloud, IsCanonical};
+ghost use Rattle.sup_causal.specs.Cut.{in_parts, IsRun, IsVector, IsCloud, IsCanonical};
 ghost use Rattle.sup_causal.specs.declared.parts.PartsFault.TheVariants.{NotCanonical};
 ghost use Rattle.sup_causal.specs.Dots.{has, list_has, dot_cmp, dot_eq, IsCounted, IsGreatest, IsKept, IsNext};
 ghost use Rattle.sup_causal.specs.Greatest.{greatest_in};
-ghost use Rattle.sup_causal.specs.Parts.{IsVersions, in_vector, IsWidthOf, total_of};
+ghost use Rattle.sup_causal.specs.Parts.{IsVersions, in_vector, IsWidthOf};
+
+mod listing;
+mod within;
 
 use crate::absorb::absorb;
+use crate::context::listing::{cloud_beyond, common, runs_beyond};
+use crate::context::within::{cloud_within, is_at_most, parts_have, runs_within};
 use crate::dot::Dot;
 use crate::entries::{entry_in, lift, raise};
 use crate::lattice::Lattice;
@@ -281,124 +285,4 @@ fn absorbed(
 {
     let cloud = absorb(alloc, &mut vector, dots)?;
     Ok(CausalContext { vector, cloud })
-}
-
-// Whether a vector and a cloud have the dot.
-fn parts_have(vector: &[(NodeName, u64)], cloud: &[Dot], dot: &Dot) -> bool
-    requires { IsCanonical vector.now cloud.now }
-    ensures { result ≡ in_parts vector.now cloud.now dot.now }
-{
-    let entry = entry_in(vector, &dot.node);
-    (1 <= dot.counter && dot.counter <= entry) || is_in(dot, cloud)
-}
-
-// Whether each entry is at most the other vector's.
-fn runs_within(vector: &[(NodeName, u64)], others: &[(NodeName, u64)]) -> bool
-    requires vector { IsVersions vector.now }
-    requires others { IsVersions others.now }
-    ensures { IsTrue result ↔ ((q : List ℕ) → entry vector.now q ≤ entry others.now q) }
-{
-    for (node, entry) in vector {
-        if entry_in(others, node) < *entry {
-            return false;
-        }
-    }
-    true
-}
-
-// Whether the context has all the dots.
-fn cloud_within(dots: &[Dot], other: &CausalContext) -> bool
-    ensures { IsTrue result ↔ ((d : Dot) → list_has dots.now d ≡ true → has other.now d ≡ true) }
-{
-    for dot in dots {
-        if !other.contains(dot) {
-            return false;
-        }
-    }
-    true
-}
-
-// Whether the entries and so many dots beside them are at most so many dots together.
-fn is_at_most(vector: &[(NodeName, u64)], cloud: usize, most: usize) -> bool
-    ensures { IsTrue result ↔ (total_of vector.now + cloud ≤ most) }
-{
-    if most < cloud {
-        return false;
-    }
-    let mut left = (most - cloud) as u64;
-    for entry in vector {
-        if left < entry.1 {
-            return false;
-        }
-        left -= entry.1;
-    }
-    true
-}
-
-// The dots that the other has.
-fn common(alloc: Global, dots: &[Dot], other: &CausalContext) -> Result<Vec<Dot>, AllocError>
-    ensures { IfOk result (λ shared. shared.items ≡ filter (λ d. has other.now d) dots.now) }
-{
-    let mut shared = Vec::new(alloc);
-    for dot in dots {
-        if other.contains(dot) {
-            shared.push(*dot)?;
-        }
-    }
-    Ok(shared)
-}
-
-// The dots of the runs that the other lacks.
-fn runs_beyond(
-    alloc: Global,
-    vector: &[(NodeName, u64)],
-    other: &CausalContext,
-) -> Result<Vec<Dot>, AllocError>
-    requires { IsVersions vector.now }
-    ensures counted { IfOk result (λ dots. AllByRecursion IsCounted dots.items) }
-    ensures dots { IfOk result (λ dots. (d : Dot) → list_has dots.items d ≡ (in_runs vector.now d && not (has other.now d))) }
-{
-    let mut dots = Vec::new(alloc);
-    for (node, entry) in vector {
-        run_beyond(&mut dots, *node, *entry, other)?;
-    }
-    Ok(dots)
-}
-
-// Pushes those of the node's dots 1 to last that the other lacks. Those of its run are not even looked at.
-fn run_beyond(
-    dots: &mut Vec<Dot>,
-    node: NodeName,
-    last: u64,
-    other: &CausalContext,
-) -> Result<(), AllocError>
-    requires last { last ≤ MAX }
-    requires counted { AllByRecursion IsCounted dots.old.items }
-    ensures counted { AllByRecursion IsCounted dots.new.items }
-    ensures dots { OnOk result ((d : Dot) → list_has dots.new.items d ≡ (list_has dots.old.items d || (in_run node last d && not (has other.now d)))) }
-{
-    let seen = last.min(other.run(&node));
-    for done in seen..last {
-        let dot = Dot {
-            counter: done + 1,
-            node,
-        };
-        if !other.contains(&dot) {
-            dots.push(dot)?;
-        }
-    }
-    Ok(())
-}
-
-// The dots that the other lacks.
-fn cloud_beyond(alloc: Global, dots: &[Dot], other: &CausalContext) -> Result<Vec<Dot>, AllocError>
-    ensures { IfOk result (λ fresh. fresh.items ≡ filter (λ d. not (has other.now d)) dots.now) }
-{
-    let mut fresh = Vec::new(alloc);
-    for dot in dots {
-        if !other.contains(dot) {
-            fresh.push(*dot)?;
-        }
-    }
-    Ok(fresh)
 }

@@ -24,9 +24,9 @@ use Rattle.sup_posts.specs.declared.jobs.Drive.{Drive}
 use Rattle.sup_posts.specs.declared.jobs.Driven.{Driven}
 use Rattle.sup_posts.specs.declared.jobs.Arrived.{Arrived}
 use Rattle.sup_cluster.specs.Runs.{HasRun, Reaches, Drove, IsRunOf}
-use Rattle.sup_cluster.specs.Steps.{Begins, IsPostOf, IsLaneTo, IsDriveOf, IsHistoryOf, Ends, AreFinished}
-use Rattle.sup_cluster.proofs.Zips.{zip_left, zip_right, zip_map, zip_weaken, zip_equal, map_same}
-use Rattle.sup_cluster.proofs.Items.{all_at, contained, place_of, stands_in, same_place, flat_contains}
+use Rattle.sup_run_ends.specs.Steps.{Begins, IsPostOf, IsLaneTo, IsDriveOf, IsHistoryOf, Ends, AreFinished}
+use Rattle.sup_run_ends.proofs.Zips.{zip_left, zip_right, zip_map, zip_weaken, zip_equal, map_same}
+use Rattle.sup_run_ends.proofs.Items.{all_at, contained, place_of, stands_in, same_place, flat_contains}
 use Rattle.sup_cluster.proofs.Sublists.{in_history, in_deliveries}
 
 module _ {W : Type 0} {h : WeighGhosts W} where

@@ -10,9 +10,9 @@ use Rattle.sup_posts.specs.declared.fault.RunFault.TheVariants.{BadPlan, History
 use Rattle.sup_posts.specs.declared.post.Post.{Post}
 use Rattle.sup_posts.specs.declared.jobs.Drive.{Drive}
 use Rattle.sup_posts.specs.declared.jobs.Driven.{Driven}
-use Rattle.sup_cluster.specs.Steps.{IsSeatOf, IsDriveOf, IsArrived, Returns}
-use Rattle.sup_cluster.proofs.Zips.{zip_right, zip_through}
-use Rattle.sup_cluster.proofs.Items.{all_at, same_place}
+use Rattle.sup_run_ends.specs.Steps.{IsSeatOf, IsDriveOf, IsArrived, Returns}
+use Rattle.sup_run_ends.proofs.Zips.{zip_right, zip_through}
+use Rattle.sup_run_ends.proofs.Items.{all_at, same_place}
 
 module _ {W : Type 0} {h : WeighGhosts W} where
   arrives : (posts : List (Post W h)) (drive : Drive W h) (driven : Driven W h) (d : Drives posts drive driven) → All (IsArrived posts) driven.arrived.items

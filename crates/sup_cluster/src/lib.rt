@@ -5,11 +5,6 @@
 //! send goes through links that lose, double and hold messages as the plan's scripts say.
 #![tactic(auto)]
 
-mod closing;
-mod dealing;
-mod joining;
-mod launching;
-mod opening;
 mod running;
 
 pub use running::run;

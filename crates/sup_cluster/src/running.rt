@@ -4,9 +4,6 @@ ghost use Rattle.sup_plan.specs.Plans.{IsPlan};
 ghost use Rattle.sup_posts.specs.declared.fault.RunFault.TheVariants.{BadPlan};
 ghost use Rattle.sup_cluster.specs.Runs.{IsRunOf};
 
-use crate::closing::finish;
-use crate::launching::make_drives;
-use crate::opening::open_posts;
 use std::alloc::Global;
 use std::sync::Wait;
 use std::thread::Threads;
@@ -14,6 +11,7 @@ use sup_driving::{Checkpoint, Runner, launch};
 use sup_placement::Weigh;
 use sup_plan::{Histories, Plan, is_plan};
 use sup_posts::RunFault;
+use sup_run_ends::{finish, make_drives, open_posts};
 
 /// Runs a plan: each of its nodes is driven by the plan's commands, over links by its scripts, in threads of their own. What nodes have
 /// done with children is told the runner, and the checkpoint stands by each command. Gives what happened at each node.

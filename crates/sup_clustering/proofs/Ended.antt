@@ -8,11 +8,11 @@ use Rattle.sup_jobs.specs.declared.fault.Fault.{Fault}
 use Rattle.sup_jobs.specs.declared.fault.Fault.TheVariants as job
 use Rattle.sup_jobs.specs.Ends.{Bytes}
 use Rattle.sup_plan.specs.declared.plan.Plan.{Plan}
-use Rattle.sup_clustering.specs.Plans.{IsReadFault, Says}
+use Rattle.sup_cluster_texts.specs.Plans.{IsReadFault, Says}
 use Rattle.sup_clustering.specs.Certifying.{IsRefused, PrintsCluster}
 use Rattle.sup_clustering.specs.Clustering.{ClustersTo}
-use Rattle.sup_clustering.specs.declared.fault.ClusterFault.{ClusterFault}
-use Rattle.sup_clustering.specs.declared.fault.ClusterFault.TheVariants.{Job, HistoryFull, LinkClosed, Stuck, Differs}
+use Rattle.sup_cluster_texts.specs.declared.fault.ClusterFault.{ClusterFault}
+use Rattle.sup_cluster_texts.specs.declared.fault.ClusterFault.TheVariants.{Job, HistoryFull, LinkClosed, Stuck, Differs}
 
 -- the input says no plan
 pub unread : (X : Type 0) (weigher : Weigher) (config : Config) (input : List ℕ) (before : Bytes) (fault : Fault) → length input ≤ 1048576 → IsReadFault input fault → ClustersTo {X = X} weigher config input before before (Err (Job fault))

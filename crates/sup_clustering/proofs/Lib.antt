@@ -1,5 +1,1 @@
-mod Chosen
-mod ReadNodes
-mod ReadLines
-mod ReadPlans
 mod Ended

@@ -19,9 +19,9 @@ use Rattle.sup_certify.specs.Faults.{IsFaultOf}
 use Rattle.sup_certify.specs.Follows.{IsRunOf, KnowsAll}
 use Rattle.sup_certify.specs.declared.fault.CertifyFault.{CertifyFault}
 use Rattle.sup_certify.specs.declared.fault.CertifyFault.TheVariants as judged
-use Rattle.sup_clustering.specs.Texts.{cluster_text}
-use Rattle.sup_clustering.specs.declared.fault.ClusterFault.{ClusterFault}
-use Rattle.sup_clustering.specs.declared.fault.ClusterFault.TheVariants.{Job, HistoryFull, LinkClosed, Stuck, Differs}
+use Rattle.sup_cluster_texts.specs.Texts.{cluster_text}
+use Rattle.sup_cluster_texts.specs.declared.fault.ClusterFault.{ClusterFault}
+use Rattle.sup_cluster_texts.specs.declared.fault.ClusterFault.TheVariants.{Job, HistoryFull, LinkClosed, Stuck, Differs}
 
 -- what the plan's threads did is a run of these steps, from a new world of the plan's nodes to this one, and follows the model
 pub record IsCertified (weigher : Weigher) (plan : Plan) (steps : List Step) (sites : List Seen) : Type 0 where

@@ -10,11 +10,11 @@ use Rattle.sup_jobs.specs.Ends.{Bytes, IsTaken}
 use Rattle.sup_jobs.specs.Tells.{Tells}
 use Rattle.sup_plan.specs.declared.plan.Plan.{Plan}
 use Rattle.sup_cluster_lines.specs.Script.{plan_script_of}
-use Rattle.sup_clustering.specs.Faults.{fault_line_at, status_at}
-use Rattle.sup_clustering.specs.Plans.{Says}
+use Rattle.sup_cluster_texts.specs.Faults.{fault_line_at, status_at}
+use Rattle.sup_cluster_texts.specs.Plans.{Says}
 use Rattle.sup_clustering.specs.Certifying.{IsRefused, PrintsCluster}
-use Rattle.sup_clustering.specs.declared.fault.ClusterFault.{ClusterFault}
-use Rattle.sup_clustering.specs.declared.fault.ClusterFault.TheVariants.{Job, HistoryFull, LinkClosed, Stuck, Differs}
+use Rattle.sup_cluster_texts.specs.declared.fault.ClusterFault.{ClusterFault}
+use Rattle.sup_cluster_texts.specs.declared.fault.ClusterFault.TheVariants.{Job, HistoryFull, LinkClosed, Stuck, Differs}
 
 -- what is printed of a certified run of the plan that the input says
 abbrev pub MayPrint : Weigher → Config → List ℕ → List ℕ → Type 0

@@ -4,15 +4,14 @@ ghost use Rattle.std.specs.Prelude.{◌≡◌, ◌≢◌, Err, IfErr, IfOk, Matc
 ghost use Rattle.sup_plan.specs.Plans.{IsPlan};
 ghost use Rattle.sup_world.specs.Seen.{sites_of};
 ghost use Rattle.sup_clustering.specs.Certifying.{IsCertified, IsNoRun, IsRefused, PrintsCluster, SettlesFrom};
-ghost use Rattle.sup_clustering.specs.Faults.{judged_as};
+ghost use Rattle.sup_cluster_texts.specs.Faults.{judged_as};
 
-use crate::fault::{ClusterFault, of_certify, of_run};
-use crate::text::cluster_text;
 use std::alloc::Global;
 use std::sync::Wait;
 use std::thread::Threads;
 use sup_certify::{CertifyFault, Run, certify};
 use sup_cluster::Quiet;
+use sup_cluster_texts::{ClusterFault, cluster_text, of_certify, of_run};
 use sup_jobs::Fault;
 use sup_placement::Weigh;
 use sup_plan::Plan;

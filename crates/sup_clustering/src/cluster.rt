@@ -5,13 +5,11 @@ ghost use Rattle.sup_jobs.specs.Ends.{TakesAtMost};
 ghost use Rattle.sup_clustering.specs.Clustering.{Clusters, ClustersTo, TakesFor};
 
 use crate::certified::plan_text;
-use crate::fault::ClusterFault;
-use crate::plan::read_plan;
-use crate::telling::finish;
 use std::alloc::Global;
 use std::io::{Read, Write};
 use std::sync::Wait;
 use std::thread::Threads;
+use sup_cluster_texts::{ClusterFault, finish, read_plan};
 use sup_jobs::{Ended, Fault, LIMIT, put_all, read_input};
 use sup_placement::Weigh;
 use sup_replica::Config;

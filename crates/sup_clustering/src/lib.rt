@@ -6,14 +6,6 @@
 
 pub mod certified;
 mod cluster;
-pub mod fault;
-pub mod plan;
-pub mod telling;
-pub mod text;
 
 pub use certified::plan_text;
 pub use cluster::run_cluster;
-pub use fault::ClusterFault;
-pub use plan::{plan_of, read_plan};
-pub use telling::{finish, report};
-pub use text::cluster_text;

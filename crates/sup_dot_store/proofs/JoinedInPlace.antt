@@ -16,7 +16,7 @@ use Rattle.std.proofs.Math.Bool.{or-false}
 use Rattle.sup_dot_store.specs.declared.dot_fun.DotFun.{DotFun}
 use Rattle.sup_dot_store.specs.declared.indexed.join.Outcome.TheVariants.{Gone, Stays, Lesser}
 use Rattle.sup_dot_store.specs.Points.{standing, higher, value_at}
-use Rattle.sup_dot_store.specs.Index.{IsIndex, AreGone, HasLesser, value_under}
+use Rattle.sup_dot_store.specs.Index.{IsIndex, AreGone, HasLesser, HasValue, value_under}
 use Rattle.sup_dot_store.specs.Outcomes.{outcome}
 use mathlib.Core.Bool.{false≢true}
 
@@ -71,6 +71,14 @@ still_known false g hit true h t = refl
 still_known false true hit false h t = absurd (false≢true (h refl))
 still_known false false true false h t = t
 still_known false false false false h t = t
+
+-- what holds of each gone dot holds of each where one more is gone, of which it holds
+still_here : {T : Type 0} (g hit e : Bool) → (g ≡ true → T) → (hit ≡ true → e ≡ true → T) → (g || (hit && e)) ≡ true → T
+still_here true hit e before now t = before refl
+still_here false true true before now t = now refl refl
+still_here false true false before now t = absurd (false≢true t)
+still_here false false true before now t = absurd (false≢true t)
+still_here false false false before now t = absurd (false≢true t)
 
 judged_more : {T : Type 0} (o v : Option T) (k g hit e : Bool) → (g ≡ true → k ≡ true) → (k ≡ true → cond g None o ≡ v) → (e ≡ true → cond hit None o ≡ v) → (k || e) ≡ true → cond (g || (hit && e)) None o ≡ v
 judged_more o v k true hit e known before here t = before (known refl)
@@ -127,10 +135,11 @@ module _ {K V : Type 0} (key_cmp : K → K → Ordering) (cmp : V → V → Orde
 
   -- one dot more is known, and judged
   dot_judged : (known gone known_now gone_now : Dot → Bool) (dot : Dot) (hit : Bool) → AreGone (lesser cmp) key_cmp known gone mine theirs
-      → ((d : Dot) → known_now d ≡ (known d || dot_eq dot d)) → ((d : Dot) → gone_now d ≡ (gone d || (hit && dot_eq dot d))) → IsJudged hit dot
+      → ((d : Dot) → known_now d ≡ (known d || dot_eq dot d)) → ((d : Dot) → gone_now d ≡ (gone d || (hit && dot_eq dot d))) → (hit ≡ true → HasValue key_cmp mine dot) → IsJudged hit dot
       → AreGone (lesser cmp) key_cmp known_now gone_now mine theirs
-  dot_judged known gone known_now gone_now dot hit before knows takes judged = record {
+  dot_judged known gone known_now gone_now dot hit before knows takes valued judged = record {
     in_known = λ d t. knows d ∙ still_known (known d) (gone d) hit (dot_eq dot d) (before.in_known d) (sym (takes d) ∙ t);
+    here = λ d t. still_here (gone d) hit (dot_eq dot d) (before.here d) (λ h e. subst (HasValue key_cmp mine) (dot_eq-true dot d e) (valued h)) (sym (takes d) ∙ t);
     joined = λ k d t.
         ap (λ b. cond b None (value_under key_cmp mine k d)) (takes d)
         ∙ judged_more (value_under key_cmp mine k d) (joined_at k d) (known d) (gone d) hit (dot_eq dot d) (before.in_known d) (before.joined k d)
@@ -144,13 +153,13 @@ module _ {K V : Type 0} (key_cmp : K → K → Ordering) (cmp : V → V → Orde
       ∙ ap (λ b. among dot_cmp (take i dots) d || b) (turned d dot)
 
   pub dot_goes : (dots gone : List Dot) (i : ℕ) (dot : Dot) → AreGone (lesser cmp) key_cmp (among dot_cmp (take i dots)) (among dot_cmp gone) mine theirs
-      → i < length dots → dot ≡ get_or dots i dot → IsJudged true dot → AreGone (lesser cmp) key_cmp (among dot_cmp (take (i + 1) dots)) (among dot_cmp (gone ++ dot ∷ [])) mine theirs
-  dot_goes dots gone i dot before within is judged =
+      → i < length dots → dot ≡ get_or dots i dot → HasValue key_cmp mine dot → IsJudged true dot → AreGone (lesser cmp) key_cmp (among dot_cmp (take (i + 1) dots)) (among dot_cmp (gone ++ dot ∷ [])) mine theirs
+  dot_goes dots gone i dot before within is valued judged =
       dot_judged (among dot_cmp (take i dots)) (among dot_cmp gone) (among dot_cmp (take (i + 1) dots)) (among dot_cmp (gone ++ dot ∷ [])) dot true before (λ d. known_more dots i dot d within is)
-      (λ d. list_any-append (eq_by_cmp dot_cmp d) gone (dot ∷ []) ∙ ap (λ b. among dot_cmp gone d || b) (or-false (dot_eq d dot) ∙ turned d dot)) judged
+      (λ d. list_any-append (eq_by_cmp dot_cmp d) gone (dot ∷ []) ∙ ap (λ b. among dot_cmp gone d || b) (or-false (dot_eq d dot) ∙ turned d dot)) (λ _. valued) judged
 
   pub dot_stays : (dots gone : List Dot) (i : ℕ) (dot : Dot) → AreGone (lesser cmp) key_cmp (among dot_cmp (take i dots)) (among dot_cmp gone) mine theirs
       → i < length dots → dot ≡ get_or dots i dot → IsJudged false dot → AreGone (lesser cmp) key_cmp (among dot_cmp (take (i + 1) dots)) (among dot_cmp gone) mine theirs
   dot_stays dots gone i dot before within is judged =
       dot_judged (among dot_cmp (take i dots)) (among dot_cmp gone) (among dot_cmp (take (i + 1) dots)) (among dot_cmp gone) dot false before (λ d. known_more dots i dot d within is)
-      (λ d. sym (or-false (among dot_cmp gone d))) judged
+      (λ d. sym (or-false (among dot_cmp gone d))) (λ h. absurd (false≢true h)) judged

@@ -88,9 +88,15 @@ TakesDots {K} cmp listed old new = (k : K) (d : Dot) → value_under cmp new k d
 abbrev pub HasSameRows : {K V : Type 0} → (K → K → Ordering) → BTreeMap K (DotFun V) → BTreeMap K (DotFun V) → Type 0
 HasSameRows {K} cmp old new = (k : K) (d : Dot) → value_under cmp new k d ≡ value_under cmp old k d
 
--- taking the gone dots away here leaves at each dot that both states know what a join gives
+-- a dot has a value under some key
+pub record HasValue {K V : Type 0} (cmp : K → K → Ordering) (stores : BTreeMap K (DotFun V)) (dot : Dot) : Type 0 where
+  pub key : K
+  pub here : IsSome (value_under cmp stores key dot)
+
+-- each gone dot has a value here, and taking them away leaves at each dot that both states know what a join gives
 pub record AreGone {K V : Type 0} (lesser : V → V → V) (cmp : K → K → Ordering) (known gone : Dot → Bool) (mine theirs : BTreeMap K (DotFun V)) : Type 0 where
   pub in_known : (d : Dot) → gone d ≡ true → known d ≡ true
+  pub here : (d : Dot) → gone d ≡ true → HasValue cmp mine d
   pub joined : (k : K) (d : Dot) → known d ≡ true → cond (gone d) None (value_under cmp mine k d) ≡ value_at (higher lesser (standing true (value_under cmp mine k d)) (standing true (value_under cmp theirs k d)))
 
 -- a known dot has, under one key, a lesser value there than here

@@ -1,6 +1,6 @@
 -- What is seen of the ends of a link (this project): its script, the list put, the list taken, and the channel between them.
-use Rattle.std.specs.Prelude.{◌≡◌, Bool, List}
-use Rattle.crossbeam_channel.specs.Ends.{sends_on, receives_on}
+use Rattle.std.specs.Prelude.{◌≡◌, ℕ, Bool, List}
+use Rattle.crossbeam_channel.specs.Ends.{sends_on, receives_on, ruled_capacity}
 use Rattle.sup_links.specs.Texts.{Bytes, messages, taken_said}
 use Rattle.sup_links.specs.Sent.{sent_of}
 use Rattle.sup_links.specs.declared.script.Verdict.{Verdict}
@@ -18,6 +18,10 @@ put_of end = sent_of end.log
 -- whether the other end was found gone
 abbrev pub is_closed : LinkIn → Bool
 is_closed end = end.closed
+
+-- how many messages the link holds on their way
+abbrev pub room_of : LinkIn → ℕ
+room_of end = ruled_capacity (sends_on end.entry.end)
 
 abbrev pub sent_script : Sent → List Verdict
 sent_script sent = sent.script.0.items

@@ -1,6 +1,6 @@
 //! Links are made here, as two ends.
 ghost use Rattle.std.specs.Prelude.{◌≡◌, ◌≤◌, [], IfOk, false};
-ghost use Rattle.sup_links.specs.Ends.{script_of, put_of, is_closed, taken_of, has_ended, AreOneLink};
+ghost use Rattle.sup_links.specs.Ends.{script_of, room_of, put_of, is_closed, taken_of, has_ended, AreOneLink};
 
 use crate::link_in::LinkIn;
 use crate::link_out::LinkOut;
@@ -25,6 +25,7 @@ pub fn link(
     requires high { capacity ≤ MAX_CAPACITY }
     ensures one { IfOk result (λ p. AreOneLink p.0 p.1) }
     ensures script { IfOk result (λ p. script_of p.0 ≡ script.0.items) }
+    ensures room { IfOk result (λ p. room_of p.0 ≡ capacity) }
     ensures none_put { IfOk result (λ p. put_of p.0 ≡ []) }
     ensures open { IfOk result (λ p. is_closed p.0 ≡ false) }
     ensures none_taken { IfOk result (λ p. taken_of p.1 ≡ []) }

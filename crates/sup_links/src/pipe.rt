@@ -1,7 +1,7 @@
 //! The two ends of the channel: what was taken is a beginning of what was put.
 ghost use Rattle.std.specs.Prelude.{◌≡◌, ◌<◌, ◌+◌, length, ◌++◌, [], ◌∷◌, List, true, false, IfOk, option_to_list, IfSome, MatchResult};
 ghost use Rattle.crossbeam_channel.specs.Claims.{view, IsSeatAt};
-ghost use Rattle.crossbeam_channel.specs.Ends.{sends_on, receives_on};
+ghost use Rattle.crossbeam_channel.specs.Ends.{sends_on, receives_on, ruled_capacity};
 ghost use Rattle.crossbeam_channel.specs.Err.{send_message};
 ghost use Rattle.sup_links.specs.Relay.{log};
 ghost use Rattle.sup_links.specs.declared.channel.Parcel.{Parcel};
@@ -34,6 +34,7 @@ pub struct Exit {
 pub fn pipe(alloc: Global, capacity: usize) -> Result<(Entry, Exit), AllocError>
     requires { 0 < capacity }
     ensures one { IfOk result (λ p. receives_on p.1.end ≡ sends_on p.0.end) }
+    ensures room { IfOk result (λ p. ruled_capacity (sends_on p.0.end) ≡ capacity) }
     ensures empty { IfOk result (λ p. ((view p.0.pass).put ≡ []) × ((view p.1.pass).taken ≡ [])) }
 {
     let (put, take, mut pass) = bounded_with::<Parcel, Seen, InOrder, Global>(alloc, capacity)?;

@@ -14,7 +14,7 @@ use Rattle.sup_jobs.specs.declared.fault.Ended.{Ended}
 use Rattle.sup_jobs.specs.declared.fault.Fault.TheVariants as job
 use Rattle.sup_jobs.specs.Ends.{Bytes, TakesAtMost}
 use Rattle.sup_clustering.specs.Clustering.{Clusters}
-use Rattle.sup_clustering.specs.declared.fault.ClusterFault.TheVariants.{Job}
+use Rattle.sup_cluster_texts.specs.declared.fault.ClusterFault.TheVariants.{Job}
 use Rattle.sup_program.specs.Performing.{Performs, WantsMemory}
 use Rattle.sup_program.specs.Runs.{EndsWith, Runs}
 use Rattle.sup_supctl.specs.Runs.{PerformsAll, RunsAll}

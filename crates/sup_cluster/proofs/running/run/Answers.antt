@@ -2,7 +2,7 @@ use Rattle.std.proofs.Common.{All, sym, subst}
 use Rattle.std.specs.List.{AllZip}
 use Rattle.sup_posts.specs.Jobs.{Takes, Gives}
 use Rattle.sup_cluster.specs.Runs.{IsRunOf}
-use Rattle.sup_cluster.specs.Steps.{IsPostOf, IsDriveOf}
+use Rattle.sup_run_ends.specs.Steps.{IsPostOf, IsDriveOf}
 use Rattle.sup_cluster.proofs.Returning.{drives_take, returned}
 use Rattle.sup_cluster.proofs.Finishing.{is_run}
 use Rattle.sup_cluster.proofs.running.run.Goals as goal

@@ -27,7 +27,7 @@ loop-dot-preserved g c =
           let key : get dot_cmp self.keys dot ≡ Some w.in-Some.key.now = search rules in
           let goes = ap (λ s. outcome cmp (value_under key_cmp self.stores w.in-Some.key.now dot) (value_under key_cmp s w.in-Some.key.now dot)) (sym w.stores.ensures) ∙ sym w.in-Gone.ensures in
           subst AreListed (sym (ap (λ v. v.items) w.gone-is ∙ w.in_ok-push-in-Gone.ensures.items))
-          (dot_goes key_cmp cmp self.stores theirs known gone at dot c.loop-dot.invariant c.loop-dot-test.true c.dot-item.is (judged_gone key_cmp cmp self.stores theirs self.keys self.indexed dot w.in-Some.key.now key goes))
+          (dot_goes key_cmp cmp self.stores theirs known gone at dot c.loop-dot.invariant c.loop-dot-test.true c.dot-item.is (record { key = w.in-Some.key.now; here = self.indexed.there dot w.in-Some.key.now key }) (judged_gone key_cmp cmp self.stores theirs self.keys self.indexed dot w.in-Some.key.now key goes))
       | in-Some+in-Stays w ↦
           let key : get dot_cmp self.keys dot ≡ Some w.in-Some.key.now = search rules in
           let stays = ap (λ s. outcome cmp (value_under key_cmp self.stores w.in-Some.key.now dot) (value_under key_cmp s w.in-Some.key.now dot)) (sym w.stores.ensures) ∙ sym w.in-Stays.ensures in

@@ -1,7 +1,0 @@
-use Rattle.std.proofs.Common.{take}
-use Rattle.std.specs.List.{AllZip}
-use Rattle.sup_cluster.specs.Steps.{IsPostOf, IsSeatOf}
-use Rattle.sup_cluster.proofs.opening.open_posts.Given as goal
-
-abbrev pub invariant-loop-name : goal.invariant-loop-name
-invariant-loop-name g l = AllZip (IsPostOf l.config) (take l.name-index l.nodes) l.posts.items × AllZip IsSeatOf l.posts.items l.seats.items

@@ -1,0 +1,4 @@
+mod Chosen
+mod ReadNodes
+mod ReadLines
+mod ReadPlans

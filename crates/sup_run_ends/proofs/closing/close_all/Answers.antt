@@ -1,0 +1,83 @@
+use Rattle.std.proofs.Common.{arith, ◌≡◌, ◌≤◌, ◌+◌, ◌++◌, List, [], ◌∷◌, length, All, ap, sym, ◌∙◌, subst, append_assoc, refl}
+use Rattle.std.specs.Prelude.{◌⊎◌, Contains}
+use Rattle.std.specs.List.{AllZip}
+use Rattle.std.proofs.lemmas.Slice.Zip.{all_zipped_more}
+use Rattle.sup_posts.specs.Jobs.{Seat}
+use Rattle.sup_posts.specs.declared.jobs.Arrived.{Arrived}
+use Rattle.sup_run_ends.specs.Steps.{IsSeatOf, IsArrived, IsHistoryOf, Begins, Ends}
+use Rattle.sup_run_ends.proofs.Zips.{zip_same_length}
+use Rattle.sup_posts.proofs.Items.{none_left}
+use Rattle.sup_run_ends.proofs.Items.{all_weaken}
+use Rattle.sup_run_ends.proofs.Closes.{of_next, others_are, others_later, ends_more, ends_all, own_more, each_left, longer}
+use Rattle.sup_run_ends.proofs.closing.close_all.Goals as goal
+
+pub loop-post-init : goal.loop-post-init
+loop-post-init g c =
+    let none = sym c.new-histories.ensures.items in
+    let gives = sym c.into_iter-post-iterator.ensures.into_iter_gives.0 in (
+      refl,
+      subst (λ l. AllZip IsSeatOf l c.into_iter-seats.result.rest.items) gives (subst (AllZip IsSeatOf c.args.posts.items) (sym c.into_iter-seats.ensures.rest) c.requires.seats),
+      subst (AllZip (IsHistoryOf {W = g.row.W.Denot} {h = g.W.Weigh} g.W.Weigh.weight_of) []) none tt,
+      ([], refl, subst (AllZip (Begins {W = g.row.W.Denot} {h = g.W.Weigh}) []) none tt),
+      subst (λ l. All (IsArrived l) c.args.arrived.items) gives c.requires.arrived,
+      subst (λ l. All (λ (a : Arrived g.row.W.Denot g.W.Weigh). length l ≤ a.to) c.args.arrived.items) none (λ k d lt. omega arith),
+      each_left c.new-histories.result.items c.args.arrived.items,
+    )
+
+pub unreachable-requires : goal.unreachable-requires
+unreachable-requires g c = omega (
+  arith,
+  c.in_default.ensures.cases,
+  zip_same_length IsSeatOf (c.in-Some.post ∷ c.next.new.self.rest.items) c.loop-post.seats.rest.items (subst (λ l. AllZip IsSeatOf l c.loop-post.seats.rest.items) c.in-Some.ensures.steps.0 c.loop-post.invariant.1),
+)
+
+pub close_at-requires-clause-arrived : goal.close_at-requires-clause-arrived
+close_at-requires-clause-arrived g c =
+    of_next c.into_iter-post-iterator.result.rest.items c.loop-post.yielded c.next.new.self.rest.items c.in-Some.post c.len.result c.loop-post.arrived.items
+    (ap (λ l. c.loop-post.yielded ++ l) (sym c.in-Some.ensures.steps.0) ∙ c.loop-post.invariant.0)
+    (omega (arith, c.len.ensures, c.loop-post.histories.ok.0, zip_same_length (IsHistoryOf g.W.Weigh.weight_of) c.loop-post.yielded c.loop-post.histories.items c.loop-post.invariant.2))
+    c.loop-post.invariant.4
+
+pub loop-post-preserved : goal.loop-post-preserved
+loop-post-preserved g c =
+    let put = sym c.in-Ok.ensures.items in
+    let at : c.len.result ≡ length c.loop-post.histories.items = omega (arith, c.len.ensures, c.loop-post.histories.ok.0) in
+    let z = subst (λ l. AllZip IsSeatOf l (c.in-Some-next.seat ∷ c.next-in-loop-post.new.self.rest.items)) c.in-Some.ensures.steps.0
+    (subst (AllZip IsSeatOf c.loop-post.post-iterator.rest.items) c.in-Some-next.ensures.items c.loop-post.invariant.1) in (
+      append_assoc c.loop-post.yielded (c.in-Some.post ∷ []) c.next.new.self.rest.items ∙ (ap (λ l. c.loop-post.yielded ++ l) (sym c.in-Some.ensures.steps.0) ∙ c.loop-post.invariant.0),
+      z.1,
+      subst (AllZip (IsHistoryOf g.W.Weigh.weight_of) (c.loop-post.yielded ++ c.in-Some.post ∷ [])) put
+          (all_zipped_more (IsHistoryOf g.W.Weigh.weight_of) c.loop-post.yielded c.loop-post.histories.items c.in-Some.post c.in_ok-history.history c.loop-post.invariant.2 c.in_ok-history.ensures.history),
+      subst (λ l. (x : List (Seat g.row.W.Denot g.W.Weigh)) × (x ++ c.next-in-loop-post.new.self.rest.items ≡ c.into_iter-seats.result.rest.items) × AllZip Begins x l) put
+          (own_more c.loop-post.invariant.3.0 c.in-Some-next.seat c.loop-post.seats.rest.items c.next-in-loop-post.new.self.rest.items c.into_iter-seats.result.rest.items c.loop-post.histories.items c.in_ok-history.history
+          c.in-Some-next.ensures.items c.loop-post.invariant.3.1 c.loop-post.invariant.3.2 c.in_ok-history.ensures.own),
+      others_are (IsArrived c.into_iter-post-iterator.result.rest.items) c.len.result c.loop-post.arrived.items c.in_ok-history.others.items c.in_ok-history.ensures.others c.loop-post.invariant.4,
+      subst (λ l. All (λ (a : Arrived g.row.W.Denot g.W.Weigh). length l ≤ a.to) c.in_ok-history.others.items) put
+          (all_weaken (λ (a : Arrived g.row.W.Denot g.W.Weigh). c.len.result + 1 ≤ a.to) (λ (a : Arrived g.row.W.Denot g.W.Weigh). length (c.loop-post.histories.items ++ c.in_ok-history.history ∷ []) ≤ a.to)
+          (λ a le. longer c.loop-post.histories.items c.in_ok-history.history c.len.result a.to at le) c.in_ok-history.others.items
+          (others_later c.len.result c.loop-post.arrived.items c.in_ok-history.others.items c.in_ok-history.ensures.others
+          (subst (λ n. All (λ (a : Arrived g.row.W.Denot g.W.Weigh). n ≤ a.to) c.loop-post.arrived.items) (sym at) c.loop-post.invariant.5))),
+      subst (λ l. All (λ (a : Arrived g.row.W.Denot g.W.Weigh). Ends l a ⊎ Contains c.in_ok-history.others.items a) c.args.arrived.items) put
+          (ends_more c.loop-post.histories.items c.in_ok-history.history c.len.result c.loop-post.arrived.items c.in_ok-history.others.items c.args.arrived.items at c.in_ok-history.ensures.others c.in_ok-history.ensures.here c.loop-post.invariant.6),
+    )
+
+pub returns-clause-histories : goal.returns-clause-histories
+returns-clause-histories g c = subst (λ l. AllZip (IsHistoryOf g.W.Weigh.weight_of) l c.loop-post.histories.items)
+    (none_left c.loop-post.yielded c.loop-post.post-iterator.rest.items c.args.posts.items (sym c.loop-post.post-iterator.rest.ok.0 ∙ c.in-None.ensures.steps.0) (c.loop-post.invariant.0 ∙ c.into_iter-post-iterator.ensures.into_iter_gives.0))
+    c.loop-post.invariant.2
+
+pub returns-clause-own : goal.returns-clause-own
+returns-clause-own g c =
+    let none : length c.loop-post.post-iterator.rest.items ≡ 0 = sym c.loop-post.post-iterator.rest.ok.0 ∙ c.in-None.ensures.steps.0 in
+    let long = zip_same_length IsSeatOf c.loop-post.post-iterator.rest.items c.loop-post.seats.rest.items c.loop-post.invariant.1 in
+    subst (λ l. AllZip Begins l c.loop-post.histories.items)
+    (none_left c.loop-post.invariant.3.0 c.loop-post.seats.rest.items c.args.seats.items (sym long ∙ none) (c.loop-post.invariant.3.1 ∙ c.into_iter-seats.ensures.rest))
+    c.loop-post.invariant.3.2
+
+pub returns-clause-others : goal.returns-clause-others
+returns-clause-others g c =
+    let none : length c.loop-post.post-iterator.rest.items ≡ 0 = sym c.loop-post.post-iterator.rest.ok.0 ∙ c.in-None.ensures.steps.0 in
+    ends_all c.into_iter-post-iterator.result.rest.items c.loop-post.histories.items c.loop-post.arrived.items c.args.arrived.items
+    (ap length (sym (none_left c.loop-post.yielded c.loop-post.post-iterator.rest.items c.into_iter-post-iterator.result.rest.items none c.loop-post.invariant.0))
+    ∙ zip_same_length (IsHistoryOf g.W.Weigh.weight_of) c.loop-post.yielded c.loop-post.histories.items c.loop-post.invariant.2)
+    c.loop-post.invariant.4 c.loop-post.invariant.5 c.loop-post.invariant.6

@@ -1,0 +1,33 @@
+use Rattle.std.proofs.Common.{subst, All, ◌∙◌}
+use Rattle.std.specs.List.{AllZip}
+use Rattle.sup_posts.specs.declared.jobs.Driven.{Driven}
+use Rattle.sup_run_ends.specs.Steps.{Begins, Ends}
+use Rattle.sup_run_ends.proofs.Passes.{none_bad, seats_taken, arrived_taken}
+use Rattle.sup_run_ends.proofs.Zips.{zip_map_left}
+use Rattle.sup_run_ends.proofs.Faults.{want_of_none}
+use Rattle.sup_run_ends.proofs.closing.finish.Goals as goal
+
+pub take_apart-requires : goal.take_apart-requires
+take_apart-requires g c = none_bad c.args.posts.items c.args.results.items c.requires
+
+pub close_all-requires-clause-seats : goal.close_all-requires-clause-seats
+close_all-requires-clause-seats g c = seats_taken c.args.posts.items c.args.results.items c.in_ok-seats.seats.items c.in_ok-seats.arrived.items c.requires c.in_ok-seats.ensures.parts
+
+pub close_all-requires-clause-arrived : goal.close_all-requires-clause-arrived
+close_all-requires-clause-arrived g c = arrived_taken c.args.posts.items c.args.results.items c.in_ok-seats.seats.items c.in_ok-seats.arrived.items c.requires c.in_ok-seats.ensures.parts
+
+pub returns-clause-histories : goal.returns-clause-histories
+returns-clause-histories g c =
+    let t = c.in_ok-seats.ensures.parts in
+    record {
+      driven = t.driven;
+      given = t.all;
+      histories = c.in_ok-histories.ensures.histories;
+      own = zip_map_left Begins (λ (d : Driven g.row.W.Denot g.W.Weigh). d.seat) t.driven c.in_ok-histories.histories.items (subst (λ l. AllZip Begins l c.in_ok-histories.histories.items) t.own c.in_ok-histories.ensures.own);
+      others = subst (All (Ends c.in_ok-histories.histories.items)) t.others c.in_ok-histories.ensures.others;
+    }
+
+pub returns-in_err-histories-clause-fault : goal.returns-in_err-histories-clause-fault
+returns-in_err-histories-clause-fault g c =
+    want_of_none c.args.results.items c.in_ok-seats.ensures.parts.driven c.in_ok-seats.ensures.parts.all c.from_residual-in_err-histories.result _ c.from_residual-in_err-histories.ensures.1
+    (λ f e. e ∙ c.in_err-histories.ensures.fault)

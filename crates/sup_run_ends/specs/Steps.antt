@@ -1,0 +1,136 @@
+-- What stands between the steps of a run (this project).
+use Rattle.std.specs.Prelude.{◌≡◌, ◌≢◌, ◌≤◌, ◌⊎◌, ◌==◌, not, ℕ, zero, suc, List, [], ◌∷◌, ◌++◌, length, All, Contains, map, flat_map, Some, Result, Ok, Err, IsOk, slice_get}
+use Rattle.std.specs.List.{AllZip, filter}
+use Rattle.sup_specs.specs.Values.{Bytes}
+use Rattle.sup_placement.specs.Place.{Weigher}
+use Rattle.sup_placement.specs.declared.weigh.Weigh.{Ghosts as WeighGhosts}
+use Rattle.sup_replica.specs.Configs.{Config}
+use Rattle.sup_station.specs.Opening.{Opens, kept_by}
+use Rattle.sup_node_gate.specs.declared.bound.TheConstants.{MAX_BOUND}
+use Rattle.sup_node_gate.specs.Gates.{IsOf, bound_of, view_of, opening_of}
+use Rattle.sup_node_gate.specs.Histories.{IsHistory, IsPrefix}
+use Rattle.sup_links.specs.Ends.{script_of, room_of}
+use Rattle.sup_plan.specs.Parts.{commands_of, script_between}
+use Rattle.sup_plan.specs.declared.histories.History.{History}
+use Rattle.sup_plan.specs.declared.plan.Plan.{Plan}
+use Rattle.sup_plan.specs.declared.plan.Route.{Route}
+use Rattle.sup_posts.specs.Jobs.{Seat, IsSeatAt, Takes}
+use Rattle.sup_posts.specs.declared.post.Post.{Post}
+use Rattle.sup_posts.specs.declared.jobs.Lane.{Lane}
+use Rattle.sup_posts.specs.declared.jobs.Drive.{Drive}
+use Rattle.sup_posts.specs.declared.fault.RunFault.{RunFault}
+use Rattle.sup_posts.specs.declared.fault.RunFault.TheVariants.{BadPlan, HistoryFull, LinkClosed, OutOfMemory}
+use Rattle.sup_posts.specs.declared.jobs.Arrived.{Arrived}
+use Rattle.sup_posts.specs.declared.jobs.Driven.{Driven}
+
+-- the history begins with what the pass has seen
+abbrev pub Begins : {W : Type 0} {h : WeighGhosts W} → Seat W h → History → Type 0
+Begins seat history = IsPrefix (view_of seat).seen history.entries.items
+
+-- how many messages are on their way over a link at once
+abbrev pub room : ℕ
+room = 16
+
+-- the places below a number, in order
+abbrev pub places : ℕ → List ℕ
+places zero = []
+places (suc n) = places n ++ n ∷ []
+
+-- those of them that are not this one
+abbrev pub others_of : ℕ → List ℕ → List ℕ
+others_of at = filter (λ j. not (j == at))
+
+-- of two faults that with the greater number is told
+abbrev pub gravity : RunFault → ℕ
+gravity OutOfMemory = 3
+gravity HistoryFull = 2
+gravity LinkClosed = 1
+gravity BadPlan = 0
+
+-- a result is no graver fault
+abbrev pub IsBelow : {T : Type 0} → RunFault → Result T RunFault → Type 0
+IsBelow fault r = (f : RunFault) → r ≡ Err f → gravity f ≤ gravity fault
+
+-- a fault among results, of which none is graver
+pub record IsGravest {T : Type 0} (results : List (Result T RunFault)) (fault : RunFault) : Type 0 where
+  pub stands : Contains results (Err fault)
+  pub gravest : All (IsBelow fault) results
+
+-- why results aren't put together: the gravest of their faults, or, where they have none, want of memory
+abbrev pub IsFaultOf : {T : Type 0} → List (Result T RunFault) → RunFault → Type 0
+IsFaultOf results fault = IsGravest results fault ⊎ (All IsOk results × (fault ≡ OutOfMemory))
+
+module _ {W : Type 0} {h : WeighGhosts W} where
+  -- the pass is of the post's gate
+  abbrev pub IsSeatOf : Post W h → Seat W h → Type 0
+  IsSeatOf post seat = IsOf kept_by post.gate seat
+
+  -- a node's post before the run
+  pub record IsPostOf (config : Config) (name : Bytes) (post : Post W h) : Type 0 where
+    pub named : post.name ≡ name
+    pub opens : Opens name config (opening_of kept_by post.gate)
+    pub bound : bound_of post.gate ≡ MAX_BOUND
+
+  -- the link leads to the node at this place, by the plan's script
+  pub record IsLaneTo (scripts : List Route) (from : Bytes) (at : ℕ) (other : Post W h) (lane : Lane W h) : Type 0 where
+    pub to : lane.to ≡ at
+    pub script : script_of lane.entry ≡ script_between from other.name scripts
+    pub room : room_of lane.entry ≡ room
+
+  abbrev pub HasLaneTo : List Route → Bytes → List (Lane W h) → ℕ → Post W h → Type 0
+  HasLaneTo scripts from lanes at other = (lane : Lane W h) × Contains lanes lane × IsLaneTo scripts from at other lane
+
+  -- the places to which links lead
+  abbrev pub ends_of : List (Lane W h) → List ℕ
+  ends_of = map (λ l. l.to)
+
+  -- a link to this place more, unless it is the driver's own
+  pub record LeadsOn (at to : ℕ) (old new : List (Lane W h)) : Type 0 where
+    pub ends : ends_of new ≡ ends_of old ++ others_of at (to ∷ [])
+
+  -- what the driver of a post's node is given: one link to each other node, and no more
+  pub record IsDriveOf (plan : Plan) (posts : List (Post W h)) (post : Post W h) (drive : Drive W h) : Type 0 where
+    pub place : slice_get posts drive.at ≡ Some post
+    pub takes : Takes posts drive
+    pub commands : drive.commands.items ≡ commands_of post.name plan.commands.items
+    pub reach : (at : ℕ) (other : Post W h) → slice_get posts at ≡ Some other → at ≢ drive.at → HasLaneTo plan.scripts.items post.name drive.lanes.items at other
+    pub only : ends_of drive.lanes.items ≡ others_of drive.at (places (length posts))
+
+  -- the pass is of the gate at its place
+  abbrev pub IsArrived : List (Post W h) → Arrived W h → Type 0
+  IsArrived posts a = IsSeatAt posts a.to a.seat
+
+  -- the history of the node at its place begins with what the pass has seen
+  pub record Ends (all : List History) (a : Arrived W h) : Type 0 where
+    pub history : History
+    pub stands : slice_get all a.to ≡ Some history
+    pub begins : Begins a.seat history
+
+  -- the history of a post's node
+  pub record IsHistoryOf (g : Weigher) (post : Post W h) (history : History) : Type 0 where
+    pub named : history.node ≡ post.name
+    pub replays : IsHistory g (opening_of kept_by post.gate) history.entries.items
+
+  -- the second pass has seen what the first has
+  abbrev pub HasSeen : Seat W h → Seat W h → Type 0
+  HasSeen first second = IsPrefix (view_of first).seen (view_of second).seen
+
+  -- what the drivers hand back has these passes of drivers and these of receivers
+  pub record AreTakenApart (results : List (Result (Driven W h) RunFault)) (seats : List (Seat W h)) (arrived : List (Arrived W h)) : Type 0 where
+    pub driven : List (Driven W h)
+    pub all : results ≡ map Ok driven
+    pub own : seats ≡ map (λ d. d.seat) driven
+    pub others : arrived ≡ flat_map (λ d. d.arrived.items) driven
+
+  -- what the driver of a post hands back
+  abbrev pub Returns : List (Post W h) → Post W h → Result (Driven W h) RunFault → Type 0
+  Returns posts post (Ok driven) = IsSeatOf post driven.seat × All (IsArrived posts) driven.arrived.items
+  Returns posts post (Err f) = f ≢ BadPlan
+
+  -- the histories, of what the drivers handed back
+  pub record AreFinished (g : Weigher) (posts : List (Post W h)) (results : List (Result (Driven W h) RunFault)) (all : List History) : Type 0 where
+    pub driven : List (Driven W h)
+    pub given : results ≡ map Ok driven
+    pub histories : AllZip (IsHistoryOf g) posts all
+    pub own : AllZip (λ d history. Begins d.seat history) driven all
+    pub others : All (Ends all) (flat_map (λ d. d.arrived.items) driven)

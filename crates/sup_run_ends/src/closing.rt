@@ -1,0 +1,101 @@
+//! The histories of a run's nodes, once their threads have ended.
+ghost use Rattle.std.specs.Prelude.{◌≡◌, ◌≢◌, ◌==◌, not, All, IfOk, IfErr};
+ghost use Rattle.std.specs.List.{AllZip, filter};
+ghost use Rattle.sup_posts.specs.declared.fault.RunFault.TheVariants.{OutOfMemory, BadPlan};
+ghost use Rattle.sup_run_ends.specs.Steps.{IsSeatOf, IsArrived, IsHistoryOf, Begins, Ends, Returns, AreFinished, IsFaultOf};
+
+use crate::joining::{join_all, separate, take_apart};
+use std::alloc::Global;
+use sup_placement::Weigh;
+use sup_plan::History;
+use sup_posts::{Arrived, Driven, Post, RunFault, Seat};
+
+// The history of a node.
+fn close<W: Weigh>(post: Post<W>, seat: Seat<W>) -> Result<History, RunFault>
+    requires { IsSeatOf post seat }
+    ensures history { IfOk result (λ history. IsHistoryOf W.weight_of post history) }
+    ensures begins { IfOk result (λ history. Begins seat history) }
+    ensures fault { IfErr result (λ f. f ≡ OutOfMemory) }
+{
+    let Post {
+        name,
+        gate,
+        outbox: _,
+    } = post;
+    // No turn is held by then: each call has returned. A contract doesn't say so.
+    let Some((_, entries)) = gate.close(seat) else {
+        return Err(RunFault::OutOfMemory);
+    };
+    Ok(History {
+        node: name,
+        entries,
+    })
+}
+
+// The history of the node at a place, and the passes of the other nodes' gates.
+fn close_at<W: Weigh>(
+    alloc: Global,
+    at: usize,
+    post: Post<W>,
+    seat: Seat<W>,
+    arrived: Vec<Arrived<W>>,
+) -> Result<(History, Vec<Arrived<W>>), RunFault>
+    requires seat { IsSeatOf post seat }
+    requires arrived { All (λ a. a.to ≡ at → IsSeatOf post a.seat) arrived.items }
+    ensures history { IfOk result (λ r. IsHistoryOf W.weight_of post r.0) }
+    ensures own { IfOk result (λ r. Begins seat r.0) }
+    ensures here { IfOk result (λ r. All (λ a. a.to ≡ at → Begins a.seat r.0) arrived.items) }
+    ensures others { IfOk result (λ r. r.1.items ≡ filter (λ a. not (a.to == at)) arrived.items) }
+    ensures fault { IfErr result (λ f. f ≡ OutOfMemory) }
+{
+    let (here, others) = separate(alloc, at, arrived)?;
+    let seat = join_all(&post, seat, here);
+    let history = close(post, seat)?;
+    Ok((history, others))
+}
+
+// The histories of all nodes, in their order.
+fn close_all<W: Weigh>(
+    alloc: Global,
+    posts: Vec<Post<W>>,
+    seats: Vec<Seat<W>>,
+    arrived: Vec<Arrived<W>>,
+) -> Result<Vec<History>, RunFault>
+    requires seats { AllZip IsSeatOf posts.items seats.items }
+    requires arrived { All (IsArrived posts.items) arrived.items }
+    ensures histories { IfOk result (λ hs. AllZip (IsHistoryOf W.weight_of) posts.items hs.items) }
+    ensures own { IfOk result (λ hs. AllZip Begins seats.items hs.items) }
+    ensures others { IfOk result (λ hs. All (Ends hs.items) arrived.items) }
+    ensures fault { IfErr result (λ f. f ≡ OutOfMemory) }
+{
+    let mut histories = Vec::new(alloc);
+    let mut arrived = arrived;
+    let mut seats = seats.into_iter();
+    for post in posts {
+        let Some(seat) = seats.next() else {
+            unreachable!()
+        };
+        let (history, others) = close_at(alloc, histories.len(), post, seat, arrived)?;
+        arrived = others;
+        let Ok(()) = histories.push(history) else {
+            return Err(RunFault::OutOfMemory);
+        };
+    }
+    Ok(histories)
+}
+
+/// The histories, of what the drivers hand back.
+pub fn finish<W: Weigh>(
+    alloc: Global,
+    posts: Vec<Post<W>>,
+    results: Vec<Result<Driven<W>, RunFault>>,
+) -> Result<Vec<History>, RunFault>
+    requires { AllZip (Returns posts.items) posts.items results.items }
+    ensures histories { IfOk result (λ hs. AreFinished W.weight_of posts.items results.items hs.items) }
+    ensures good { IfErr result (λ f. f ≢ BadPlan) }
+    ensures fault { IfErr result (IsFaultOf results.items) }
+{
+    let (seats, arrived) = take_apart(alloc, results)?;
+    let histories = close_all(alloc, posts, seats, arrived)?;
+    Ok(histories)
+}
