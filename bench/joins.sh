@@ -1,60 +1,121 @@
 #!/usr/bin/env bash
-# Times joins of `supctl simulate`, each as what a script takes more than the same script without them:
-# own operations of one row in tables of 1,000 and of 9,995 rows, which take about as long, since a join of few rows goes
-# in place and copies no others; two disjoint tables of 5,000 rows each; two equal ones.
-# With another program's path it times that beside it.
+# Times joins of tables, with no command, no save and no text around them, by `sup_join_times`: each as what it takes more where
+# it does so more often. And memory: what one more copy of the tables takes.
+# - merges: two disjoint tables of 500 and of 5,000 rows, for each row of both;
+# - rows: one row taken in and taken out again, in tables of 1,000 and of 9,995 rows, for each;
+# - looks: whether a state of one row is known already, in tables of 1,000 and of 9,995 rows;
+# - copies: tables of 1,000 and of 10,000 rows.
+# With another program's path it times that beside it, which reads scripts and ships whole states, each as what the script takes more with
+# so many lines of the kind.
 # usage: bench/joins.sh [PROGRAM [ROUNDS]]
 set -eu
 other=${1:-}
-rounds=${2:-3}
+rounds=${2:-5}
 . "$(dirname "$0")/room.bash"
 . "$top/bench/timing.bash"
-operations=2000
+crate=$top/crates/sup_join_times
+own=$crate/out/sup_join_times
+[ -x "$own" ] || (cd "$crate" && rt run -- rows 0 <"$crate/stdin" >"$work/built")
 
-starts() { seq -f "start $1 $2%05.0f arg=x" 1 "$3"; }
-
-# Starts and deletes of one more child, by turns.
-turns() { for _ in $(seq $((operations / 2))); do printf 'start a extra\ndelete a extra\n'; done; }
-
-disjoint() {
-  echo "nodes a b"
-  starts a left 5000
-  starts b right 5000
-  echo "ship b a"
+# The image of node a that knows so many children of a node, each named after it.
+image() {
+  awk -v node="$1" -v count="$2" 'BEGIN {
+    printf "{\"boot\":1,\"count\":0,\"ctx\":{\"cloud\":[],\"vector\":{\"%s\":%d}},\"kind\":\"image\",\"node\":\"a\",\"rows\":[", node, count
+    for (k = 1; k <= count; k++)
+      printf "%s[\"child\",\"%s%05d\",[\"%s\",%d],{\"arg\":\"x\",\"kind\":\"worker\",\"restart\":\"permanent\",\"shutdown\":5000}]", (k > 1 ? "," : ""), node, k, node, k
+    print "],\"v\":1}"
+  }'
 }
 
-equal() {
-  disjoint
-  printf 'deliver b 1\nship a b\ndeliver a 1\nship a b\n'
+starts() { seq -f "start $1 $1%05.0f arg=x" 1 "$2"; }
+
+repeated() { for _ in $(seq "$1"); do printf '%b' "$2"; done; }
+
+# What more of it takes longer than less, in microseconds for each of so many.
+each() { awk -v more="$1" -v less="$2" -v by="$3" 'BEGIN { printf "%.3f", (more - less) / by }'; }
+
+# The job of `sup_join_times`, done so often, for each of so many.
+own_each() {
+  local job=$1 times=$2 by=$3
+  each "$(least "$rounds" "$work/images" "$own" "$job" "$times")" "$(least "$rounds" "$work/images" "$own" "$job" 0)" "$by"
 }
 
-# What the script `more` takes longer than the script `base`, by so many.
-report() {
-  local what=$1 by=$2 unit=$3
-  shift 3
-  awk -v what="$what" -v more="$(least "$rounds" "$work/more" "$@")" -v base="$(least "$rounds" "$work/base" "$@")" -v by="$by" -v unit="$unit" \
-    'BEGIN { printf "%s: %.2f microseconds %s\n", what, (more - base) / by, unit }'
+# What the script `more` takes the other program longer than the script `less`.
+other_each() { each "$(least "$rounds" "$work/more" "$other")" "$(least "$rounds" "$work/less" "$other")" "$1"; }
+
+told() {
+  local what=$1 unit=$2 mine=$3 theirs=${4:-}
+  if [ -z "$theirs" ]; then
+    echo "$what: $mine $unit"
+  else
+    awk -v what="$what" -v unit="$unit" -v mine="$mine" -v theirs="$theirs" \
+      'BEGIN { printf "%s: %s %s, the other program %s, %.2f times as much\n", what, mine, unit, theirs, mine / theirs }'
+  fi
 }
 
-time_all() {
-  local count
-  for count in 1000 9995; do
-    { echo "nodes a"; starts a child "$count"; } >"$work/base"
-    { cat "$work/base"; turns; } >"$work/more"
-    report "one row into $count rows" "$operations" "an operation" "$@"
-  done
-  disjoint >"$work/base"
-  { cat "$work/base"; echo "deliver b 1"; } >"$work/more"
-  report "two disjoint tables of 5000 rows" 10000 "a row" "$@"
-  equal >"$work/base"
-  { cat "$work/base"; echo "deliver a 2"; } >"$work/more"
-  report "two equal tables of 10000 rows" 10000 "a row" "$@"
+# The most memory that a program took, in bytes.
+memory() {
+  local input=$1
+  shift
+  /usr/bin/time -f %M "$@" <"$input" 2>&1 >"$work/output" | awk '{ printf "%d", $1 * 1024 }'
 }
 
-"$top/supctl" simulate <<<'nodes a' >"$work/output"
-echo "supctl"
-time_all "$top/crates/supctl/out/supctl" simulate
-if [ -n "$other" ]; then
-  echo "the other program"
-  time_all "$other"
-fi
+merges() {
+  local count=$1 times=$2 theirs=
+  { image b "$count"; image c "$count"; } >"$work/images"
+  if [ -n "$other" ]; then
+    { echo "nodes b c"; starts b "$count"; starts c "$count"; echo "ship c b"; } >"$work/less"
+    { cat "$work/less"; echo "deliver c 1"; } >"$work/more"
+    theirs=$(other_each $((2 * count)))
+  fi
+  told "two disjoint tables of $count rows" "microseconds a row" "$(own_each merges "$times" $((times * 2 * count)))" "$theirs"
+}
+
+rows() {
+  local count=$1 times=20000 theirs=
+  { image a "$count"; image b 1; } >"$work/images"
+  if [ -n "$other" ]; then
+    { echo "nodes a"; starts a "$count"; } >"$work/less"
+    { cat "$work/less"; repeated "$times" 'start a extra arg=x\ndelete a extra\n'; } >"$work/more"
+    theirs=$(other_each $((2 * times)))
+  fi
+  told "one row into $count rows, or out of them" "microseconds" "$(own_each rows "$times" $((2 * times)))" "$theirs"
+}
+
+looks() {
+  local count=$1 times=$2 theirs=
+  { image b 1; image b "$count"; } >"$work/images"
+  if [ -n "$other" ]; then
+    { echo "nodes a b"; echo "start b b00001 arg=x"; echo "ship b a"; starts b "$count" | tail -n +2; echo "ship b a"; echo "deliver b 2"; } >"$work/less"
+    { cat "$work/less"; repeated "$times" 'deliver b 1\n'; } >"$work/more"
+    theirs=$(other_each "$times")
+  fi
+  told "one row that is known among $count" "microseconds" "$(own_each looks "$times" "$times")" "$theirs"
+}
+
+copies() {
+  local count=$1 times=$2 theirs=
+  { image a "$count"; image b 1; } >"$work/images"
+  if [ -n "$other" ]; then
+    { echo "nodes a b"; starts a "$count"; } >"$work/less"
+    { cat "$work/less"; repeated "$times" 'ship a b\n'; } >"$work/more"
+    theirs=$(other_each $((times * count)))
+  fi
+  told "copies of $count rows" "microseconds a row" "$(own_each copies "$times" $((times * count)))" "$theirs"
+  [ -x /usr/bin/time ] || return 0
+  theirs=
+  if [ -n "$other" ]; then
+    echo "nodes a" >"$work/none"
+    theirs=$(each "$(memory "$work/less" "$other")" "$(memory "$work/none" "$other")" "$count")
+  fi
+  told "memory of $count rows" "bytes a row" "$(each "$(memory "$work/images" "$own" copies 41)" "$(memory "$work/images" "$own" copies 1)" $((40 * count)))" "$theirs"
+}
+
+merges 500 200
+merges 5000 20
+rows 1000
+rows 9995
+looks 1000 20000
+looks 9995 2000
+copies 1000 100
+copies 10000 10
