@@ -10,4 +10,4 @@ invariant-loop g l =
     (goal.iterator-loop g).can_next l.iterator' × (goal.iterator-loop g).is_finite l.iterator'
     × IsOf kept_by l.post.gate l.seat
     × SeesMore (view_of l.fn.seat) (view_of l.seat)
-    × ((u : View) → Tells l.now (runs_in l.waiting.items) (view_of l.seat) u → Tells l.now (runs_of l.effects) (view_of l.fn.seat) u)
+    × ((u : View) → Tells l.now (runs_in l.waiting.items) (view_of l.seat) u → Tells l.now (runs_of l.fn.effects) (view_of l.fn.seat) u)
