@@ -3,8 +3,11 @@ use Rattle.std.proofs.Common.{◌≡◌, ℕ, List, [], ◌∷◌, ◌++◌, map
 use Rattle.std.specs.List.{AllZip}
 use Rattle.std.proofs.lemmas.Grind.{flat_map-append}
 use mathlib.Core.Option.{some}
+use Rattle.sup_specs.specs.Values.{Bytes}
+use Rattle.sup_specs.specs.declared.child.ChildSpec.{ChildSpec}
 use Rattle.sup_local_sup.specs.declared.effect.Effect.{Effect}
 use Rattle.sup_local_sup.specs.declared.effect.Effect.TheVariants.{Stop, Start}
+use Rattle.sup_local_sup.specs.declared.effect.Incarnation.{Incarnation}
 use Rattle.sup_replica.specs.declared.event.Act.{Act}
 use Rattle.sup_node_gate.specs.declared.entry.Entry.{Entry}
 use Rattle.sup_node_gate.specs.declared.view.View.{View}
@@ -27,23 +30,30 @@ fail_skip now run runs (e ∷ es) f = (f.0, run ∷ f.1, f.2, ap (λ l. run ∷ 
 pub tells_none : (now : ℕ) (v : View) → Tells now [] v v
 tells_none now v = record { exits = []; are = tt; own = sym (append-nil (calls_of v)) }
 
--- nothing was told of the first effect
-pub tells_on : (now : ℕ) (effect : Effect) (es : List Effect) (w : List (List Effect)) (v u : View) → Tells now (runs_of es ++ runs_in w) v u → Tells now (runs_of (effect ∷ es) ++ runs_in w) v u
-tells_on now (Stop id inc) es w v u t = t
-tells_on now (Start id inc spec) es w v u t = record { exits = t.exits; are = fail_skip now (id, inc) (runs_of es ++ runs_in w) t.exits t.are; own = t.own }
+started : (now : ℕ) (effect : Effect) (later : List Effect) (w : List (List Effect)) (v u : View) → Tells now (runs_of later ++ runs_in w) v u → Tells now (runs_of (effect ∷ later) ++ runs_in w) v u
+started now (Stop id inc) later w v u t = t
+started now (Start id inc spec) later w v u t = record { exits = t.exits; are = fail_skip now (id, inc) (runs_of later ++ runs_in w) t.exits t.are; own = t.own }
 
--- the first run didn't start, and what its exit's answer begins comes behind all others
-pub tells_exit : (now : ℕ) (run : Run) (runs : List Run) (w : List (List Effect)) (effects : List Effect) (v v' u : View) → CalledFor v (failed run) now v' effects
-    → Tells now (runs ++ runs_in (w ++ effects ∷ [])) v' u → Tells now (run ∷ runs ++ runs_in w) v u
-tells_exit now run runs w effects v v' u c t =
-    let e = entry (failed run) now c.1.answer in
-    let behind : runs ++ runs_in (w ++ effects ∷ []) ≡ (runs ++ runs_in w) ++ runs_of effects
-    = ap (λ l. runs ++ l) (flat_map-append runs_of w (effects ∷ []) ∙ ap (λ l. runs_in w ++ l) (append-nil (runs_of effects))) ∙ sym (append_assoc runs (runs_in w) (runs_of effects)) in
-    record {
+-- nothing is told of the first effect
+pub tells_on : (now : ℕ) (all : List Effect) (effect : Effect) (later : List Effect) (w : List (List Effect)) (v u : View) → all ≡ effect ∷ later
+    → Tells now (runs_of later ++ runs_in w) v u → Tells now (runs_of all ++ runs_in w) v u
+tells_on now all effect later w v u is t = subst (λ l. Tells now (runs_of l ++ runs_in w) v u) (sym is) (started now effect later w v u t)
+
+-- the run that the first effect begins didn't start, and what its exit's answer begins comes behind all others
+pub tells_exit : (now : ℕ) (all : List Effect) (id : Bytes) (inc : Incarnation) (spec : ChildSpec) (later : List Effect) (w more : List (List Effect)) (effects : List Effect) (v v' u : View)
+    → all ≡ Start id inc spec ∷ later → more ≡ w ++ effects ∷ [] → CalledFor v (failed (id, inc)) now v' effects
+    → Tells now (runs_of later ++ runs_in more) v' u → Tells now (runs_of all ++ runs_in w) v u
+tells_exit now all id inc spec later w more effects v v' u is grown c t =
+    let e = entry (failed (id, inc)) now c.1.answer in
+    let behind : runs_of later ++ runs_in more ≡ (runs_of later ++ runs_in w) ++ runs_of effects
+    = ap (λ l. runs_of later ++ runs_in l) grown
+    ∙ (ap (λ l. runs_of later ++ l) (flat_map-append runs_of w (effects ∷ []) ∙ ap (λ l. runs_in w ++ l) (append-nil (runs_of effects))) ∙ sym (append_assoc (runs_of later) (runs_in w) (runs_of effects))) in
+    let told : Tells now (runs_of (Start id inc spec ∷ later) ++ runs_in w) v u = record {
       exits = e ∷ t.exits;
-      are = (run, [], runs ++ runs_in w, refl, refl, subst (λ l. Fail now ((runs ++ runs_in w) ++ runs_of l) t.exits) (sym c.1.effects_are) (subst (λ l. Fail now l t.exits) behind t.are));
+      are = ((id, inc), [], runs_of later ++ runs_in w, refl, refl, subst (λ l. Fail now ((runs_of later ++ runs_in w) ++ runs_of l) t.exits) (sym c.1.effects_are) (subst (λ l. Fail now l t.exits) behind t.are));
       own = t.own ∙ (ap (λ l. l ++ map some t.exits) c.1.own ∙ append_assoc (calls_of v) (some e ∷ []) (map some t.exits));
-    }
+    } in
+    subst (λ l. Tells now (runs_of l ++ runs_in w) v u) (sym is) told
 
 pub makes_none : (v : View) → Makes v [] v
 makes_none v = record { rounds = []; are = tt; own = sym (append-nil (calls_of v)) }

@@ -11,4 +11,4 @@ invariant-loop-effect g l =
     IsOf kept_by l.post.gate l.seat
     × SeesMore (view_of l.fn.seat) (view_of l.seat)
     × ((u : View) → Tells l.now (runs_of (drop l.effect-index l.effects) ++ runs_in l.waiting.items) (view_of l.seat) u
-      → Tells l.now (runs_of l.effects ++ runs_in l.fn.waiting.items) (view_of l.fn.seat) u)
+    → Tells l.now (runs_of l.effects ++ runs_in l.fn.waiting.items) (view_of l.fn.seat) u)
