@@ -3,7 +3,7 @@ use Rattle.std.specs.Prelude.{◌≡◌, ◌≤◌, ◌⊎◌, List, [], ◌∷�
 use Rattle.std.proofs.Common.{sym, subst, arith, inl, inr}
 use Rattle.std.proofs.lemmas.List.Elements.{Contains-append_left}
 use Rattle.sup_posts.specs.declared.thread_fault.ThreadFault.{ThreadFault}
-use Rattle.sup_posts.proofs.Items.{all_none, all_snoc, all_weaken, last_contained}
+use Rattle.sup_posts.proofs.Items.{all_snoc, all_weaken, last_contained}
 use Rattle.sup_posts.specs.Faults.{IsBelow, IsGravest, gravity}
 
 err_is : {A E : Type 0} (x y : E) (r : Result A E) → r ≡ Err x → r ≡ Err y → x ≡ y
