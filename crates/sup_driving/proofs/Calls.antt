@@ -11,8 +11,8 @@ use Rattle.sup_replica.specs.declared.refusal.Refusal.TheVariants.{OutOfMemory, 
 use Rattle.sup_station.specs.Stills.{Still}
 use Rattle.sup_node_gate.specs.declared.entry.Entry.{Entry}
 use Rattle.sup_node_gate.specs.declared.view.View.{View}
-use Rattle.sup_node_gate.specs.Histories.{Answer, Standing, entered, standing_of, is_entered, may_enter, IsPrefix, entry}
-use Rattle.sup_node_gate.specs.Calls.{IsFull, HasNoMemory, Enters, Refuses, Acts}
+use Rattle.sup_node_gate.specs.Histories.{Answer, Standing, entered, standing_of, is_entered, may_enter, entry}
+use Rattle.sup_node_gate.specs.Calls.{Enters, Refuses, Acts}
 use Rattle.sup_plan.specs.Calls.{brought, deliveries}
 use Rattle.sup_plan.specs.Sublists.{Sublist}
 use Rattle.sup_posts.specs.Rounds.{effects_of}

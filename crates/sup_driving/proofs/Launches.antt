@@ -1,5 +1,5 @@
 -- From what the threads of drivers and receivers did to what is promised of drivers.
-use Rattle.std.specs.Prelude.{◌≡◌, ℕ, ◌<◌, zero, suc, List, [], ◌∷◌, length, map, All, slice_get, Some, Result, Ok, Err, IfOk, refl}
+use Rattle.std.specs.Prelude.{◌≡◌, zero, suc, List, [], ◌∷◌, map, All, Some, Result, Ok, Err, IfOk}
 use Rattle.std.specs.List.{AllZip}
 use Rattle.std.proofs.Common.{sym, ap, ◌∙◌, subst, arith}
 use Rattle.sup_placement.specs.declared.weigh.Weigh.{Ghosts as WeighGhosts}
@@ -7,9 +7,9 @@ use Rattle.sup_station.specs.Opening.{kept_by}
 use Rattle.sup_node_gate.specs.declared.entry.Entry.{Entry}
 use Rattle.sup_node_gate.specs.Gates.{IsOf, view_of}
 use Rattle.sup_links.specs.declared.link_in.Sent.{Sent}
-use Rattle.sup_links.specs.Ends.{AreOneLink, script_of, sent_script, sent_put, taken_of}
+use Rattle.sup_links.specs.Ends.{AreOneLink, script_of, sent_put, taken_of}
 use Rattle.sup_links.specs.Image.{image}
-use Rattle.sup_plan.specs.Calls.{call_of, asked, letters_to, deliveries}
+use Rattle.sup_plan.specs.Calls.{asked, letters_to, deliveries}
 use Rattle.sup_plan.specs.Sublists.{Sublist}
 use Rattle.sup_posts.specs.Jobs.{IsSeatAt, IsLane, Carried, Drives, Gives}
 use Rattle.sup_posts.specs.Rounds.{Makes, delivery}

@@ -1,5 +1,5 @@
 -- The links of a driver, and what its node's calls put into them (this project).
-use Rattle.std.specs.Prelude.{◌≡◌, ◌⊎◌, true, List, [], ◌∷◌, ◌++◌, map, Option, Some, None}
+use Rattle.std.specs.Prelude.{◌≡◌, ◌⊎◌, true, List, [], ◌∷◌, ◌++◌, map, Option}
 use Rattle.sup_specs.specs.Values.{Bytes}
 use Rattle.sup_replica.specs.declared.letter.Letter.{Letter}
 use Rattle.sup_node_gate.specs.declared.entry.Entry.{Entry}

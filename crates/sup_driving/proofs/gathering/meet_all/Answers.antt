@@ -1,8 +1,7 @@
-use Rattle.std.proofs.Common.{rules, ◌≡◌, ◌++◌, List, [], ◌∷◌, length, Ok, ap, sym, ◌∙◌, append_assoc, subst}
+use Rattle.std.proofs.Common.{rules, ◌≡◌, ◌++◌, [], ◌∷◌, length, Ok, ap, sym, ◌∙◌, append_assoc, subst}
 use Rattle.std.specs.Prelude.{IsOk}
 use Rattle.std.specs.List.{AllZip}
 use Rattle.std.proofs.lemmas.List.Elements.{All-rest}
-use Rattle.sup_links.specs.declared.link_in.Sent.{Sent}
 use Rattle.sup_driving.specs.Gathering.{CanMeet, Met, AllMet}
 use Rattle.sup_posts.proofs.Items.{none_left}
 use Rattle.sup_driving.proofs.Gathers.{met_more, none_paired}

@@ -1,9 +1,8 @@
-use Rattle.std.proofs.Common.{◌≡◌, ◌++◌, [], ◌∷◌, append-nil, ap, sym, ◌∙◌, subst, refl}
+use Rattle.std.proofs.Common.{◌≡◌, ◌++◌, [], ◌∷◌, append-nil, ap, sym, ◌∙◌, subst}
 use Rattle.sup_node_gate.specs.Gates.{view_of}
 use Rattle.sup_posts.specs.Rounds.{runs_of}
 use Rattle.sup_driving.specs.Called.{Tells, runs_in}
 use Rattle.sup_driving.proofs.Calls.{more_then, more_none}
-use Rattle.sup_driving.proofs.Rounds.{tells_none}
 use Rattle.sup_driving.proofs.field.Field.act_all.Goals as goal
 
 pub loop-init : goal.loop-init
