@@ -17,7 +17,7 @@ use Rattle.sup_plan.specs.Sublists.{Sublist}
 use Rattle.sup_plan.specs.declared.histories.History.{History}
 use Rattle.sup_plan.specs.declared.plan.Plan.{Plan}
 use Rattle.sup_posts.specs.Jobs.{Carried, Gives, Drives}
-use Rattle.sup_posts.specs.declared.fault.RunFault.{RunFault}
+use Rattle.sup_posts.specs.declared.thread_fault.ThreadFault.{ThreadFault}
 use Rattle.sup_posts.specs.declared.post.Post.{Post}
 use Rattle.sup_posts.specs.declared.jobs.Lane.{Lane}
 use Rattle.sup_posts.specs.declared.jobs.Drive.{Drive}
@@ -76,7 +76,7 @@ module _ {W : Type 0} {h : WeighGhosts W} where
             reached plan posts all r.2.entries x k p.0 q.0 at.0 lane.0 a.0 p.2.named q.2.named q.1 at.1 lane.2 a.2 (contained (Ends all) (passes_of driven) a.0 others in_all);
       }
 
-  pub is_run : (g : Weigher) (plan : Plan) (posts : List (Post W h)) (drives : List (Drive W h)) (results : List (Result (Driven W h) RunFault)) (all : List History)
+  pub is_run : (g : Weigher) (plan : Plan) (posts : List (Post W h)) (drives : List (Drive W h)) (results : List (Result (Driven W h) ThreadFault)) (all : List History)
       → AllZip (IsPostOf plan.config) plan.nodes.items posts → AllZip (IsDriveOf plan posts) posts drives → AllZip (Gives posts) drives results
       → AreFinished g posts results all → IsRunOf g plan all
   is_run g plan posts drives results all ps ds gs f =

@@ -5,8 +5,7 @@ use Rattle.std.proofs.Common.{ap, ◌∙◌, subst}
 use Rattle.sup_placement.specs.declared.weigh.Weigh.{Ghosts as WeighGhosts}
 use Rattle.sup_plan.specs.declared.plan.Plan.{Plan}
 use Rattle.sup_posts.specs.Jobs.{Carried, Gives, Drives, Takes}
-use Rattle.sup_posts.specs.declared.fault.RunFault.{RunFault}
-use Rattle.sup_posts.specs.declared.fault.RunFault.TheVariants.{BadPlan, HistoryFull, LinkClosed, OutOfMemory}
+use Rattle.sup_posts.specs.declared.thread_fault.ThreadFault.{ThreadFault}
 use Rattle.sup_posts.specs.declared.post.Post.{Post}
 use Rattle.sup_posts.specs.declared.jobs.Drive.{Drive}
 use Rattle.sup_posts.specs.declared.jobs.Driven.{Driven}
@@ -20,18 +19,15 @@ module _ {W : Type 0} {h : WeighGhosts W} where
       let c = zip_right (Carried posts d.entries) drive.lanes.items driven.arrived.items i a d.carried e in
       (c.2.post, ap (slice_get posts) c.2.to ∙ c.2.stands, c.2.seat))
 
-  one_returned : (plan : Plan) (posts : List (Post W h)) (post : Post W h) (drive : Drive W h) (result : Result (Driven W h) RunFault)
+  one_returned : (plan : Plan) (posts : List (Post W h)) (post : Post W h) (drive : Drive W h) (result : Result (Driven W h) ThreadFault)
       → IsDriveOf plan posts post drive → Gives posts drive result → Returns posts post result
   one_returned plan posts post drive (Ok driven) d g = (
     subst (λ (p : Post W h). IsSeatOf p driven.seat) (same_place posts drive.at drive.at g.seat.0 post g.seat.1 d.place refl) g.seat.2,
     arrives posts drive driven g,
   )
-  one_returned plan posts post drive (Err BadPlan) d g = absurd g
-  one_returned plan posts post drive (Err HistoryFull) d g = λ e. cc
-  one_returned plan posts post drive (Err LinkClosed) d g = λ e. cc
-  one_returned plan posts post drive (Err OutOfMemory) d g = λ e. cc
+  one_returned plan posts post drive (Err fault) d g = tt
 
-  pub returned : (plan : Plan) (posts : List (Post W h)) (drives : List (Drive W h)) (results : List (Result (Driven W h) RunFault))
+  pub returned : (plan : Plan) (posts : List (Post W h)) (drives : List (Drive W h)) (results : List (Result (Driven W h) ThreadFault))
       → AllZip (IsDriveOf plan posts) posts drives → AllZip (Gives posts) drives results → AllZip (Returns posts) posts results
   returned plan posts drives results d g = zip_through (IsDriveOf plan posts) (Gives posts) (Returns posts) (one_returned plan posts) posts drives results d g
 

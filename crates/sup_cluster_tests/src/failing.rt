@@ -1,8 +1,9 @@
 //! A runner that can't start any child.
-use crate::given::{Counted, count, is_certified, join, plan, start, told};
+use crate::given::{Counted, count, is_certified, join, plan, ship, start, told};
 use sup_cluster::{Quiet, Runner, run};
 use sup_local_sup::Effect;
 use sup_placement::FlatWeigh;
+use sup_replica::Refusal;
 use sup_specs::NodeName;
 
 struct StartsNothing;
@@ -15,12 +16,20 @@ impl Runner for StartsNothing {
 
 #[test]
 fn a_child_that_never_starts_ends_the_membership(rt: HostRuntime) {
-    let plan = told(&rt, plan(&rt, &["a", "b"]), "a", join(&rt));
+    // There is nothing to ship yet: a command that is refused doesn't end the run.
+    let plan = told(&rt, plan(&rt, &["a", "b"]), "a", ship(&rt, "b"));
+    let plan = told(&rt, plan, "a", join(&rt));
     let plan = told(&rt, plan, "a", start(&rt, "web"));
     let Ok(histories) = run(&rt, rt.alloc(), &plan, &StartsNothing, &Quiet, &FlatWeigh) else {
         panic!(rt; "no histories")
     };
-    assert!(rt; histories.as_slice()[0].entries.len() == 4);
+    assert!(rt; histories.as_slice()[0].entries.len() == 5);
+    assert!(rt;
+        matches!(
+            histories.as_slice()[0].entries[0].answer,
+            Err(Refusal::UpToDate)
+        )
+    );
     assert!(rt; count(&histories, 0, Counted::Restarted) == 1);
     assert!(rt; count(&histories, 0, Counted::GaveUp) == 1);
     assert!(rt; histories.as_slice()[1].entries.is_empty());

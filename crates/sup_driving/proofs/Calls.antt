@@ -1,7 +1,5 @@
 -- What a call does to a pass.
-use Rattle.std.proofs.Common.{◌≡◌, ℕ, true, List, [], ◌∷◌, ◌++◌, map, flat_map, Ok, Err, append_assoc, append-nil, refl, ap, ◌∙◌, sym, subst}
-use mathlib.Core.Option.{some}
-use Rattle.std.proofs.lemmas.List.{map-append}
+use Rattle.std.proofs.Common.{◌≡◌, ℕ, true, List, [], ◌∷◌, ◌++◌, Ok, Err, append_assoc, append-nil, refl, ap, ◌∙◌, sym, subst}
 use Rattle.std.proofs.lemmas.Grind.{flat_map-append}
 use Rattle.sup_specs.specs.Values.{Bytes}
 use Rattle.sup_placement.specs.Place.{Weigher}
@@ -13,14 +11,14 @@ use Rattle.sup_replica.specs.declared.refusal.Refusal.TheVariants.{OutOfMemory, 
 use Rattle.sup_station.specs.Stills.{Still}
 use Rattle.sup_node_gate.specs.declared.entry.Entry.{Entry}
 use Rattle.sup_node_gate.specs.declared.view.View.{View}
-use Rattle.sup_node_gate.specs.Histories.{Answer, Standing, entered, standing_of, is_entered, may_enter, IsPrefix, entry}
+use Rattle.sup_node_gate.specs.Histories.{Answer, Standing, entered, standing_of, is_entered, may_enter, entry}
 use Rattle.sup_node_gate.specs.Calls.{Enters, Refuses, Acts}
-use Rattle.sup_node_gate.specs.Views.{calls_of}
-use Rattle.sup_plan.specs.declared.plan.Command.{Command}
-use Rattle.sup_plan.specs.Calls.{Call, asked, brought, deliveries}
+use Rattle.sup_plan.specs.Calls.{brought, deliveries}
 use Rattle.sup_plan.specs.Sublists.{Sublist}
-use Rattle.sup_driving.specs.Called.{Called, SeesMore, letter_of}
-use Rattle.sup_posts.specs.Own.{but_exit, but_exit_at, made_by}
+use Rattle.sup_posts.specs.Rounds.{effects_of}
+use Rattle.sup_posts.specs.declared.thread_fault.ThreadFault.{ThreadFault}
+use Rattle.sup_posts.specs.declared.thread_fault.ThreadFault.TheVariants.{HistoryFull as Full, LinkClosed as Shut, OutOfMemory as Wants}
+use Rattle.sup_driving.specs.Called.{Called, SeesMore, IsFaultIn, NotEntered, StopsCalling, letter_of}
 use Rattle.sup_posts.proofs.Sublists.{sub_more, sub_both}
 
 stands : (r : Refusal) → is_entered r ≡ true → standing_of r ≡ entered
@@ -28,14 +26,27 @@ stands HistoryFull e = absurd cc
 stands OutOfMemory e = absurd cc
 stands r e = refl
 
-entered_called : (g : Weigher) (s : Still) (v : View) (a : Act) (now : ℕ) (r : Answer) (v' : View) → Enters g s v (entry a now r) v' → Called v a now (letter_of r) v'
-entered_called g s v a now r v' e = record { answer = r; before = e.before; begins = e.begins; ends = e.ends; own = e.calls; letter_is = refl }
+entered_called : (g : Weigher) (s : Still) (v : View) (a : Act) (now : ℕ) (r : Answer) (v' : View) → Enters g s v (entry a now r) v' → Called v a now (effects_of r) (letter_of r) v'
+entered_called g s v a now r v' e = record { answer = r; before = e.before; begins = e.begins; ends = e.ends; own = e.calls; effects_are = refl; letter_is = refl }
 
 -- a call whose answer is entered
-pub acts_called : (g : Weigher) (s : Still) (bound : ℕ) (v : View) (a : Act) (now : ℕ) (r : Answer) (v' : View) → Acts g s bound v a now r v' → may_enter r ≡ true → Called v a now (letter_of r) v'
+pub acts_called : (g : Weigher) (s : Still) (bound : ℕ) (v : View) (a : Act) (now : ℕ) (r : Answer) (v' : View) → Acts g s bound v a now r v' → may_enter r ≡ true → Called v a now (effects_of r) (letter_of r) v'
 acts_called g s bound v a now (Ok done) v' acts may = entered_called g s v a now (Ok done) v' acts
 acts_called g s bound v a now (Err r) v' acts may =
     entered_called g s v a now (Err r) v' (subst (λ (k : Standing). Refuses k g s bound v (entry a now (Err r)) v') (stands r may) acts)
+
+-- a call whose answer isn't entered
+pub acts_refused : (g : Weigher) (s : Still) (bound : ℕ) (v : View) (a : Act) (now : ℕ) (r : Answer) (v' : View) (f : ThreadFault)
+    → Acts g s bound v a now r v' → IsFaultIn r f → NotEntered g s bound v v' f
+acts_refused g s bound v a now (Ok done) v' f acts is = absurd is
+acts_refused g s bound v a now (Err HistoryFull) v' f acts is = subst (NotEntered g s bound v v') (sym is) acts
+acts_refused g s bound v a now (Err OutOfMemory) v' f acts is = subst (NotEntered g s bound v v') (sym is) acts
+acts_refused g s bound v a now (Err r) v' f acts is = absurd is
+
+pub stops_calling : (g : Weigher) (s : Still) (bound : ℕ) (v v' : View) (f : ThreadFault) → NotEntered g s bound v v' f → StopsCalling bound v' f
+stops_calling g s bound v v' Full n = n.0
+stops_calling g s bound v v' Shut n = n
+stops_calling g s bound v v' Wants n = tt
 
 pub more_then : (u v w : View) → SeesMore u v → SeesMore v w → SeesMore u w
 more_then u v w p q = (p.0 ++ q.0, q.1 ∙ (ap (λ l. l ++ q.0) p.1 ∙ append_assoc u.seen p.0 q.0))
@@ -43,8 +54,8 @@ more_then u v w p q = (p.0 ++ q.0, q.1 ∙ (ap (λ l. l ++ q.0) p.1 ∙ append_a
 pub more_none : (v : View) → SeesMore v v
 more_none v = ([], sym (append-nil v.seen))
 
-pub called_more : (v : View) (a : Act) (now : ℕ) (letter : _) (v' : View) → Called v a now letter v' → SeesMore v v'
-called_more v a now letter v' c = let e = entry a now c.answer in
+pub called_more : (v : View) (a : Act) (now : ℕ) (effects letter : _) (v' : View) → Called v a now effects letter v' → SeesMore v v'
+called_more v a now effects letter v' c = let e = entry a now c.answer in
     (c.begins.0 ++ e ∷ [], c.ends ∙ (ap (λ l. l ++ e ∷ []) c.begins.1 ∙ append_assoc v.seen c.begins.0 (e ∷ [])))
 
 pub more_deliveries : (texts : List Bytes) (v v' : View) → SeesMore v v' → Sublist texts (deliveries v.seen) → Sublist texts (deliveries v'.seen)
@@ -52,23 +63,10 @@ more_deliveries texts v v' p h =
     subst (Sublist texts) (sym (ap deliveries p.1 ∙ flat_map-append (λ (e : Entry). brought e.act) v.seen p.0)) (sub_more texts (deliveries v.seen) (deliveries p.0) h)
 
 -- one message more was brought
-pub delivered_one : (texts : List Bytes) (v : View) (m : _) (text : Bytes) (now : ℕ) (letter : _) (v' : View) → Called v (Of (Deliver m)) now letter v' → m ≡ text
+pub delivered_one : (texts : List Bytes) (v : View) (m : _) (text : Bytes) (now : ℕ) (effects letter : _) (v' : View) → Called v (Of (Deliver m)) now effects letter v' → m ≡ text
     → Sublist texts (deliveries v.seen) → Sublist (texts ++ text ∷ []) (deliveries v'.seen)
-delivered_one texts v m text now letter v' c is h = let e = entry (Of (Deliver m)) now c.answer in
+delivered_one texts v m text now effects letter v' c is h = let e = entry (Of (Deliver m)) now c.answer in
     subst (λ l. Sublist (texts ++ l ∷ []) (deliveries v'.seen)) is
     (subst (Sublist (texts ++ m ∷ [])) (sym (ap deliveries c.ends ∙ flat_map-append (λ (x : Entry). brought x.act) c.before (e ∷ [])))
     (sub_both texts (deliveries c.before) (m ∷ [])
     (subst (Sublist texts) (sym (ap deliveries c.begins.1 ∙ flat_map-append (λ (x : Entry). brought x.act) v.seen c.begins.0)) (sub_more texts (deliveries v.seen) (deliveries c.begins.0) h))))
-
--- a call more, unless it is the exit of a child that didn't start
-pub made_more : (v : View) (a : Act) (now : ℕ) (letter : _) (v' : View) → Called v a now letter v' → made_by v' ≡ made_by v ++ but_exit (a, now)
-made_more v a now letter v' c =
-    ap (flat_map but_exit_at) c.own
-    ∙ (flat_map-append but_exit_at (calls_of v) (some (entry a now c.answer) ∷ []) ∙ ap (λ l. made_by v ++ l) (append-nil (but_exit (a, now))))
-
--- a command more
-pub made_then : (were made now : List Call) (cs : List Command) (c : Command) → made ≡ were ++ flat_map but_exit (map asked cs) → now ≡ made ++ but_exit (asked c)
-    → now ≡ were ++ flat_map but_exit (map asked (cs ++ c ∷ []))
-made_then were made now cs c p q = let done = flat_map but_exit (map asked cs) in
-    q ∙ (ap (λ l. l ++ but_exit (asked c)) p ∙ (append_assoc were done (but_exit (asked c)) ∙ ap (λ l. were ++ l)
-    (sym (ap (flat_map but_exit) (map-append asked cs (c ∷ [])) ∙ (flat_map-append but_exit (map asked cs) (asked c ∷ []) ∙ ap (λ l. done ++ l) (append-nil (but_exit (asked c))))))))

@@ -1,5 +1,5 @@
 -- From what the threads of drivers and receivers did to what is promised of drivers.
-use Rattle.std.specs.Prelude.{◌≡◌, ◌≢◌, ℕ, ◌<◌, zero, suc, List, [], ◌∷◌, ◌++◌, length, map, flat_map, All, slice_get, Some, Result, Ok, Err, IfOk, refl}
+use Rattle.std.specs.Prelude.{◌≡◌, zero, suc, List, [], ◌∷◌, map, All, Some, Result, Ok, Err, IfOk}
 use Rattle.std.specs.List.{AllZip}
 use Rattle.std.proofs.Common.{sym, ap, ◌∙◌, subst, arith}
 use Rattle.sup_placement.specs.declared.weigh.Weigh.{Ghosts as WeighGhosts}
@@ -7,14 +7,13 @@ use Rattle.sup_station.specs.Opening.{kept_by}
 use Rattle.sup_node_gate.specs.declared.entry.Entry.{Entry}
 use Rattle.sup_node_gate.specs.Gates.{IsOf, view_of}
 use Rattle.sup_links.specs.declared.link_in.Sent.{Sent}
-use Rattle.sup_links.specs.Ends.{AreOneLink, script_of, sent_script, sent_put, taken_of}
+use Rattle.sup_links.specs.Ends.{AreOneLink, script_of, sent_put, taken_of}
 use Rattle.sup_links.specs.Image.{image}
-use Rattle.sup_plan.specs.Calls.{call_of, asked, letters_to, deliveries}
+use Rattle.sup_plan.specs.Calls.{asked, letters_to, deliveries}
 use Rattle.sup_plan.specs.Sublists.{Sublist}
 use Rattle.sup_posts.specs.Jobs.{IsSeatAt, IsLane, Carried, Drives, Gives}
-use Rattle.sup_posts.specs.Own.{made_by, but_exit}
-use Rattle.sup_posts.specs.declared.fault.RunFault.{RunFault}
-use Rattle.sup_posts.specs.declared.fault.RunFault.TheVariants.{BadPlan, HistoryFull, LinkClosed, OutOfMemory}
+use Rattle.sup_posts.specs.Rounds.{Makes, delivery}
+use Rattle.sup_posts.specs.declared.thread_fault.ThreadFault.{ThreadFault}
 use Rattle.sup_posts.specs.declared.post.Post.{Post}
 use Rattle.sup_posts.specs.declared.jobs.Lane.{Lane}
 use Rattle.sup_posts.specs.declared.jobs.Drive.{Drive}
@@ -74,16 +73,19 @@ module _ {W : Type 0} {h : WeighGhosts W} where
     carried_one lane wire receive sent (Err fault) arrived w rv s took met = absurd met
     carried_one lane wire receive sent (Ok received) arrived w rv s took met =
         let at = subst (λ n. IsSeatAt posts n received.seat) rv.to took.seat in
-        let same : at.0 ≡ w.post = same_some at.0 w.post (sym at.1 ∙ w.stands) in record {
+        let same : at.0 ≡ w.post = same_some at.0 w.post (sym at.1 ∙ w.stands) in
+        let whole : taken_of received.exit ≡ image (script_of lane.entry) (sent_put sent) = met.2 ∙ ap (λ x. image x (sent_put sent)) (s.script ∙ ap script_of w.entry) in record {
           to = met.0 ∙ (took.to ∙ rv.to);
           post = w.post;
           stands = w.stands;
           seat = subst (λ (p : Post W h). IsOf kept_by p.gate arrived.seat) same (subst (IsOf kept_by at.0.gate) (sym met.1) at.2);
           put = sent_put sent;
           letters = subst (λ n. Sublist (letters_to n es) (sent_put sent)) w.to s.letters;
-          delivered = subst (λ l. Sublist l (deliveries (view_of arrived.seat).seen))
-              (met.2 ∙ ap (λ x. image x (sent_put sent)) (s.script ∙ ap script_of w.entry))
+          delivered = subst (λ l. Sublist l (deliveries (view_of arrived.seat).seen)) whole
               (subst (λ p. Sublist (taken_of received.exit) (deliveries (view_of p).seen)) (sym met.1) took.delivered);
+          made = subst (λ l. Makes (view_of lane.seat) (map delivery l) (view_of arrived.seat)) whole
+              (subst (λ x. Makes (view_of x) (map delivery (taken_of received.exit)) (view_of arrived.seat)) rv.seat
+              (subst (λ x. Makes (view_of receive.seat) (map delivery (taken_of received.exit)) (view_of x)) (sym met.1) took.made));
         }
 
     carried_each : (lanes : List (Lane W h)) (wires : List Wire) (receives : List (Receive W h)) (sents : List Sent) (rs : List (Reception W h)) (arrived : List (Arrived W h))
@@ -125,20 +127,18 @@ module _ {W : Type 0} {h : WeighGhosts W} where
           entries = s.entries;
           calls = s.are ∙ ap (λ v. map asked v.items) t.commands;
           seen = subst (λ x. Sublist s.entries (view_of x).seen) (sym g.seat) s.stand;
-          made = ap (λ x. made_by (view_of x)) g.seat ∙ (s.made ∙ (ap (λ x. made_by (view_of x) ++ flat_map but_exit (map asked team.lead.commands.items)) t.seat
-              ∙ ap (λ v. made_by (view_of drive.seat) ++ flat_map but_exit (map asked v.items)) t.commands));
+          made = subst (λ x. Makes (view_of drive.seat) (map asked drive.commands.items) (view_of x)) (sym g.seat)
+              (subst (λ v. Makes (view_of drive.seat) (map asked v.items) (view_of g.steered.seat)) t.commands
+              (subst (λ x. Makes (view_of x) (map asked team.lead.commands.items) (view_of g.steered.seat)) t.seat s.made));
           carried = carried_each posts s.entries drive.lanes.items team.lead.wires.items team.others.items g.steered.sent.items done.others.items driven.arrived.items t.wires t.others s.sent d.1 g.met;
         }
 
-    gives_of : (drive : Drive W h) (team : Team (Steer W h) (Receive W h)) (done : Team (Steering W h) (Reception W h)) (result : Result (Driven W h) RunFault)
+    gives_of : (drive : Drive W h) (team : Team (Steer W h) (Receive W h)) (done : Team (Steering W h) (Reception W h)) (result : Result (Driven W h) ThreadFault)
         → IsTeamOf posts drive team → Did posts team done → Gathers done result → Gives posts drive result
     gives_of drive team done (Ok driven) t d g = drives_of drive team done driven t d g
-    gives_of drive team done (Err BadPlan) t d g = g refl
-    gives_of drive team done (Err HistoryFull) t d g = tt
-    gives_of drive team done (Err LinkClosed) t d g = tt
-    gives_of drive team done (Err OutOfMemory) t d g = tt
+    gives_of drive team done (Err fault) t d g = tt
 
-    pub gives_all : (drives : List (Drive W h)) (teams : List (Team (Steer W h) (Receive W h))) (done : List (Team (Steering W h) (Reception W h))) (results : List (Result (Driven W h) RunFault))
+    pub gives_all : (drives : List (Drive W h)) (teams : List (Team (Steer W h) (Receive W h))) (done : List (Team (Steering W h) (Reception W h))) (results : List (Result (Driven W h) ThreadFault))
         → AllZip (IsTeamOf posts) drives teams → AllZip (Did posts) teams done → AllZip Gathers done results → AllZip (Gives posts) drives results
     gives_all [] [] [] [] t d g = tt
     gives_all [] [] [] (r ∷ rs) t d g = absurd g

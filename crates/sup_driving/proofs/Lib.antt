@@ -1,4 +1,5 @@
 pub mod Calls
+pub mod Rounds
 pub mod Puts
 pub mod Names
 pub mod Places

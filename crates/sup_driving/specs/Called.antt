@@ -1,27 +1,77 @@
 -- What a call of a run's thread does to its pass (this project).
-use Rattle.std.specs.Prelude.{◌≡◌, ℕ, List, [], ◌∷◌, ◌++◌, Option, Some, None, Ok, Err}
+use Rattle.std.specs.Prelude.{◌≡◌, ℕ, false, List, [], ◌∷◌, ◌++◌, length, map, flat_map, Option, None, Ok, Err}
 use mathlib.Core.Option.{some}
+use Rattle.sup_placement.specs.Place.{Weigher}
+use Rattle.sup_local_sup.specs.declared.effect.Effect.{Effect}
 use Rattle.sup_replica.specs.declared.event.Act.{Act}
 use Rattle.sup_replica.specs.declared.letter.Letter.{Letter}
+use Rattle.sup_replica.specs.declared.refusal.Refusal.TheVariants.{HistoryFull as Full, OutOfMemory as Wants}
+use Rattle.sup_station.specs.Stills.{Still}
 use Rattle.sup_node_gate.specs.declared.entry.Entry.{Entry}
 use Rattle.sup_node_gate.specs.declared.view.View.{View}
+use Rattle.sup_node_gate.specs.Calls.{IsFull, HasNoMemory}
 use Rattle.sup_node_gate.specs.Histories.{Answer, IsPrefix, entry}
 use Rattle.sup_node_gate.specs.Views.{calls_of}
+use Rattle.sup_links.specs.declared.link_out.LinkOut.{LinkOut}
+use Rattle.sup_links.specs.Ends.{has_ended}
+use Rattle.sup_posts.specs.Rounds.{Run, Fail, effects_of, runs_of}
+use Rattle.sup_posts.specs.declared.thread_fault.ThreadFault.{ThreadFault}
+use Rattle.sup_posts.specs.declared.thread_fault.ThreadFault.TheVariants.{HistoryFull, LinkClosed, OutOfMemory}
 
 -- the letter of an answer, if it has one
 abbrev pub letter_of : Answer → Option Letter
 letter_of (Ok done) = done.out
 letter_of (Err r) = None
 
--- what is seen begins with what was seen, and ends with a call and its answer, which has this letter; it is one more of the pass's own calls
-pub record Called (v : View) (act : Act) (now : ℕ) (letter : Option Letter) (v' : View) : Type 0 where
+-- what is seen begins with what was seen, and ends with a call and its answer, which has these effects and this letter; it is one more of the
+-- pass's own calls
+pub record Called (v : View) (act : Act) (now : ℕ) (effects : List Effect) (letter : Option Letter) (v' : View) : Type 0 where
   pub answer : Answer
   pub before : List Entry
   pub begins : IsPrefix v.seen before
   pub ends : v'.seen ≡ before ++ entry act now answer ∷ []
   pub own : calls_of v' ≡ calls_of v ++ some (entry act now answer) ∷ []
+  pub effects_are : effects_of answer ≡ effects
   pub letter_is : letter_of answer ≡ letter
+
+-- the same, whatever its letter is
+abbrev pub CalledFor : View → Act → ℕ → View → List Effect → Type 0
+CalledFor v act now v' effects = (letter : Option Letter) × Called v act now effects letter v'
 
 -- what is seen begins with what was seen
 abbrev pub SeesMore : View → View → Type 0
 SeesMore v v' = IsPrefix v.seen v'.seen
+
+-- the pass's own calls since are exits, at this moment, of those that didn't start of these runs and of those that such exits begin
+pub record Tells (now : ℕ) (runs : List Run) (v v' : View) : Type 0 where
+  pub exits : List Entry
+  pub are : Fail now runs exits
+  pub own : calls_of v' ≡ calls_of v ++ map some exits
+
+-- the runs that the effects of several answers begin
+abbrev pub runs_in : List (List Effect) → List Run
+runs_in = flat_map runs_of
+
+-- the fault of an answer: a gate that has no memory, or whose history is full, and nothing else
+abbrev pub IsFaultIn : Answer → ThreadFault → Type 0
+IsFaultIn (Err Full) fault = fault ≡ HistoryFull
+IsFaultIn (Err Wants) fault = fault ≡ OutOfMemory
+IsFaultIn answer fault = ⊥
+
+-- what such a call leaves
+abbrev pub NotEntered : Weigher → Still → ℕ → View → View → ThreadFault → Type 0
+NotEntered g opening bound v v' HistoryFull = IsFull g opening bound v v'
+NotEntered g opening bound v v' LinkClosed = ⊥
+NotEntered g opening bound v v' OutOfMemory = HasNoMemory g opening bound v v'
+
+-- why a thread makes no more calls: the history is full, and it has seen it whole; or memory was refused
+abbrev pub StopsCalling : ℕ → View → ThreadFault → Type 0
+StopsCalling bound v HistoryFull = length v.seen ≡ bound
+StopsCalling bound v LinkClosed = ⊥
+StopsCalling bound v OutOfMemory = Unit {0}
+
+-- why it takes no more out of a link: the other end is gone, and no end mark came
+abbrev pub StopsTaking : LinkOut → ThreadFault → Type 0
+StopsTaking exit HistoryFull = ⊥
+StopsTaking exit LinkClosed = has_ended exit ≡ false
+StopsTaking exit OutOfMemory = ⊥

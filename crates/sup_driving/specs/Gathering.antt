@@ -1,16 +1,16 @@
 -- What drivers hand back, of what the threads did (this project).
-use Rattle.std.specs.Prelude.{◌≡◌, ◌≢◌, true, List, [], ◌∷◌, Result, Ok, Err}
+use Rattle.std.specs.Prelude.{◌≡◌, ◌⊎◌, true, List, [], ◌∷◌, All, Contains, Result, Ok, Err, IsOk}
 use Rattle.std.specs.List.{AllZip}
 use Rattle.sup_placement.specs.declared.weigh.Weigh.{Ghosts as WeighGhosts}
 use Rattle.sup_links.specs.declared.link_in.Sent.{Sent}
 use Rattle.sup_links.specs.Ends.{IsSentTo, sent_script, sent_put, taken_of, has_ended}
 use Rattle.sup_links.specs.Image.{image}
-use Rattle.sup_posts.specs.declared.fault.RunFault.{RunFault}
-use Rattle.sup_posts.specs.declared.fault.RunFault.TheVariants.{BadPlan}
+use Rattle.sup_posts.specs.Faults.{IsBelow}
+use Rattle.sup_posts.specs.declared.thread_fault.ThreadFault.{ThreadFault}
+use Rattle.sup_posts.specs.declared.thread_fault.ThreadFault.TheVariants.{OutOfMemory}
 use Rattle.sup_posts.specs.declared.jobs.Arrived.{Arrived}
 use Rattle.sup_posts.specs.declared.jobs.Driven.{Driven}
 use Rattle.sup_crew.specs.declared.team.Team.{Team}
-use Rattle.sup_driving.specs.declared.fault.ThreadFault.{ThreadFault}
 use Rattle.sup_driving.specs.declared.work.Steered.{Steered}
 use Rattle.sup_driving.specs.declared.work.Received.{Received}
 
@@ -53,6 +53,16 @@ module _ {W : Type 0} {h : WeighGhosts W} where
     pub seat : driven.seat ≡ steered.seat
     pub met : AllMet steered.sent.items done.others.items driven.arrived.items
 
-  abbrev pub Gathers : Team (Steering W h) (Reception W h) → Result (Driven W h) RunFault → Type 0
+  -- a fault of the driver or of one of its receivers, of which none is graver
+  pub record IsGravestOfTeam (done : Team (Steering W h) (Reception W h)) (fault : ThreadFault) : Type 0 where
+    pub stands : (done.lead ≡ Err fault) ⊎ Contains done.others.items (Err fault)
+    pub lead : IsBelow fault done.lead
+    pub others : All (IsBelow fault) done.others.items
+
+  -- why a driver hands back nothing: such a fault, or, where there is none, want of memory
+  abbrev pub IsFaultOfTeam : Team (Steering W h) (Reception W h) → ThreadFault → Type 0
+  IsFaultOfTeam done fault = IsGravestOfTeam done fault ⊎ (IsOk done.lead × All IsOk done.others.items × (fault ≡ OutOfMemory))
+
+  abbrev pub Gathers : Team (Steering W h) (Reception W h) → Result (Driven W h) ThreadFault → Type 0
   Gathers done (Ok driven) = IsGathered done driven
-  Gathers done (Err fault) = fault ≢ BadPlan
+  Gathers done (Err fault) = IsFaultOfTeam done fault

@@ -1,5 +1,5 @@
 -- A driver and its receivers: what their threads are given, and give back (this project).
-use Rattle.std.specs.Prelude.{◌≡◌, ◌++◌, true, List, [], map, flat_map, slice_get, Some}
+use Rattle.std.specs.Prelude.{◌≡◌, true, List, [], map, slice_get, Some}
 use Rattle.std.specs.List.{AllZip}
 use Rattle.sup_placement.specs.declared.weigh.Weigh.{Ghosts as WeighGhosts}
 use Rattle.sup_node_gate.specs.declared.entry.Entry.{Entry}
@@ -14,7 +14,7 @@ use Rattle.sup_posts.specs.declared.jobs.Lane.{Lane}
 use Rattle.sup_posts.specs.declared.jobs.Drive.{Drive}
 use Rattle.sup_crew.specs.declared.team.Team.{Team}
 use Rattle.sup_crew.specs.Teams.{AllOfTeam}
-use Rattle.sup_posts.specs.Own.{made_by, but_exit}
+use Rattle.sup_posts.specs.Rounds.{Makes, delivery}
 use Rattle.sup_driving.specs.declared.teams.Steer.{Steer}
 use Rattle.sup_driving.specs.declared.teams.Receive.{Receive}
 use Rattle.sup_driving.specs.declared.wires.Wire.{Wire}
@@ -38,6 +38,7 @@ module _ {W : Type 0} {h : WeighGhosts W} where
   -- what the receiver of a link is given
   pub record IsReceiveOf (lane : Lane W h) (receive : Receive W h) : Type 0 where
     pub to : receive.to ≡ lane.to
+    pub seat : receive.seat ≡ lane.seat
     pub exit : receive.exit ≡ lane.exit
 
   -- what a driver and its receivers are given
@@ -62,19 +63,20 @@ module _ {W : Type 0} {h : WeighGhosts W} where
   IsReady posts team = AllOfTeam (IsReadyToSteer posts) (IsReadyToReceive posts) team
 
   -- the commands stand in order, each once with its moment, in what the driver's pass has seen, and their letters were sent; the pass made no
-  -- other call, but for exits of children that didn't start
+  -- other call but exits of children that didn't start at a command
   pub record Steers (posts : List (Post W h)) (steer : Steer W h) (steered : Steered W h) : Type 0 where
     pub seat : IsSeatAt posts steer.at steered.seat
     pub entries : List Entry
     pub are : map call_of entries ≡ map asked steer.commands.items
     pub stand : Sublist entries (view_of steered.seat).seen
     pub sent : AllZip (HasSent entries) steer.wires.items steered.sent.items
-    pub made : made_by (view_of steered.seat) ≡ made_by (view_of steer.seat) ++ flat_map but_exit (map asked steer.commands.items)
+    pub made : Makes (view_of steer.seat) (map asked steer.commands.items) (view_of steered.seat)
 
-  -- all that came out of the link was delivered, in its order
+  -- all that came out of the link was delivered, in its order; the pass made no other call but exits of children that didn't start at it
   pub record Receives (posts : List (Post W h)) (receive : Receive W h) (received : Received W h) : Type 0 where
     pub seat : IsSeatAt posts receive.to received.seat
     pub to : received.to ≡ receive.to
     pub link : SameOut receive.exit received.exit
     pub ended : has_ended received.exit ≡ true
     pub delivered : Sublist (taken_of received.exit) (deliveries (view_of received.seat).seen)
+    pub made : Makes (view_of receive.seat) (map delivery (taken_of received.exit)) (view_of received.seat)

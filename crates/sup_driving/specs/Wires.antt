@@ -1,12 +1,14 @@
 -- The links of a driver, and what its node's calls put into them (this project).
-use Rattle.std.specs.Prelude.{◌≡◌, List, [], ◌∷◌, ◌++◌, map, Option, Some, None}
+use Rattle.std.specs.Prelude.{◌≡◌, ◌⊎◌, true, List, [], ◌∷◌, ◌++◌, map, Option}
 use Rattle.sup_specs.specs.Values.{Bytes}
 use Rattle.sup_replica.specs.declared.letter.Letter.{Letter}
 use Rattle.sup_node_gate.specs.declared.entry.Entry.{Entry}
 use Rattle.sup_links.specs.declared.link_in.Sent.{Sent}
-use Rattle.sup_links.specs.Ends.{SameIn, IsSentOf, script_of, put_of, sent_script, sent_put}
+use Rattle.sup_links.specs.Ends.{SameIn, IsSentOf, script_of, put_of, is_closed, sent_script, sent_put}
 use Rattle.sup_plan.specs.Calls.{Call, call_of, text_to, letters_to}
 use Rattle.sup_plan.specs.Sublists.{Sublist}
+use Rattle.sup_posts.specs.declared.thread_fault.ThreadFault.{ThreadFault}
+use Rattle.sup_posts.specs.declared.thread_fault.ThreadFault.TheVariants.{HistoryFull, LinkClosed, OutOfMemory}
 use Rattle.sup_driving.specs.declared.wires.Wire.{Wire}
 
 -- the same link's end later on: it was put more, or nothing
@@ -43,3 +45,14 @@ pub record IsEnded (wire : Wire) (sent : Sent) : Type 0 where
   pub link : IsSentOf sent wire.entry
   pub script : sent_script sent ≡ script_of wire.entry
   pub put : sent_put sent ≡ put_of wire.entry
+
+-- one of the links is closed
+abbrev pub HasClosed : List Wire → Type 0
+HasClosed [] = ⊥
+HasClosed (wire ∷ wires) = (is_closed wire.entry ≡ true) ⊎ HasClosed wires
+
+-- why nothing more is put: a link is closed, or memory was refused
+abbrev pub StopsPutting : List Wire → ThreadFault → Type 0
+StopsPutting wires HistoryFull = ⊥
+StopsPutting wires LinkClosed = HasClosed wires
+StopsPutting wires OutOfMemory = Unit {0}

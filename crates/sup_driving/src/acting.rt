@@ -1,12 +1,12 @@
 //! What a node has done with its children, told the runner.
-ghost use Rattle.std.specs.Prelude.{◌≡◌, OnOk};
-ghost use Rattle.sup_node_gate.specs.Gates.{IsOf, view_of};
+ghost use Rattle.std.specs.Prelude.{◌++◌, IfOk, IfErr, OnOk};
+ghost use Rattle.sup_node_gate.specs.declared.view.View.{View};
+ghost use Rattle.sup_node_gate.specs.Gates.{IsOf, view_of, bound_of};
 ghost use Rattle.sup_station.specs.Opening.{kept_by};
-ghost use Rattle.sup_driving.specs.Called.{SeesMore};
-ghost use Rattle.sup_posts.specs.Own.{made_by};
+ghost use Rattle.sup_driving.specs.Called.{CalledFor, SeesMore, Tells, runs_in, StopsCalling};
+ghost use Rattle.sup_posts.specs.Rounds.{failed, runs_of};
 
 use crate::calling::Brought;
-use crate::fault::ThreadFault;
 use crate::field::Field;
 use crate::outbox::lay;
 use crate::runner::Runner;
@@ -14,7 +14,7 @@ use std::collections::VecDeque;
 use std::sync::Wait;
 use sup_local_sup::{Effect, Effects, Incarnation};
 use sup_placement::Weigh;
-use sup_posts::{Post, Seat};
+use sup_posts::{Post, Seat, ThreadFault};
 use sup_replica::{Act, Event};
 use sup_specs::{ChildId, ExitReason, Plain};
 
@@ -30,7 +30,8 @@ impl<'a, R: Wait, W: Weigh, N: Runner, C> Field<'a, R, W, N, C> {
         requires { IsOf kept_by post.now.gate seat.old }
         ensures of { IsOf kept_by post.now.gate seat.new }
         ensures seen { OnOk result (SeesMore (view_of seat.old) (view_of seat.new)) }
-        ensures makes_none { OnOk result (made_by (view_of seat.new) ≡ made_by (view_of seat.old)) }
+        ensures told { OnOk result (Tells now (runs_of effects) (view_of seat.old) (view_of seat.new)) }
+        ensures fault { IfErr result (StopsCalling (bound_of post.now.gate) (view_of seat.new)) }
     {
         let mut waiting = VecDeque::new(self.alloc);
         let Ok(()) = waiting.push_back(effects) else {
@@ -57,7 +58,9 @@ impl<'a, R: Wait, W: Weigh, N: Runner, C> Field<'a, R, W, N, C> {
         requires { IsOf kept_by post.now.gate seat.old }
         ensures of { IsOf kept_by post.now.gate seat.new }
         ensures seen { OnOk result (SeesMore (view_of seat.old) (view_of seat.new)) }
-        ensures makes_none { OnOk result (made_by (view_of seat.new) ≡ made_by (view_of seat.old)) }
+        ensures told { (u : View) → OnOk result (Tells now (runs_in waiting.new.items) (view_of seat.new) u
+            → Tells now (runs_of effects.now ++ runs_in waiting.old.items) (view_of seat.old) u) }
+        ensures fault { IfErr result (StopsCalling (bound_of post.now.gate) (view_of seat.new)) }
     {
         for effect in effects {
             if self.runner.act(&post.name, effect) {
@@ -85,8 +88,8 @@ impl<'a, R: Wait, W: Weigh, N: Runner, C> Field<'a, R, W, N, C> {
     ) -> Result<Effects, ThreadFault>
         requires { IsOf kept_by post.now.gate seat.old }
         ensures of { IsOf kept_by post.now.gate seat.new }
-        ensures seen { OnOk result (SeesMore (view_of seat.old) (view_of seat.new)) }
-        ensures makes_none { OnOk result (made_by (view_of seat.new) ≡ made_by (view_of seat.old)) }
+        ensures called { IfOk result (CalledFor (view_of seat.old) (failed (id.now, inc)) now (view_of seat.new)) }
+        ensures fault { IfErr result (StopsCalling (bound_of post.now.gate) (view_of seat.new)) }
     {
         let event = Event::Exit {
             id: id.try_clone(self.alloc)?,

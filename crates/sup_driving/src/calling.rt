@@ -1,17 +1,17 @@
 //! A call at a node's gate.
-ghost use Rattle.std.specs.Prelude.{◌≡◌, true, IfOk, OnOk};
-ghost use Rattle.sup_node_gate.specs.Gates.{IsOf, view_of};
+ghost use Rattle.std.specs.Prelude.{◌≡◌, true, IfOk, IfErr, OnOk};
+ghost use Rattle.sup_node_gate.specs.Gates.{IsOf, view_of, opening_of, bound_of};
 ghost use Rattle.sup_node_gate.specs.Histories.{may_enter};
 ghost use Rattle.sup_station.specs.Opening.{kept_by};
-ghost use Rattle.sup_driving.specs.Called.{Called, letter_of};
+ghost use Rattle.sup_posts.specs.Rounds.{effects_of};
+ghost use Rattle.sup_driving.specs.Called.{Called, IsFaultIn, NotEntered, letter_of};
 
-use crate::fault::ThreadFault;
 use crate::field::Field;
 use std::alloc::Global;
 use std::sync::Wait;
 use sup_local_sup::Effects;
 use sup_placement::Weigh;
-use sup_posts::{Post, Seat};
+use sup_posts::{Post, Seat, ThreadFault};
 use sup_replica::{Act, Done, Letter, Refusal};
 
 /// What is left to be done of an answer.
@@ -21,32 +21,22 @@ pub(crate) struct Brought {
     pub(crate) letter: Option<Letter>,
 }
 
-// Whether an answer is entered.
-fn is_entered(answer: &Result<Done, Refusal>) -> bool
-    ensures { result ≡ may_enter answer.now }
-{
-    match answer {
-        Ok(_) => true,
-        Err(refusal) => !matches!(refusal, Refusal::OutOfMemory | Refusal::HistoryFull),
-    }
-}
-
 // The fault of an answer that isn't entered.
 fn entered(answer: &Result<Done, Refusal>) -> Result<(), ThreadFault>
-    ensures { OnOk result (may_enter answer.now ≡ true) }
+    ensures entered { OnOk result (may_enter answer.now ≡ true) }
+    ensures fault { IfErr result (IsFaultIn answer.now) }
 {
-    if is_entered(answer) {
-        return Ok(());
+    match answer {
+        Err(Refusal::HistoryFull) => Err(ThreadFault::HistoryFull),
+        Err(Refusal::OutOfMemory) => Err(ThreadFault::OutOfMemory),
+        _ => Ok(()),
     }
-    Err(match answer {
-        Err(Refusal::HistoryFull) => ThreadFault::HistoryFull,
-        _ => ThreadFault::OutOfMemory,
-    })
 }
 
 // What is left to be done of an answer. A refusal has nothing.
 fn left_of(alloc: Global, answer: Result<Done, Refusal>) -> Brought
-    ensures { result.letter ≡ letter_of answer }
+    ensures effects { result.effects ≡ effects_of answer }
+    ensures letter { result.letter ≡ letter_of answer }
 {
     match answer {
         Ok(done) => {
@@ -78,7 +68,8 @@ impl<'a, R: Wait, W: Weigh, N, C> Field<'a, R, W, N, C> {
     ) -> Result<Brought, ThreadFault>
         requires { IsOf kept_by post.now.gate seat.old }
         ensures of { IsOf kept_by post.now.gate seat.new }
-        ensures called { IfOk result (λ brought. Called (view_of seat.old) act now brought.letter (view_of seat.new)) }
+        ensures called { IfOk result (λ brought. Called (view_of seat.old) act now brought.effects brought.letter (view_of seat.new)) }
+        ensures refused { IfErr result (NotEntered W.weight_of (opening_of kept_by post.now.gate) (bound_of post.now.gate) (view_of seat.old) (view_of seat.new)) }
     {
         let answer = post.gate.call(self.rt, seat, act, now, self.weigher);
         entered(&answer)?;

@@ -1,14 +1,14 @@
 //! What a driver does.
-ghost use Rattle.std.specs.Prelude.{◌≡◌, ◌++◌, [], ◌∷◌, map, flat_map, OnOk, List};
+ghost use Rattle.std.specs.Prelude.{◌++◌, ◌⊎◌, [], ◌∷◌, map, IfErr, OnOk, List};
 ghost use Rattle.std.specs.List.{AllZip};
-ghost use Rattle.sup_node_gate.specs.Gates.{IsOf, view_of};
+ghost use Rattle.sup_node_gate.specs.Gates.{IsOf, view_of, bound_of};
 ghost use Rattle.sup_station.specs.Opening.{kept_by};
 ghost use Rattle.sup_plan.specs.Calls.{Call, asked};
-ghost use Rattle.sup_posts.specs.Own.{made_by, but_exit};
-ghost use Rattle.sup_driving.specs.Wires.{Did, HasPut, IsLater};
+ghost use Rattle.sup_posts.specs.Rounds.{Makes};
+ghost use Rattle.sup_driving.specs.Called.{StopsCalling};
+ghost use Rattle.sup_driving.specs.Wires.{Did, HasPut, IsLater, StopsPutting};
 
 use crate::calling::Brought;
-use crate::fault::ThreadFault;
 use crate::field::Field;
 use crate::outbox::empty;
 use crate::runner::{Checkpoint, Runner};
@@ -16,7 +16,7 @@ use crate::wires::{Wire, put_letter};
 use std::sync::Wait;
 use sup_placement::Weigh;
 use sup_plan::Command;
-use sup_posts::{Post, Seat};
+use sup_posts::{Post, Seat, ThreadFault};
 use sup_replica::Letter;
 
 impl<'a, R: Wait, W: Weigh, N: Runner, C: Checkpoint> Field<'a, R, W, N, C> {
@@ -34,7 +34,8 @@ impl<'a, R: Wait, W: Weigh, N: Runner, C: Checkpoint> Field<'a, R, W, N, C> {
         ensures later { OnOk result (AllZip IsLater wires.old wires.new) }
         ensures did { (calls : List Call) → Did calls (view_of seat.old).seen wires.old
             → OnOk result (Did (calls ++ asked command ∷ []) (view_of seat.new).seen wires.new) }
-        ensures made { OnOk result (made_by (view_of seat.new) ≡ made_by (view_of seat.old) ++ but_exit (asked command)) }
+        ensures made { OnOk result (Makes (view_of seat.old) (asked command ∷ []) (view_of seat.new)) }
+        ensures fault { IfErr result (λ f. StopsCalling (bound_of post.now.gate) (view_of seat.new) f ⊎ StopsPutting wires.new f) }
     {
         self.checkpoint.before(&post.name, place);
         empty(self.rt, self.alloc, &post.outbox, wires)?;
@@ -47,7 +48,8 @@ impl<'a, R: Wait, W: Weigh, N: Runner, C: Checkpoint> Field<'a, R, W, N, C> {
 
     // Puts a letter, if there is one.
     fn put(&self, letter: Option<Letter>, wires: &mut [Wire]) -> Result<(), ThreadFault>
-        ensures { OnOk result (AllZip (HasPut letter) wires.old wires.new) }
+        ensures put { OnOk result (AllZip (HasPut letter) wires.old wires.new) }
+        ensures fault { IfErr result (StopsPutting wires.new) }
     {
         match letter {
             Some(letter) => put_letter(self.rt, self.alloc, &letter, wires),
@@ -67,7 +69,8 @@ impl<'a, R: Wait, W: Weigh, N: Runner, C: Checkpoint> Field<'a, R, W, N, C> {
         ensures of { IsOf kept_by post.now.gate seat.new }
         ensures later { OnOk result (AllZip IsLater wires.old wires.new) }
         ensures did { OnOk result (Did (map asked commands.items) (view_of seat.new).seen wires.new) }
-        ensures made { OnOk result (made_by (view_of seat.new) ≡ made_by (view_of seat.old) ++ flat_map but_exit (map asked commands.items)) }
+        ensures made { OnOk result (Makes (view_of seat.old) (map asked commands.items) (view_of seat.new)) }
+        ensures fault { IfErr result (λ f. StopsCalling (bound_of post.now.gate) (view_of seat.new) f ⊎ StopsPutting wires.new f) }
     {
         let mut place: u64 = 0;
         for command in commands {

@@ -12,12 +12,14 @@ use std::sync::Wait;
 use std::thread::Threads;
 use sup_crew::run_teams;
 use sup_placement::Weigh;
-use sup_posts::{Drive, Driven, Post, RunFault};
+use sup_posts::{Drive, Driven, Post, ThreadFault};
 
 /// Does the jobs of the drivers of these nodes, each in a thread of its own, with one more for each of their links, and gives what each
 /// driver hands back, in their order: its commands stand in its node's history, each once with its moment, and what the links make of
-/// their letters stands among the other nodes' deliveries. Where a driver fails, the gravest is told of its fault and of those of the
-/// receivers behind its links: want of memory before a full history, and that before a closed link. Where it doesn't, the first of theirs.
+/// their letters stands among the other nodes' deliveries. The threads make no other calls but exits, with the reason `failed`, of runs
+/// that didn't start: each of a run that an answer to the thread began, and at the moment of the command or the delivery to which it was.
+/// Of the faults of a driver and of the receivers behind its links the gravest is told: want of memory before a full history, and that
+/// before a closed link.
 ///
 /// # Errors
 ///
@@ -35,7 +37,7 @@ pub fn launch<
     checkpoint: &C,
     posts: &[Post<W>],
     drives: Vec<Drive<W>>,
-) -> Result<Vec<Result<Driven<W>, RunFault>>, AllocError>
+) -> Result<Vec<Result<Driven<W>, ThreadFault>>, AllocError>
     requires { All (Takes posts.now) drives.items }
     ensures { IfOk result (λ results. AllZip (Gives posts.now) drives.items results.items) }
 {

@@ -8,7 +8,6 @@
 mod acting;
 mod calling;
 mod driving;
-mod fault;
 mod field;
 mod gathering;
 mod launching;

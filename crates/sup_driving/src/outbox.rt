@@ -1,14 +1,13 @@
 //! Letters of a node's receivers, which its driver puts.
-ghost use Rattle.std.specs.Prelude.{OnOk};
+ghost use Rattle.std.specs.Prelude.{IfErr, OnOk};
 ghost use Rattle.std.specs.List.{AllZip};
-ghost use Rattle.sup_driving.specs.Wires.{IsLater};
+ghost use Rattle.sup_driving.specs.Wires.{IsLater, StopsPutting};
 
-use crate::fault::ThreadFault;
 use crate::wires::{Wire, put_letter};
 use std::alloc::{AllocError, Global};
 use std::mem::replace;
 use std::sync::Wait;
-use sup_posts::Outbox;
+use sup_posts::{Outbox, ThreadFault};
 use sup_replica::Letter;
 
 // Lays a letter there, if there is one.
@@ -37,6 +36,7 @@ pub(crate) fn empty<R: Wait>(
     wires: &mut [Wire],
 ) -> Result<(), ThreadFault>
     ensures later { OnOk result (AllZip IsLater wires.old wires.new) }
+    ensures fault { IfErr result (StopsPutting wires.new) }
 {
     for letter in take_letters(rt, alloc, outbox) {
         put_letter(rt, alloc, &letter, wires)?;

@@ -1,21 +1,22 @@
 //! What a receiver does.
-ghost use Rattle.std.specs.Prelude.{◌≡◌, ◌++◌, [], ◌∷◌, true, OnOk, List};
+ghost use Rattle.std.specs.Prelude.{◌≡◌, ◌++◌, ◌⊎◌, [], ◌∷◌, true, map, IfErr, OnOk, List};
 ghost use Rattle.sup_specs.specs.Values.{Bytes};
-ghost use Rattle.sup_node_gate.specs.Gates.{IsOf, view_of};
+ghost use Rattle.sup_node_gate.specs.Gates.{IsOf, view_of, bound_of};
 ghost use Rattle.sup_station.specs.Opening.{kept_by};
 ghost use Rattle.sup_links.specs.Ends.{SameOut, taken_of, has_ended};
 ghost use Rattle.sup_plan.specs.Calls.{deliveries};
 ghost use Rattle.sup_plan.specs.Sublists.{Sublist};
+ghost use Rattle.sup_posts.specs.Rounds.{Makes, delivery};
+ghost use Rattle.sup_driving.specs.Called.{StopsCalling, StopsTaking};
 
 use crate::calling::Brought;
-use crate::fault::ThreadFault;
 use crate::field::Field;
 use crate::outbox::lay;
 use crate::runner::Runner;
 use std::sync::Wait;
 use sup_links::LinkOut;
 use sup_placement::Weigh;
-use sup_posts::{Post, Seat};
+use sup_posts::{Post, Seat, ThreadFault};
 use sup_replica::{Act, Event, MessageText};
 
 // The moment of all deliveries.
@@ -28,6 +29,8 @@ impl<'a, R: Wait, W: Weigh, N: Runner, C> Field<'a, R, W, N, C> {
         ensures of { IsOf kept_by post.now.gate seat.new }
         ensures delivered { (texts : List Bytes) → Sublist texts (deliveries (view_of seat.old).seen)
             → OnOk result (Sublist (texts ++ text.items ∷ []) (deliveries (view_of seat.new).seen)) }
+        ensures made { OnOk result (Makes (view_of seat.old) (delivery text.items ∷ []) (view_of seat.new)) }
+        ensures fault { IfErr result (StopsCalling (bound_of post.now.gate) (view_of seat.new)) }
     {
         let act = Act::Event(Event::Deliver(MessageText::new(text)));
         let Brought { effects, letter } = self.call(post, seat, act, MOMENT)?;
@@ -48,6 +51,8 @@ impl<'a, R: Wait, W: Weigh, N: Runner, C> Field<'a, R, W, N, C> {
         ensures link { SameOut exit.old exit.new }
         ensures ended { OnOk result (has_ended exit.new ≡ true) }
         ensures delivered { OnOk result (Sublist (taken_of exit.new) (deliveries (view_of seat.new).seen)) }
+        ensures made { OnOk result (Makes (view_of seat.old) (map delivery (taken_of exit.new)) (view_of seat.new)) }
+        ensures fault { IfErr result (λ f. StopsCalling (bound_of post.now.gate) (view_of seat.new) f ⊎ StopsTaking exit.new f) }
     {
         for _ in self.rt.forever() {
             let Ok(taken) = exit.take(self.rt) else {

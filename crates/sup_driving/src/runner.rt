@@ -1,4 +1,6 @@
 //! What those who run a cluster are told while it runs.
+ghost use Rattle.std.specs.Prelude.{◌≡◌, true};
+
 use sup_local_sup::Effect;
 use sup_specs::NodeName;
 
@@ -22,7 +24,9 @@ pub trait Checkpoint {
 pub struct Quiet;
 
 impl Runner for Quiet {
-    fn act(&self, _node: &NodeName, _effect: &Effect) -> bool {
+    fn act(&self, _node: &NodeName, _effect: &Effect) -> bool
+        ensures { result ≡ true }
+    {
         true
     }
 }

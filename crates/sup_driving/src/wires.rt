@@ -1,13 +1,13 @@
 //! A driver's ends of the links to the other nodes.
-ghost use Rattle.std.specs.Prelude.{◌≡◌, Some, IfOk, OnOk};
+ghost use Rattle.std.specs.Prelude.{◌≡◌, [], ◌∷◌, Some, IfOk, IfErr, OnOk};
 ghost use Rattle.std.specs.List.{AllZip};
 ghost use Rattle.sup_replica.specs.Nodes.{is_named};
-ghost use Rattle.sup_driving.specs.Wires.{HasPut, IsEnded};
+ghost use Rattle.sup_driving.specs.Wires.{HasPut, IsEnded, StopsPutting};
 
-use crate::fault::ThreadFault;
 use std::alloc::{AllocError, Global};
 use std::sync::Wait;
 use sup_links::{LinkIn, Sent};
+use sup_posts::ThreadFault;
 use sup_replica::Letter;
 use sup_specs::NodeName;
 
@@ -33,7 +33,8 @@ fn put_one<R: Wait>(
     letter: &Letter,
     wire: &mut Wire,
 ) -> Result<(), ThreadFault>
-    ensures { OnOk result (HasPut (Some letter.now) wire.old wire.new) }
+    ensures put { OnOk result (HasPut (Some letter.now) wire.old wire.new) }
+    ensures fault { IfErr result (StopsPutting (wire.new ∷ [])) }
 {
     if is_for(&wire.to, letter) {
         let text = letter.bytes.as_slice().to_vec(alloc)?;
@@ -49,7 +50,8 @@ pub(crate) fn put_letter<R: Wait>(
     letter: &Letter,
     wires: &mut [Wire],
 ) -> Result<(), ThreadFault>
-    ensures { OnOk result (AllZip (HasPut (Some letter.now)) wires.old wires.new) }
+    ensures put { OnOk result (AllZip (HasPut (Some letter.now)) wires.old wires.new) }
+    ensures fault { IfErr result (StopsPutting wires.new) }
 {
     let Some((first, others)) = wires.split_first_mut() else {
         return Ok(());

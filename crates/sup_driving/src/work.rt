@@ -2,7 +2,6 @@
 ghost use Rattle.std.specs.Prelude.{IfOk};
 ghost use Rattle.sup_driving.specs.Teams.{IsReadyToSteer, IsReadyToReceive, Steers, Receives};
 
-use crate::fault::ThreadFault;
 use crate::field::Field;
 use crate::runner::{Checkpoint, Runner};
 use crate::teams::{Receive, Steer};
@@ -11,7 +10,7 @@ use std::sync::Wait;
 use sup_crew::Work;
 use sup_links::{LinkOut, Sent};
 use sup_placement::Weigh;
-use sup_posts::Seat;
+use sup_posts::{Seat, ThreadFault};
 
 /// A driver's pass, and its ends of the links, in which all is put.
 #[derive(Drop)]

@@ -1,8 +1,8 @@
 -- What all items have, one behind them, and what is left where none is.
-use Rattle.std.specs.Prelude.{◌≡◌, ℕ, ◌<◌, zero, suc, List, [], ◌∷◌, ◌++◌, length, All}
+use Rattle.std.specs.Prelude.{◌≡◌, zero, suc, List, [], ◌∷◌, ◌++◌, length, slice_index_or, All, Contains, refl}
 use Rattle.std.proofs.Common.{sym, ap, ◌∙◌, arith, append-nil}
 use Rattle.std.proofs.lemmas.List.{nil_from_length}
-use Rattle.std.proofs.lemmas.List.Elements.{All-append}
+use Rattle.std.proofs.lemmas.List.Elements.{All-append, Contains-append_right}
 
 module _ {X : Type 0} where
   pub all_none : (P : X → Type 0) → All P []
@@ -17,3 +17,9 @@ module _ {X : Type 0} where
 
   pub none_left : (xs ys all : List X) → length ys ≡ 0 → xs ++ ys ≡ all → xs ≡ all
   none_left xs ys all none e = sym (append-nil xs) ∙ (ap (λ l. xs ++ l) (sym (nil_from_length ys none)) ∙ e)
+
+  pub all_weaken : (P Q : X → Type 0) → ((x : X) → P x → Q x) → (xs : List X) → All P xs → All Q xs
+  all_weaken P Q f xs h k d lt = f (slice_index_or xs k d) (h k d lt)
+
+  pub last_contained : (xs : List X) (x : X) → Contains (xs ++ x ∷ []) x
+  last_contained xs x = Contains-append_right xs (x ∷ []) x (0, omega arith, refl)

@@ -1,5 +1,5 @@
 -- Sublists of lists that grow.
-use Rattle.std.proofs.Common.{◌≡◌, List, [], ◌∷◌, ◌++◌, refl, inl, inr, append-nil, subst, sym}
+use Rattle.std.proofs.Common.{List, [], ◌∷◌, ◌++◌, refl, inl, inr}
 use Rattle.sup_plan.specs.Sublists.{Sublist}
 
 pub sub_more : {X : Type 0} (xs ys zs : List X) → Sublist xs ys → Sublist xs (ys ++ zs)

@@ -1,5 +1,5 @@
 -- What a driver may be given, and what it gives back (this project).
-use Rattle.std.specs.Prelude.{◌≡◌, ◌++◌, ℕ, false, List, [], map, flat_map, All, slice_get, Some, Result, Ok, Err}
+use Rattle.std.specs.Prelude.{◌≡◌, ℕ, false, List, [], map, All, slice_get, Some, Result, IfOk}
 use Rattle.std.specs.List.{AllZip}
 use Rattle.sup_specs.specs.Values.{Bytes}
 use Rattle.sup_placement.specs.declared.weigh.Weigh.{Ghosts as WeighGhosts}
@@ -13,9 +13,8 @@ use Rattle.sup_links.specs.Image.{image}
 use Rattle.sup_links.specs.Ends.{AreOneLink, script_of, put_of, is_closed, taken_of, has_ended}
 use Rattle.sup_plan.specs.Calls.{call_of, asked, letters_to, deliveries}
 use Rattle.sup_plan.specs.Sublists.{Sublist}
-use Rattle.sup_posts.specs.Own.{made_by, but_exit}
-use Rattle.sup_posts.specs.declared.fault.RunFault.{RunFault}
-use Rattle.sup_posts.specs.declared.fault.RunFault.TheVariants.{BadPlan, HistoryFull, LinkClosed, OutOfMemory}
+use Rattle.sup_posts.specs.Rounds.{Makes, delivery}
+use Rattle.sup_posts.specs.declared.thread_fault.ThreadFault.{ThreadFault}
 use Rattle.sup_posts.specs.declared.post.Post.{Post}
 use Rattle.sup_posts.specs.declared.jobs.Lane.{Lane}
 use Rattle.sup_posts.specs.declared.jobs.Drive.{Drive}
@@ -45,7 +44,7 @@ module _ {W : Type 0} {h : WeighGhosts W} where
     pub lanes : All (IsLane posts) drive.lanes.items
 
   -- some list has in order the letters to the other node of the answers of these entries, and what the link makes of it stands in order among
-  -- the deliveries to that node
+  -- the deliveries to that node; the pass there delivered just this, and made no other call but exits of children that didn't start at it
   pub record Carried (posts : List (Post W h)) (entries : List Entry) (lane : Lane W h) (arrived : Arrived W h) : Type 0 where
     pub to : arrived.to ≡ lane.to
     pub post : Post W h
@@ -54,21 +53,18 @@ module _ {W : Type 0} {h : WeighGhosts W} where
     pub put : List Bytes
     pub letters : Sublist (letters_to post.name entries) put
     pub delivered : Sublist (image (script_of lane.entry) put) (deliveries (view_of arrived.seat).seen)
+    pub made : Makes (view_of lane.seat) (map delivery (image (script_of lane.entry) put)) (view_of arrived.seat)
 
   -- the commands stand in order, each once with its moment, in what the driver's pass has seen, and their letters were carried; the pass made no
-  -- other call, but for exits of children that didn't start
+  -- other call but exits of children that didn't start at a command
   pub record Drives (posts : List (Post W h)) (drive : Drive W h) (driven : Driven W h) : Type 0 where
     pub seat : IsSeatAt posts drive.at driven.seat
     pub entries : List Entry
     pub calls : map call_of entries ≡ map asked drive.commands.items
     pub seen : Sublist entries (view_of driven.seat).seen
-    pub made : made_by (view_of driven.seat) ≡ made_by (view_of drive.seat) ++ flat_map but_exit (map asked drive.commands.items)
+    pub made : Makes (view_of drive.seat) (map asked drive.commands.items) (view_of driven.seat)
     pub carried : AllZip (Carried posts entries) drive.lanes.items driven.arrived.items
 
-  -- what a driver gives back; that a plan is bad is found before
-  abbrev pub Gives : List (Post W h) → Drive W h → Result (Driven W h) RunFault → Type 0
-  Gives posts drive (Ok driven) = Drives posts drive driven
-  Gives posts drive (Err BadPlan) = ⊥
-  Gives posts drive (Err HistoryFull) = Unit {0}
-  Gives posts drive (Err LinkClosed) = Unit {0}
-  Gives posts drive (Err OutOfMemory) = Unit {0}
+  -- what a driver gives back
+  abbrev pub Gives : List (Post W h) → Drive W h → Result (Driven W h) ThreadFault → Type 0
+  Gives posts drive result = IfOk result (Drives posts drive)

@@ -1,2 +1,3 @@
+pub mod Faults
 pub mod Jobs
-pub mod Own
+pub mod Rounds

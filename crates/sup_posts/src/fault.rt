@@ -1,4 +1,5 @@
 //! Why a run gives no histories.
+use crate::thread_fault::ThreadFault;
 use std::alloc::AllocError;
 use thiserror::Error;
 
@@ -24,5 +25,20 @@ impl From<AllocError> for RunFault {
 
     fn from(_error: AllocError) -> RunFault {
         RunFault::OutOfMemory
+    }
+}
+
+impl From<ThreadFault> for RunFault {
+    ghost use Rattle.std.specs.Prelude.{◌≡◌};
+    ghost use Rattle.sup_posts.specs.Faults.{of_thread};
+
+    ghost from_gives = { λ e f. f ≡ of_thread e };
+
+    fn from(fault: ThreadFault) -> RunFault {
+        match fault {
+            ThreadFault::HistoryFull => RunFault::HistoryFull,
+            ThreadFault::LinkClosed => RunFault::LinkClosed,
+            ThreadFault::OutOfMemory => RunFault::OutOfMemory,
+        }
     }
 }

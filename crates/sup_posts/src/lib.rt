@@ -4,7 +4,11 @@
 pub mod fault;
 pub mod jobs;
 pub mod post;
+pub mod telling;
+pub mod thread_fault;
 
 pub use fault::RunFault;
 pub use jobs::{Arrived, Drive, Driven, Lane};
 pub use post::{Gate, Outbox, Post, Seat};
+pub use telling::{graver, gravest};
+pub use thread_fault::ThreadFault;

@@ -9,8 +9,9 @@ use Rattle.sup_plan.specs.declared.histories.History.{History}
 use Rattle.sup_posts.specs.Jobs.{Seat}
 use Rattle.sup_posts.specs.declared.post.Post.{Post}
 use Rattle.sup_posts.specs.declared.jobs.Arrived.{Arrived}
+use Rattle.sup_posts.proofs.Items.{all_weaken}
 use Rattle.sup_run_ends.specs.Steps.{IsSeatOf, IsArrived, Begins, Ends}
-use Rattle.sup_run_ends.proofs.Items.{all_at, all_weaken, contained, stands_in, get_left, get_next, same_place, contains_filter, filter_contains}
+use Rattle.sup_run_ends.proofs.Items.{all_at, contained, stands_in, get_left, get_next, same_place, contains_filter, filter_contains}
 use Rattle.sup_run_ends.proofs.Passes.{is_same, same_is, not_false}
 
 true_not : (b : Bool) → not b ≡ true → b ≡ true → ⊥

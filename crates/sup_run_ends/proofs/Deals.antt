@@ -3,7 +3,7 @@ use Rattle.std.specs.Prelude.{◌≡◌, ◌≢◌, ◌==◌, not, ℕ, ◌+◌,
 use Rattle.std.specs.List.{AllZip}
 use Rattle.std.proofs.Common.{arith, below_more, sym, ap, ◌∙◌, append-nil}
 use Rattle.std.proofs.lemmas.List.{map-append}
-use Rattle.std.proofs.lemmas.List.Elements.{Contains-append_right, filter-append}
+use Rattle.std.proofs.lemmas.List.Elements.{filter-append}
 use Rattle.sup_posts.proofs.Items.{all_snoc}
 use Rattle.sup_placement.specs.declared.weigh.Weigh.{Ghosts as WeighGhosts}
 use Rattle.sup_plan.specs.declared.plan.Route.{Route}
@@ -12,9 +12,6 @@ use Rattle.sup_posts.specs.Jobs.{Seat, IsSeatAt, IsLane}
 use Rattle.sup_posts.specs.declared.post.Post.{Post}
 use Rattle.sup_posts.specs.declared.jobs.Lane.{Lane}
 use Rattle.sup_run_ends.specs.Steps.{IsSeatOf, HasLaneTo, ends_of, others_of, places}
-
-pub last_contained : {X : Type 0} (xs : List X) (x : X) → Contains (xs ++ x ∷ []) x
-last_contained xs x = Contains-append_right xs (x ∷ []) x (0, omega arith, refl)
 
 -- the place itself is none of the others
 pub itself : (to at : ℕ) (xs : List ℕ) → (to == at) ≡ true → xs ≡ xs ++ others_of at (to ∷ [])

@@ -22,9 +22,6 @@ module _ {X : Type 0} where
   pub stands_in : (xs : List X) (i : ℕ) (x : X) → slice_get xs i ≡ Some x → Contains xs x
   stands_in xs i x e = (i, slice_get_within xs i x e, get_or_from_slice_get xs i x x e)
 
-  pub all_weaken : (P Q : X → Type 0) → ((x : X) → P x → Q x) → (xs : List X) → All P xs → All Q xs
-  all_weaken P Q f xs h k d lt = f (slice_index_or xs k d) (h k d lt)
-
   pub get_left : (xs ys : List X) (i : ℕ) (x : X) → slice_get xs i ≡ Some x → slice_get (xs ++ ys) i ≡ Some x
   get_left [] ys i x e = absurd (none_some x e)
     where

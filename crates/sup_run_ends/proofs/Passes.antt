@@ -1,5 +1,5 @@
 -- Passes that come back, and what they have seen.
-use Rattle.std.specs.Prelude.{◌≡◌, ◌≢◌, ◌==◌, ℕ, Bool, true, false, not, List, [], ◌∷◌, ◌++◌, map, flat_map, All, Contains, Result, Ok, Err, refl}
+use Rattle.std.specs.Prelude.{◌≡◌, ◌≢◌, ◌==◌, ℕ, Bool, true, false, not, List, [], ◌∷◌, ◌++◌, map, flat_map, All, Contains, Result, Ok, refl}
 use Rattle.std.specs.List.{AllZip, filter}
 use Rattle.std.proofs.Common.{sym, ap, ◌∙◌, subst, arith, append_assoc, append-nil}
 use Rattle.std.proofs.lemmas.List.{map-append}
@@ -11,18 +11,14 @@ use Rattle.sup_node_gate.specs.Gates.{view_of}
 use Rattle.sup_node_gate.specs.Histories.{IsPrefix}
 use Rattle.sup_plan.specs.declared.histories.History.{History}
 use Rattle.sup_posts.specs.Jobs.{Seat}
-use Rattle.sup_posts.specs.declared.fault.RunFault.{RunFault}
-use Rattle.sup_posts.specs.declared.fault.RunFault.TheVariants.{BadPlan}
+use Rattle.sup_posts.specs.declared.thread_fault.ThreadFault.{ThreadFault}
 use Rattle.sup_posts.specs.declared.post.Post.{Post}
 use Rattle.sup_posts.specs.declared.jobs.Arrived.{Arrived}
 use Rattle.sup_posts.specs.declared.jobs.Driven.{Driven}
 use Rattle.sup_run_ends.specs.Steps.{IsSeatOf, IsArrived, Begins, HasSeen, AreTakenApart, Returns}
 use Rattle.sup_run_ends.proofs.Zips.{zip_right, zip_map}
-use Rattle.sup_posts.proofs.Items.{all_snoc}
-use Rattle.sup_run_ends.proofs.Items.{all_at, contained, stands_in, all_weaken, all_flat, contains_filter, filter_contains}
-
-pub err_is : {A E : Type 0} (x y : E) (r : Result A E) → r ≡ Err x → r ≡ Err y → x ≡ y
-err_is x y r e f = cc
+use Rattle.sup_posts.proofs.Items.{all_snoc, all_weaken}
+use Rattle.sup_run_ends.proofs.Items.{all_at, contained, stands_in, all_flat, contains_filter, filter_contains}
 
 pub prefix_then : (a b c : List Entry) → IsPrefix a b → IsPrefix b c → IsPrefix a c
 prefix_then a b c p q = (p.0 ++ q.0, q.1 ∙ ap (λ l. l ++ q.0) p.1 ∙ append_assoc a p.0 q.0)
@@ -69,7 +65,7 @@ module _ {W : Type 0} {h : WeighGhosts W} where
       all_weaken (λ (a : Arrived W h). HasSeen a.seat joined) (λ (a : Arrived W h). Begins a.seat history) (λ a r. prefix_then (view_of a.seat).seen (view_of joined).seen history.entries.items r b) here all
 
   -- one driver more
-  pub taken_more : (rs : List (Result (Driven W h) RunFault)) (seats seats' : List (Seat W h)) (arrived arrived' : List (Arrived W h)) (r : Result (Driven W h) RunFault) (d : Driven W h)
+  pub taken_more : (rs : List (Result (Driven W h) ThreadFault)) (seats seats' : List (Seat W h)) (arrived arrived' : List (Arrived W h)) (r : Result (Driven W h) ThreadFault) (d : Driven W h)
       → r ≡ Ok d → seats' ≡ seats ++ d.seat ∷ [] → arrived' ≡ arrived ++ d.arrived.items → AreTakenApart rs seats arrived → AreTakenApart (rs ++ r ∷ []) seats' arrived'
   taken_more rs seats seats' arrived arrived' r d is own others t = record {
     driven = t.driven ++ d ∷ [];
@@ -81,17 +77,10 @@ module _ {W : Type 0} {h : WeighGhosts W} where
   pub none_taken : AreTakenApart {W = W} {h = h} [] [] []
   none_taken = record { driven = []; all = refl; own = refl; others = refl }
 
-  no_bad : (posts : List (Post W h)) (post : Post W h) (r : Result (Driven W h) RunFault) → Returns posts post r → r ≢ Err BadPlan
-  no_bad posts post (Ok d) x = λ e. cc
-  no_bad posts post (Err f) x = λ e. x (err_is f BadPlan (Err f) refl e)
-
-  pub none_bad : (posts : List (Post W h)) (results : List (Result (Driven W h) RunFault)) → AllZip (Returns posts) posts results → All (λ r. r ≢ Err BadPlan) results
-  none_bad posts results z = all_at (λ r. r ≢ Err BadPlan) results (λ i r e. let p = zip_right (Returns posts) posts results i r z e in no_bad posts p.0 r p.2)
-
   abbrev Back : List (Post W h) → Post W h → Driven W h → Type 0
   Back posts post driven = IsSeatOf post driven.seat × All (IsArrived posts) driven.arrived.items
 
-  back : (posts : List (Post W h)) (results : List (Result (Driven W h) RunFault)) (driven : List (Driven W h)) → results ≡ map Ok driven → AllZip (Returns posts) posts results → AllZip (Back posts) posts driven
+  back : (posts : List (Post W h)) (results : List (Result (Driven W h) ThreadFault)) (driven : List (Driven W h)) → results ≡ map Ok driven → AllZip (Returns posts) posts results → AllZip (Back posts) posts driven
   back posts results driven e z = zip_map (Returns posts) Ok posts driven (subst (AllZip (Returns posts) posts) e z)
 
   own_seats : (posts all : List (Post W h)) (driven : List (Driven W h)) → AllZip (Back all) posts driven → AllZip IsSeatOf posts (map (λ (d : Driven W h). d.seat) driven)
@@ -100,11 +89,11 @@ module _ {W : Type 0} {h : WeighGhosts W} where
   own_seats (p ∷ ps) all [] z = absurd z
   own_seats (p ∷ ps) all (d ∷ ds) z = (z.0.0, own_seats ps all ds z.1)
 
-  pub seats_taken : (posts : List (Post W h)) (results : List (Result (Driven W h) RunFault)) (seats : List (Seat W h)) (arrived : List (Arrived W h))
+  pub seats_taken : (posts : List (Post W h)) (results : List (Result (Driven W h) ThreadFault)) (seats : List (Seat W h)) (arrived : List (Arrived W h))
       → AllZip (Returns posts) posts results → AreTakenApart results seats arrived → AllZip IsSeatOf posts seats
   seats_taken posts results seats arrived z t = subst (AllZip IsSeatOf posts) (sym t.own) (own_seats posts posts t.driven (back posts results t.driven t.all z))
 
-  pub arrived_taken : (posts : List (Post W h)) (results : List (Result (Driven W h) RunFault)) (seats : List (Seat W h)) (arrived : List (Arrived W h))
+  pub arrived_taken : (posts : List (Post W h)) (results : List (Result (Driven W h) ThreadFault)) (seats : List (Seat W h)) (arrived : List (Arrived W h))
       → AllZip (Returns posts) posts results → AreTakenApart results seats arrived → All (IsArrived posts) arrived
   arrived_taken posts results seats arrived z t = subst (All (IsArrived posts)) (sym t.others)
       (all_flat (IsArrived posts) (λ (d : Driven W h). d.arrived.items) t.driven (λ i d e.

@@ -1,5 +1,5 @@
 -- What stands between the steps of a run (this project).
-use Rattle.std.specs.Prelude.{◌≡◌, ◌≢◌, ◌≤◌, ◌⊎◌, ◌==◌, not, ℕ, zero, suc, List, [], ◌∷◌, ◌++◌, length, All, Contains, map, flat_map, Some, Result, Ok, Err, IsOk, slice_get}
+use Rattle.std.specs.Prelude.{◌≡◌, ◌≢◌, ◌⊎◌, ◌==◌, not, ℕ, zero, suc, List, [], ◌∷◌, ◌++◌, length, All, Contains, map, flat_map, Some, Result, Ok, IsOk, IfOk, slice_get}
 use Rattle.std.specs.List.{AllZip, filter}
 use Rattle.sup_specs.specs.Values.{Bytes}
 use Rattle.sup_placement.specs.Place.{Weigher}
@@ -18,8 +18,9 @@ use Rattle.sup_posts.specs.Jobs.{Seat, IsSeatAt, Takes}
 use Rattle.sup_posts.specs.declared.post.Post.{Post}
 use Rattle.sup_posts.specs.declared.jobs.Lane.{Lane}
 use Rattle.sup_posts.specs.declared.jobs.Drive.{Drive}
-use Rattle.sup_posts.specs.declared.fault.RunFault.{RunFault}
-use Rattle.sup_posts.specs.declared.fault.RunFault.TheVariants.{BadPlan, HistoryFull, LinkClosed, OutOfMemory}
+use Rattle.sup_posts.specs.Faults.{IsGravest}
+use Rattle.sup_posts.specs.declared.thread_fault.ThreadFault.{ThreadFault}
+use Rattle.sup_posts.specs.declared.thread_fault.ThreadFault.TheVariants.{OutOfMemory}
 use Rattle.sup_posts.specs.declared.jobs.Arrived.{Arrived}
 use Rattle.sup_posts.specs.declared.jobs.Driven.{Driven}
 
@@ -40,24 +41,8 @@ places (suc n) = places n ++ n ∷ []
 abbrev pub others_of : ℕ → List ℕ → List ℕ
 others_of at = filter (λ j. not (j == at))
 
--- of two faults that with the greater number is told
-abbrev pub gravity : RunFault → ℕ
-gravity OutOfMemory = 3
-gravity HistoryFull = 2
-gravity LinkClosed = 1
-gravity BadPlan = 0
-
--- a result is no graver fault
-abbrev pub IsBelow : {T : Type 0} → RunFault → Result T RunFault → Type 0
-IsBelow fault r = (f : RunFault) → r ≡ Err f → gravity f ≤ gravity fault
-
--- a fault among results, of which none is graver
-pub record IsGravest {T : Type 0} (results : List (Result T RunFault)) (fault : RunFault) : Type 0 where
-  pub stands : Contains results (Err fault)
-  pub gravest : All (IsBelow fault) results
-
 -- why results aren't put together: the gravest of their faults, or, where they have none, want of memory
-abbrev pub IsFaultOf : {T : Type 0} → List (Result T RunFault) → RunFault → Type 0
+abbrev pub IsFaultOf : {T : Type 0} → List (Result T ThreadFault) → ThreadFault → Type 0
 IsFaultOf results fault = IsGravest results fault ⊎ (All IsOk results × (fault ≡ OutOfMemory))
 
 module _ {W : Type 0} {h : WeighGhosts W} where
@@ -116,19 +101,18 @@ module _ {W : Type 0} {h : WeighGhosts W} where
   HasSeen first second = IsPrefix (view_of first).seen (view_of second).seen
 
   -- what the drivers hand back has these passes of drivers and these of receivers
-  pub record AreTakenApart (results : List (Result (Driven W h) RunFault)) (seats : List (Seat W h)) (arrived : List (Arrived W h)) : Type 0 where
+  pub record AreTakenApart (results : List (Result (Driven W h) ThreadFault)) (seats : List (Seat W h)) (arrived : List (Arrived W h)) : Type 0 where
     pub driven : List (Driven W h)
     pub all : results ≡ map Ok driven
     pub own : seats ≡ map (λ d. d.seat) driven
     pub others : arrived ≡ flat_map (λ d. d.arrived.items) driven
 
   -- what the driver of a post hands back
-  abbrev pub Returns : List (Post W h) → Post W h → Result (Driven W h) RunFault → Type 0
-  Returns posts post (Ok driven) = IsSeatOf post driven.seat × All (IsArrived posts) driven.arrived.items
-  Returns posts post (Err f) = f ≢ BadPlan
+  abbrev pub Returns : List (Post W h) → Post W h → Result (Driven W h) ThreadFault → Type 0
+  Returns posts post result = IfOk result (λ driven. IsSeatOf post driven.seat × All (IsArrived posts) driven.arrived.items)
 
   -- the histories, of what the drivers handed back
-  pub record AreFinished (g : Weigher) (posts : List (Post W h)) (results : List (Result (Driven W h) RunFault)) (all : List History) : Type 0 where
+  pub record AreFinished (g : Weigher) (posts : List (Post W h)) (results : List (Result (Driven W h) ThreadFault)) (all : List History) : Type 0 where
     pub driven : List (Driven W h)
     pub given : results ≡ map Ok driven
     pub histories : AllZip (IsHistoryOf g) posts all

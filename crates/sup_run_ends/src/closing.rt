@@ -1,17 +1,17 @@
 //! The histories of a run's nodes, once their threads have ended.
-ghost use Rattle.std.specs.Prelude.{◌≡◌, ◌≢◌, ◌==◌, not, All, IfOk, IfErr};
+ghost use Rattle.std.specs.Prelude.{◌≡◌, ◌==◌, not, All, IfOk, IfErr};
 ghost use Rattle.std.specs.List.{AllZip, filter};
-ghost use Rattle.sup_posts.specs.declared.fault.RunFault.TheVariants.{OutOfMemory, BadPlan};
+ghost use Rattle.sup_posts.specs.declared.thread_fault.ThreadFault.TheVariants.{OutOfMemory};
 ghost use Rattle.sup_run_ends.specs.Steps.{IsSeatOf, IsArrived, IsHistoryOf, Begins, Ends, Returns, AreFinished, IsFaultOf};
 
 use crate::joining::{join_all, separate, take_apart};
 use std::alloc::Global;
 use sup_placement::Weigh;
 use sup_plan::History;
-use sup_posts::{Arrived, Driven, Post, RunFault, Seat};
+use sup_posts::{Arrived, Driven, Post, Seat, ThreadFault};
 
 // The history of a node.
-fn close<W: Weigh>(post: Post<W>, seat: Seat<W>) -> Result<History, RunFault>
+fn close<W: Weigh>(post: Post<W>, seat: Seat<W>) -> Result<History, ThreadFault>
     requires { IsSeatOf post seat }
     ensures history { IfOk result (λ history. IsHistoryOf W.weight_of post history) }
     ensures begins { IfOk result (λ history. Begins seat history) }
@@ -24,7 +24,7 @@ fn close<W: Weigh>(post: Post<W>, seat: Seat<W>) -> Result<History, RunFault>
     } = post;
     // No turn is held by then: each call has returned. A contract doesn't say so.
     let Some((_, entries)) = gate.close(seat) else {
-        return Err(RunFault::OutOfMemory);
+        return Err(ThreadFault::OutOfMemory);
     };
     Ok(History {
         node: name,
@@ -39,7 +39,7 @@ fn close_at<W: Weigh>(
     post: Post<W>,
     seat: Seat<W>,
     arrived: Vec<Arrived<W>>,
-) -> Result<(History, Vec<Arrived<W>>), RunFault>
+) -> Result<(History, Vec<Arrived<W>>), ThreadFault>
     requires seat { IsSeatOf post seat }
     requires arrived { All (λ a. a.to ≡ at → IsSeatOf post a.seat) arrived.items }
     ensures history { IfOk result (λ r. IsHistoryOf W.weight_of post r.0) }
@@ -60,7 +60,7 @@ fn close_all<W: Weigh>(
     posts: Vec<Post<W>>,
     seats: Vec<Seat<W>>,
     arrived: Vec<Arrived<W>>,
-) -> Result<Vec<History>, RunFault>
+) -> Result<Vec<History>, ThreadFault>
     requires seats { AllZip IsSeatOf posts.items seats.items }
     requires arrived { All (IsArrived posts.items) arrived.items }
     ensures histories { IfOk result (λ hs. AllZip (IsHistoryOf W.weight_of) posts.items hs.items) }
@@ -78,7 +78,7 @@ fn close_all<W: Weigh>(
         let (history, others) = close_at(alloc, histories.len(), post, seat, arrived)?;
         arrived = others;
         let Ok(()) = histories.push(history) else {
-            return Err(RunFault::OutOfMemory);
+            return Err(ThreadFault::OutOfMemory);
         };
     }
     Ok(histories)
@@ -88,11 +88,10 @@ fn close_all<W: Weigh>(
 pub fn finish<W: Weigh>(
     alloc: Global,
     posts: Vec<Post<W>>,
-    results: Vec<Result<Driven<W>, RunFault>>,
-) -> Result<Vec<History>, RunFault>
+    results: Vec<Result<Driven<W>, ThreadFault>>,
+) -> Result<Vec<History>, ThreadFault>
     requires { AllZip (Returns posts.items) posts.items results.items }
     ensures histories { IfOk result (λ hs. AreFinished W.weight_of posts.items results.items hs.items) }
-    ensures good { IfErr result (λ f. f ≢ BadPlan) }
     ensures fault { IfErr result (IsFaultOf results.items) }
 {
     let (seats, arrived) = take_apart(alloc, results)?;

@@ -1,60 +1,18 @@
 //! What the drivers of a run hand back.
-ghost use Rattle.std.specs.Prelude.{◌≡◌, ◌≢◌, ◌≤◌, ◌⊎◌, ◌==◌, not, All, Some, Err, IsOk, IfOk, IfErr, IfSome, IfNone};
+ghost use Rattle.std.specs.Prelude.{◌≡◌, ◌==◌, not, All, IsOk, IfOk, IfErr};
 ghost use Rattle.std.specs.List.{filter};
-ghost use Rattle.sup_posts.specs.declared.fault.RunFault.TheVariants.{BadPlan};
-ghost use Rattle.sup_run_ends.specs.Steps.{IsSeatOf, HasSeen, AreTakenApart, IsFaultOf, IsGravest, gravity};
+ghost use Rattle.sup_run_ends.specs.Steps.{IsSeatOf, HasSeen, AreTakenApart, IsFaultOf};
 
 use std::alloc::{AllocError, Global};
 use sup_placement::Weigh;
-use sup_posts::{Arrived, Driven, Post, RunFault, Seat};
-
-// How grave a fault is: of several the gravest is told.
-fn gravity(fault: RunFault) -> u8
-    ensures { result ≡ gravity fault }
-{
-    match fault {
-        RunFault::OutOfMemory => 3,
-        RunFault::HistoryFull => 2,
-        RunFault::LinkClosed => 1,
-        RunFault::BadPlan => 0,
-    }
-}
-
-// The graver of two faults, or the one where there is no other.
-fn graver(worst: Option<RunFault>, fault: RunFault) -> RunFault
-    ensures either { (result ≡ fault) ⊎ (worst ≡ Some result) }
-    ensures above { gravity fault ≤ gravity result }
-    ensures worst { IfSome worst (λ w. gravity w ≤ gravity result) }
-{
-    match worst {
-        Some(worst) if gravity(fault) <= gravity(worst) => worst,
-        _ => fault,
-    }
-}
-
-// The gravest fault, if there is one.
-fn gravest<T>(results: &[Result<T, RunFault>]) -> Option<RunFault>
-    ensures some { IfSome result (IsGravest results.now) }
-    ensures none { IfNone result (All IsOk results.now) }
-{
-    let mut worst = None;
-    for result in results {
-        match result {
-            Ok(_) => {}
-            Err(fault) => worst = Some(graver(worst, *fault)),
-        }
-    }
-    worst
-}
+use sup_posts::{Arrived, Driven, Post, Seat, ThreadFault, gravest};
 
 // The drivers' passes, in their order, and all of the receivers'; or the fault to be told.
 pub(crate) fn take_apart<W: Weigh>(
     alloc: Global,
-    results: Vec<Result<Driven<W>, RunFault>>,
-) -> Result<(Vec<Seat<W>>, Vec<Arrived<W>>), RunFault>
-    requires { All (λ r. r ≢ Err BadPlan) results.items }
+    results: Vec<Result<Driven<W>, ThreadFault>>,
+) -> Result<(Vec<Seat<W>>, Vec<Arrived<W>>), ThreadFault>
     ensures parts { IfOk result (λ r. AreTakenApart results.items r.0.items r.1.items) }
-    ensures good { IfErr result (λ f. f ≢ BadPlan) }
     ensures fault { IfErr result (IsFaultOf results.items) }
 {
     if let Some(fault) = gravest(&results) {
@@ -66,7 +24,7 @@ pub(crate) fn take_apart<W: Weigh>(
 // The passes of drivers of which none failed, in their order, and all of the receivers'.
 fn part_all<W: Weigh>(
     alloc: Global,
-    results: Vec<Result<Driven<W>, RunFault>>,
+    results: Vec<Result<Driven<W>, ThreadFault>>,
 ) -> Result<(Vec<Seat<W>>, Vec<Arrived<W>>), AllocError>
     requires { All IsOk results.items }
     ensures { IfOk result (λ r. AreTakenApart results.items r.0.items r.1.items) }

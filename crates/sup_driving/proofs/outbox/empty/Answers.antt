@@ -10,5 +10,5 @@ loop-letter-preserved g c = (
   tt,
   tt,
   all_later c.args.wires.now c.loop-letter.wires c.put_letter.new.wires c.loop-letter.invariant.2
-      (put_later (Some c.in-Some.letter) c.loop-letter.wires c.put_letter.new.wires c.in_ok-put_letter.ensures),
+      (put_later (Some c.in-Some.letter) c.loop-letter.wires c.put_letter.new.wires c.in_ok-put_letter.ensures.put),
 )

@@ -12,7 +12,7 @@ returns-clause-wire g c = record {
 }
 
 pub returns-clause-receive : goal.returns-clause-receive
-returns-clause-receive g c = record { to = refl; exit = refl }
+returns-clause-receive g c = record { to = refl; seat = refl; exit = refl }
 
 pub returns-clause-ready : goal.returns-clause-ready
 returns-clause-ready g c = record { seat = c.requires.seat; none = c.requires.none_taken }

@@ -4,7 +4,7 @@ use Rattle.std.proofs.lemmas.List.Elements.{All-rest}
 use Rattle.std.proofs.lemmas.Slice.Zip.{all_zipped_more}
 use Rattle.sup_posts.specs.Jobs.{IsLane}
 use Rattle.sup_driving.specs.Teams.{IsWireOf, IsReceiveOf, IsReadyToReceive}
-use Rattle.sup_posts.proofs.Items.{all_none, all_snoc, none_left}
+use Rattle.sup_posts.proofs.Items.{all_none, all_snoc}
 use Rattle.sup_driving.proofs.Places.{first_of}
 use Rattle.sup_driving.proofs.teams.split_lanes.Goals as goal
 

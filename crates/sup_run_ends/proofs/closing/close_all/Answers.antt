@@ -7,7 +7,7 @@ use Rattle.sup_posts.specs.declared.jobs.Arrived.{Arrived}
 use Rattle.sup_run_ends.specs.Steps.{IsSeatOf, IsArrived, IsHistoryOf, Begins, Ends}
 use Rattle.sup_run_ends.proofs.Zips.{zip_same_length}
 use Rattle.sup_posts.proofs.Items.{none_left}
-use Rattle.sup_run_ends.proofs.Items.{all_weaken}
+use Rattle.sup_posts.proofs.Items.{all_weaken}
 use Rattle.sup_run_ends.proofs.Closes.{of_next, others_are, others_later, ends_more, ends_all, own_more, each_left, longer}
 use Rattle.sup_run_ends.proofs.closing.close_all.Goals as goal
 

@@ -2,13 +2,10 @@ use Rattle.std.proofs.Common.{subst, All, ◌∙◌}
 use Rattle.std.specs.List.{AllZip}
 use Rattle.sup_posts.specs.declared.jobs.Driven.{Driven}
 use Rattle.sup_run_ends.specs.Steps.{Begins, Ends}
-use Rattle.sup_run_ends.proofs.Passes.{none_bad, seats_taken, arrived_taken}
+use Rattle.sup_run_ends.proofs.Passes.{seats_taken, arrived_taken}
 use Rattle.sup_run_ends.proofs.Zips.{zip_map_left}
 use Rattle.sup_run_ends.proofs.Faults.{want_of_none}
 use Rattle.sup_run_ends.proofs.closing.finish.Goals as goal
-
-pub take_apart-requires : goal.take_apart-requires
-take_apart-requires g c = none_bad c.args.posts.items c.args.results.items c.requires
 
 pub close_all-requires-clause-seats : goal.close_all-requires-clause-seats
 close_all-requires-clause-seats g c = seats_taken c.args.posts.items c.args.results.items c.in_ok-seats.seats.items c.in_ok-seats.arrived.items c.requires c.in_ok-seats.ensures.parts

@@ -1,17 +1,17 @@
-use Rattle.std.proofs.Common.{rules, ◌≡◌, ◌++◌, [], ◌∷◌, map, flat_map, ap, sym, ◌∙◌, append_assoc, append-nil, subst, refl}
+use Rattle.std.proofs.Common.{◌++◌, [], ◌∷◌, map, ap, sym, ◌∙◌, append_assoc, subst, refl}
 use Rattle.std.proofs.lemmas.List.{map-append}
 use Rattle.std.proofs.lemmas.Result.{IfOk-weaker}
 use Rattle.sup_node_gate.specs.Gates.{view_of}
 use Rattle.sup_plan.specs.Calls.{asked}
-use Rattle.sup_posts.specs.Own.{made_by, but_exit}
+use Rattle.sup_posts.specs.Rounds.{Makes}
 use Rattle.sup_driving.specs.Wires.{Did}
-use Rattle.sup_driving.proofs.Calls.{made_then}
+use Rattle.sup_driving.proofs.Rounds.{makes_none, makes_then}
 use Rattle.sup_posts.proofs.Items.{none_left}
 use Rattle.sup_driving.proofs.Puts.{all_same, all_later, did_none, did_later}
 use Rattle.sup_driving.proofs.field.Field.drive.Goals as goal
 
 pub loop-command-init : goal.loop-command-init
-loop-command-init g c = (refl, c.requires, all_same c.args.wires.now, did_none (view_of c.args.seat.now).seen c.args.wires.now, sym (append-nil (made_by (view_of c.args.seat.now))))
+loop-command-init g c = (refl, c.requires, all_same c.args.wires.now, did_none (view_of c.args.seat.now).seen c.args.wires.now, makes_none (view_of c.args.seat.now))
 
 pub loop-command-preserved : goal.loop-command-preserved
 loop-command-preserved g c = (
@@ -20,8 +20,9 @@ loop-command-preserved g c = (
   all_later c.args.wires.now c.loop-command.wires c.make.new.wires c.loop-command.invariant.2 c.in_ok-make.ensures.later,
   subst (λ l. Did l (view_of c.make.new.seat).seen c.make.new.wires) (sym (map-append asked c.loop-command.yielded (c.in-Some.command ∷ [])))
       (c.in_ok-make.ensures.did (map asked c.loop-command.yielded) c.loop-command.invariant.3),
-  made_then (made_by (view_of c.args.seat.now)) (made_by (view_of c.loop-command.seat)) (made_by (view_of c.make.new.seat)) c.loop-command.yielded c.in-Some.command
-      c.loop-command.invariant.4 c.in_ok-make.ensures.made,
+  subst (λ l. Makes (view_of c.args.seat.now) l (view_of c.make.new.seat)) (sym (map-append asked c.loop-command.yielded (c.in-Some.command ∷ [])))
+      (makes_then (view_of c.args.seat.now) (view_of c.loop-command.seat) (view_of c.make.new.seat) (map asked c.loop-command.yielded) (asked c.in-Some.command ∷ [])
+      c.loop-command.invariant.4 c.in_ok-make.ensures.made),
 )
 
 pub returns-clause-later : goal.returns-clause-later
@@ -41,5 +42,5 @@ returns-clause-made g c =
     let all = none_left c.loop-command.yielded c.loop-command.command-iterator.rest.items c.args.commands.items (sym c.loop-command.command-iterator.rest.ok.0 ∙ c.in-None.ensures.steps.0)
     (c.loop-command.invariant.0 ∙ c.into_iter-command-iterator.ensures.into_iter_gives.0) in
     IfOk-weaker c.empty.result _ _
-    (λ u later. subst (λ l. made_by (view_of c.loop-command.seat) ≡ made_by (view_of c.args.seat.now) ++ flat_map but_exit (map asked l)) all c.loop-command.invariant.4)
+    (λ u later. subst (λ l. Makes (view_of c.args.seat.now) (map asked l) (view_of c.loop-command.seat)) all c.loop-command.invariant.4)
     c.empty.ensures.later

@@ -1,9 +1,9 @@
-use Rattle.std.proofs.Common.{◌≡◌, ◌++◌, map, flat_map}
+use Rattle.std.proofs.Common.{◌≡◌, ◌++◌, map}
 use Rattle.std.specs.List.{AllZip}
 use Rattle.sup_station.specs.Opening.{kept_by}
 use Rattle.sup_node_gate.specs.Gates.{IsOf, view_of}
 use Rattle.sup_plan.specs.Calls.{asked}
-use Rattle.sup_posts.specs.Own.{made_by, but_exit}
+use Rattle.sup_posts.specs.Rounds.{Makes}
 use Rattle.sup_driving.specs.Wires.{Did, IsLater}
 use Rattle.sup_driving.proofs.field.Field.drive.Given as goal
 
@@ -13,4 +13,4 @@ invariant-loop-command g l =
     × IsOf kept_by l.post.gate l.seat
     × AllZip IsLater l.fn.wires l.wires
     × Did (map asked l.yielded) (view_of l.seat).seen l.wires
-    × (made_by (view_of l.seat) ≡ made_by (view_of l.fn.seat) ++ flat_map but_exit (map asked l.yielded))
+    × Makes (view_of l.fn.seat) (map asked l.yielded) (view_of l.seat)

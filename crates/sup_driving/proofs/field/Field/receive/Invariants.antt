@@ -1,8 +1,10 @@
+use Rattle.std.proofs.Common.{map}
 use Rattle.sup_station.specs.Opening.{kept_by}
 use Rattle.sup_node_gate.specs.Gates.{IsOf, view_of}
 use Rattle.sup_links.specs.Ends.{SameOut, taken_of}
 use Rattle.sup_plan.specs.Calls.{deliveries}
 use Rattle.sup_plan.specs.Sublists.{Sublist}
+use Rattle.sup_posts.specs.Rounds.{Makes, delivery}
 use Rattle.sup_driving.proofs.field.Field.receive.Given as goal
 
 abbrev pub invariant-loop : goal.invariant-loop
@@ -11,3 +13,4 @@ invariant-loop g l =
     × IsOf kept_by l.post.gate l.seat
     × SameOut l.fn.exit l.exit
     × Sublist (taken_of l.exit) (deliveries (view_of l.seat).seen)
+    × Makes (view_of l.fn.seat) (map delivery (taken_of l.exit)) (view_of l.seat)

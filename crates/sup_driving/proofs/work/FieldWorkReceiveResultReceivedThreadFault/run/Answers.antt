@@ -12,4 +12,5 @@ returns g c = record {
   link = c.receive.ensures.link;
   ended = c.in_ok-receive.ensures.ended;
   delivered = c.in_ok-receive.ensures.delivered;
+  made = c.in_ok-receive.ensures.made;
 }

@@ -2,9 +2,9 @@ use Rattle.std.proofs.Common.{◌≡◌, ◌+◌, ◌++◌, [], ◌∷◌, ap, s
 use Rattle.std.specs.Prelude.{IsOk}
 use Rattle.std.proofs.lemmas.List.{take_more, take_all}
 use Rattle.sup_posts.proofs.Items.{all_none}
-use Rattle.sup_run_ends.proofs.Faults.{Told, told_item, told_fault, told_some, told_none}
-use Rattle.sup_run_ends.proofs.joining.gravest.Goals.{in-Ok, in-Err}
-use Rattle.sup_run_ends.proofs.joining.gravest.Goals as goal
+use Rattle.sup_posts.proofs.ToldFaults.{Told, told_item, told_fault, told_some, told_none}
+use Rattle.sup_posts.proofs.telling.gravest.Goals.{in-Ok, in-Err}
+use Rattle.sup_posts.proofs.telling.gravest.Goals as goal
 
 pub loop-result-init : goal.loop-result-init
 loop-result-init g c = all_none IsOk
