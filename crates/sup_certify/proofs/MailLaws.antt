@@ -25,6 +25,15 @@ use Rattle.sup_certify.proofs.NameLaws.{StaysNamed, arrives_named, post_named}
 some_same : {X : Type 0} (a b : X) → Some a ≡ Some b → a ≡ b
 some_same a b e = cc
 
+before_one : (k n : ℕ) → (k ≡ 0 → ⊥) → k - 1 ≡ n → k ≡ n + 1
+before_one k n some e = grind arith
+
+above_none : (n : ℕ) → n + 1 ≡ 0 → ⊥
+above_none n e = omega (arith, e)
+
+one_off : (n : ℕ) → n + 1 - 1 ≡ n
+one_off n = omega arith
+
 -- ---- a list of letters with one more, if there is one
 module _ {X : Type 0} where
   behind : (xs : List X) (x : X) → slice_get (xs ++ x ∷ []) (length xs) ≡ Some x
@@ -61,21 +70,12 @@ module _ {K : Type 0} where
   numbered_still sent letter k mail e =
       elim (k == 0) as (λ b. (if b then None else slice_get sent (k - 1)) ≡ Some mail → (if b then None else slice_get (mailed sent letter) (k - 1)) ≡ Some mail) [ true ↦ λ f. f | false ↦ λ f. mailed_still sent letter (k - 1) mail f ] e
 
-  before_one : (k n : ℕ) → (k ≡ 0 → ⊥) → k - 1 ≡ n → k ≡ n + 1
-  before_one k n some e = grind arith
-
   numbered_newer : (sent : List (Mail K)) (letter : Option (Mail K)) (k : ℕ) (mail : Mail K) → in_list (mailed sent letter) k ≡ Some mail → (in_list sent k ≡ Some mail) ⊎ ((k ≡ length sent + 1) × (letter ≡ Some mail))
   numbered_newer sent letter k mail e =
       elim (k == 0) as (λ b. (k == 0) ≡ b → (if b then None else slice_get (mailed sent letter) (k - 1)) ≡ Some mail → ((if b then None else slice_get sent (k - 1)) ≡ Some mail) ⊎ ((k ≡ length sent + 1) × (letter ≡ Some mail))) [
         | true ↦ λ t f. inl f
         | false ↦ λ t f. elim (mailed_newer sent letter (k - 1) mail f) [ inl h ↦ inl h | inr h ↦ inr (before_one k (length sent) (eqb-false k 0 t) h.0, h.1) ]
       ] refl e
-
-  above_none : (n : ℕ) → n + 1 ≡ 0 → ⊥
-  above_none n e = omega (arith, e)
-
-  one_off : (n : ℕ) → n + 1 - 1 ≡ n
-  one_off n = omega arith
 
   numbered_behind : (sent : List (Mail K)) (letter : Option (Mail K)) (mail : Mail K) → letter ≡ Some mail → in_list (mailed sent letter) (length sent + 1) ≡ Some mail
   numbered_behind sent letter mail e =

@@ -172,10 +172,10 @@ module _ (g : Weigher) (sites after : List Seen) (real : Real State) (h : Shows 
             elim (sent_comes real post move moves.there moves.named from k m.0 m.1) [
               | inl old ↦ inl (text_is_sent g sites real h from k text m.0 old m.2)
               | inr new ↦ inr (record {
-                  at = new.0 ∙ sym tells.at;
-                  number = tells.number ∙ number_of post.sent move.letter m.0 new.2 ∙ ap Some (sym new.1);
-                  letter = text_found m.0 text (option_map (λ (l : Letter). l.bytes) a.done.out) move.letter (letter_text move.letter a.done.out tells.letter) new.2 m.2;
-                })
+                at = new.0 ∙ sym tells.at;
+                number = tells.number ∙ number_of post.sent move.letter m.0 new.2 ∙ ap Some (sym new.1);
+                letter = text_found m.0 text (option_map (λ (l : Letter). l.bytes) a.done.out) move.letter (letter_text move.letter a.done.out tells.letter) new.2 m.2;
+              })
             ];
         newest = λ from k text l.
             let m = mail_found text (option_map (λ (y : Letter). y.bytes) a.done.out) move.letter (letter_text move.letter a.done.out tells.letter) l.letter in
