@@ -4,7 +4,7 @@ use Rattle.std.specs.Option.{option_map, option_and_then}
 use Rattle.std.specs.Map.{lookup, KeepsOthers}
 use Rattle.std.specs.Str.{bytes_eq}
 use Rattle.std.specs.Cmp.Lexicographic.{bytes_decides, nat_list_eq_equiv}
-use Rattle.std.proofs.Common.{sym, ap, ◌∙◌, subst}
+use Rattle.std.proofs.Common.{sym, ap, ◌∙◌}
 use Rattle.std.proofs.lemmas.Option.{none-some}
 use mathlib.Core.Bool.{true≢false}
 use mathlib.Core.Logic.{◌⊎◌, inl, inr}
@@ -16,9 +16,8 @@ use Rattle.sup_replica.specs.declared.refusal.Refusal.{Refusal}
 use Rattle.sup_replica.specs.ByTables.{by_tables}
 use Rattle.sup_replica.specs.Configs.{Config}
 use Rattle.sup_replica.specs.Nodes.{is_named, fresh}
-use Rattle.sup_replica.specs.Stations.{Mail, Station}
 use Rattle.sup_node.specs.Texts.{reads_as}
-use Rattle.sup_model.specs.Posts.{Post, Real, mail_of, real_new}
+use Rattle.sup_model.specs.Posts.{Post, mail_of, real_new}
 use Rattle.sup_model.specs.Worlds.{Setting}
 use Rattle.sup_world.specs.declared.answer.Answer.{Answer as Told}
 use Rattle.sup_world.specs.Newness.{setting_in}
@@ -28,10 +27,9 @@ use Rattle.sup_model.specs.declared.step.Step.{Step}
 use Rattle.sup_certify.specs.declared.sent.Origin.{Origin}
 use Rattle.sup_certify.specs.declared.sent.Sent.{Sent}
 use Rattle.sup_certify.specs.Orders.{Placed}
-use Rattle.sup_certify.specs.Certified.{text_sent, IsUnsent, IsNewWorld, IsStepOf}
-use Rattle.sup_certify.specs.Notes.{noted, noted_with, noted_after, AreNoted, IsWritten, Knows}
-use Rattle.sup_certify.proofs.MailLaws.{mail_sent}
-use Rattle.sup_certify.proofs.TextLaws.{IsLettered, IsLetteredBy, Sends, mail_is_sent, step_sends, step_written}
+use Rattle.sup_certify.specs.Certified.{IsNewWorld, IsStepOf}
+use Rattle.sup_certify.specs.Notes.{noted, noted_with, noted_after, AreNoted, Knows}
+use Rattle.sup_certify.proofs.TextLaws.{IsLetteredBy, Sends, mail_is_sent, step_sends, step_written}
 
 -- ---- a text that is put under its bytes
 module _ {K : Type 0} (bytes : K → Bytes) where

@@ -4,7 +4,6 @@ use Rattle.std.specs.List.{AllZip}
 use Rattle.std.specs.Option.{option_map, option_and_then}
 use Prim.Native.Nat.{zero, suc}
 use Rattle.std.proofs.Common.{sym, ap, ◌∙◌, subst}
-use mathlib.Core.Bool.{true≢false}
 use mathlib.Core.Logic.{◌⊎◌, inl, inr}
 use Rattle.sup_specs.specs.Values.{Bytes}
 use Rattle.sup_tables.specs.States.{State}
@@ -17,7 +16,7 @@ use Rattle.sup_replica.specs.declared.letter.Letter.{Letter}
 use Rattle.sup_replica.specs.declared.refusal.Refusal.{Refusal}
 use Rattle.sup_replica.specs.ByTables.{by_tables}
 use Rattle.sup_replica.specs.Nodes.{is_named}
-use Rattle.sup_replica.specs.Stations.{Mail, Move}
+use Rattle.sup_replica.specs.Stations.{Mail}
 use Rattle.sup_node.specs.Texts.{IsMessageText, IsReadAs, IsLetter, IsLetterOf, message_of}
 use Rattle.sup_model.specs.declared.step.Step.{Step}
 use Rattle.sup_model.specs.declared.step.Step.TheVariants.{Node as AtNode, Deliver as Delivery, Raw}
