@@ -8,3 +8,7 @@ pub mod WaitLaws
 pub mod StepLaws
 pub mod PlanLaws
 pub mod FaultLaws
+pub mod NameLaws
+pub mod MailLaws
+pub mod TextLaws
+pub mod NoteLaws

@@ -19,7 +19,7 @@ use Rattle.sup_model.specs.Follows.{Apart, Distinct}
 use Rattle.sup_world.specs.Seen.{Seen}
 use Rattle.sup_certify.specs.Orders.{placed_at}
 use Rattle.sup_certify.specs.Progress.{Reaches, names_of}
-use Rattle.sup_certify.specs.Faults.{BringsMessage, Waits, WaitsAt, WaitsIn, WaitsNamed, Misses, IsMiss, IsFaultFrom}
+use Rattle.sup_certify.specs.Faults.{IsAwaiting, Waits, WaitsAt, WaitsIn, WaitsNamed, Misses, IsMiss, IsFaultFrom}
 use Rattle.sup_certify.specs.declared.fault.CertifyFault.{CertifyFault}
 use Rattle.sup_certify.specs.declared.fault.CertifyFault.TheVariants.{Stuck, Differs, OutOfMemory}
 use Rattle.sup_certify.proofs.OrderLaws.{named_itself, named_same}
@@ -36,49 +36,49 @@ position_named name (h ∷ hs) =
     ap (λ b. cond (not b) (1 + position_or_len (λ (k : History). bytes_eq name k.node) hs) 0) (sym (is_eq-slice_cmp name h.node))
     ∙ ap (λ n. cond (not (is_named name h.node)) (1 + n) 0) (position_named name hs)
 
-vacuous : (name : Bytes) (h : History) (n : ℕ) → is_named name h.node ≡ false → WaitsNamed name h n
-vacuous name h n e = λ t. absurd (true≢false (sym t ∙ e))
+vacuous : (sites : List Seen) (name : Bytes) (h : History) (n : ℕ) → is_named name h.node ≡ false → WaitsNamed sites name h n
+vacuous sites name h n e = λ t. absurd (true≢false (sym t ∙ e))
 
 -- no history is of that name
-pub absent_waits : (name : Bytes) (hs : List History) (ns : List ℕ) → length ns ≡ length hs → place name hs ≡ length hs → AllZip (WaitsNamed name) hs ns
-absent_waits name [] [] l e = tt
-absent_waits name [] (n ∷ ns) l e = absurd (omega (arith, l))
-absent_waits name (h ∷ hs) [] l e = absurd (omega (arith, l))
-absent_waits name (h ∷ hs) (n ∷ ns) l e =
-    elim (is_named name h.node) as (λ b. is_named name h.node ≡ b → cond (not b) (1 + place name hs) 0 ≡ length (h ∷ hs) → AllZip (WaitsNamed name) (h ∷ hs) (n ∷ ns)) [
+pub absent_waits : (sites : List Seen) (name : Bytes) (hs : List History) (ns : List ℕ) → length ns ≡ length hs → place name hs ≡ length hs → AllZip (WaitsNamed sites name) hs ns
+absent_waits sites name [] [] l e = tt
+absent_waits sites name [] (n ∷ ns) l e = absurd (omega (arith, l))
+absent_waits sites name (h ∷ hs) [] l e = absurd (omega (arith, l))
+absent_waits sites name (h ∷ hs) (n ∷ ns) l e =
+    elim (is_named name h.node) as (λ b. is_named name h.node ≡ b → cond (not b) (1 + place name hs) 0 ≡ length (h ∷ hs) → AllZip (WaitsNamed sites name) (h ∷ hs) (n ∷ ns)) [
       | true ↦ λ t f. absurd (omega (arith, f))
-      | false ↦ λ t f. (vacuous name h n t, absent_waits name hs ns (omega (arith, l)) (omega (arith, f)))
+      | false ↦ λ t f. (vacuous sites name h n t, absent_waits sites name hs ns (omega (arith, l)) (omega (arith, f)))
     ] refl e
 
-others_vacuous : (name : Bytes) (hs : List History) (ns : List ℕ) → length ns ≡ length hs → Apart name (names_of hs) → AllZip (WaitsNamed name) hs ns
-others_vacuous name [] [] l a = tt
-others_vacuous name [] (n ∷ ns) l a = absurd (omega (arith, l))
-others_vacuous name (h ∷ hs) [] l a = absurd (omega (arith, l))
-others_vacuous name (h ∷ hs) (n ∷ ns) l a = (vacuous name h n a.0, others_vacuous name hs ns (omega (arith, l)) a.2)
+others_vacuous : (sites : List Seen) (name : Bytes) (hs : List History) (ns : List ℕ) → length ns ≡ length hs → Apart name (names_of hs) → AllZip (WaitsNamed sites name) hs ns
+others_vacuous sites name [] [] l a = tt
+others_vacuous sites name [] (n ∷ ns) l a = absurd (omega (arith, l))
+others_vacuous sites name (h ∷ hs) [] l a = absurd (omega (arith, l))
+others_vacuous sites name (h ∷ hs) (n ∷ ns) l a = (vacuous sites name h n a.0, others_vacuous sites name hs ns (omega (arith, l)) a.2)
 
 one_more : (n : ℕ) → 1 + n ≡ suc n
 one_more n = omega arith
 
 -- the history of that name waits
-pub found_waits : (name : Bytes) (hs : List History) (ns : List ℕ) → length ns ≡ length hs → Distinct (names_of hs) → place name hs < length hs → WaitsIn hs ns (place name hs) → AllZip (WaitsNamed name) hs ns
-found_waits name [] ns l d lt w = absurd (none_below (place name []) lt)
-found_waits name (h ∷ hs) [] l d lt w = absurd (omega (arith, l))
-found_waits name (h ∷ hs) (n ∷ ns) l d lt w =
-    elim (is_named name h.node) as (λ b. is_named name h.node ≡ b → cond (not b) (1 + place name hs) 0 < length (h ∷ hs) → WaitsIn (h ∷ hs) (n ∷ ns) (cond (not b) (1 + place name hs) 0) → AllZip (WaitsNamed name) (h ∷ hs) (n ∷ ns)) [
-      | true ↦ λ t f v. (λ _. v h refl, others_vacuous name hs ns (omega (arith, l)) (subst (λ (x : Bytes). Apart x (names_of hs)) (sym (named_same name h.node t)) d.0))
-      | false ↦ λ t f v. (vacuous name h n t, found_waits name hs ns (omega (arith, l)) d.1 (omega (arith, f)) (subst (λ i. WaitsIn (h ∷ hs) (n ∷ ns) i) (one_more (place name hs)) v))
+pub found_waits : (sites : List Seen) (name : Bytes) (hs : List History) (ns : List ℕ) → length ns ≡ length hs → Distinct (names_of hs) → place name hs < length hs → WaitsIn sites hs ns (place name hs) → AllZip (WaitsNamed sites name) hs ns
+found_waits sites name [] ns l d lt w = absurd (none_below (place name []) lt)
+found_waits sites name (h ∷ hs) [] l d lt w = absurd (omega (arith, l))
+found_waits sites name (h ∷ hs) (n ∷ ns) l d lt w =
+    elim (is_named name h.node) as (λ b. is_named name h.node ≡ b → cond (not b) (1 + place name hs) 0 < length (h ∷ hs) → WaitsIn sites (h ∷ hs) (n ∷ ns) (cond (not b) (1 + place name hs) 0) → AllZip (WaitsNamed sites name) (h ∷ hs) (n ∷ ns)) [
+      | true ↦ λ t f v. (λ _. v h refl, others_vacuous sites name hs ns (omega (arith, l)) (subst (λ (x : Bytes). Apart x (names_of hs)) (sym (named_same name h.node t)) d.0))
+      | false ↦ λ t f v. (vacuous sites name h n t, found_waits sites name hs ns (omega (arith, l)) d.1 (omega (arith, f)) (subst (λ i. WaitsIn sites (h ∷ hs) (n ∷ ns) i) (one_more (place name hs)) v))
     ] refl lt w
 
-tails : (x : Bytes) (names : List Bytes) (h : History) (hs : List History) (n : ℕ) (ns : List ℕ) → AllByRecursion (λ (name : Bytes). AllZip (WaitsNamed name) (h ∷ hs) (n ∷ ns)) names → AllByRecursion (λ (name : Bytes). AllZip (WaitsNamed name) hs ns) names
-tails x [] h hs n ns a = tt
-tails x (name ∷ names) h hs n ns a = (a.0.1, tails x names h hs n ns a.1)
+tails : (sites : List Seen) (x : Bytes) (names : List Bytes) (h : History) (hs : List History) (n : ℕ) (ns : List ℕ) → AllByRecursion (λ (name : Bytes). AllZip (WaitsNamed sites name) (h ∷ hs) (n ∷ ns)) names → AllByRecursion (λ (name : Bytes). AllZip (WaitsNamed sites name) hs ns) names
+tails sites x [] h hs n ns a = tt
+tails sites x (name ∷ names) h hs n ns a = (a.0.1, tails sites x names h hs n ns a.1)
 
 -- where nodes of all names wait each does
-pub all_wait : (hs : List History) (ns : List ℕ) → length ns ≡ length hs → AllByRecursion (λ (name : Bytes). AllZip (WaitsNamed name) hs ns) (names_of hs) → AllZip Waits hs ns
-all_wait [] [] l a = tt
-all_wait [] (n ∷ ns) l a = absurd (omega (arith, l))
-all_wait (h ∷ hs) [] l a = absurd (omega (arith, l))
-all_wait (h ∷ hs) (n ∷ ns) l a = (a.0.0 (named_itself h.node), all_wait hs ns (omega (arith, l)) (tails h.node (names_of hs) h hs n ns a.1))
+pub all_wait : (sites : List Seen) (hs : List History) (ns : List ℕ) → length ns ≡ length hs → AllByRecursion (λ (name : Bytes). AllZip (WaitsNamed sites name) hs ns) (names_of hs) → AllZip (Waits sites) hs ns
+all_wait sites [] [] l a = tt
+all_wait sites [] (n ∷ ns) l a = absurd (omega (arith, l))
+all_wait sites (h ∷ hs) [] l a = absurd (omega (arith, l))
+all_wait sites (h ∷ hs) (n ∷ ns) l a = (a.0.0 (named_itself h.node), all_wait sites hs ns (omega (arith, l)) (tails sites h.node (names_of hs) h hs n ns a.1))
 
 -- an entry that is a step isn't placed
 pub fault_from : (g : Weigher) (start : List Seen) (hs : List History) (ns : List ℕ) (steps : List Step) (sites : List Seen) (i : ℕ) (h : History) (e : Entry) (fault : CertifyFault) → Reaches g start hs ns steps sites → slice_get hs i ≡ Some h
@@ -119,8 +119,8 @@ got_element (z ∷ xs) zero y e = (omega arith, the_same y z (sym e))
 got_element (z ∷ xs) (suc i) y e = let r = got_element xs i y e in (omega (arith, r.0), r.1)
 
 -- the history in this place waits
-pub waits_in : (hs : List History) (ns : List ℕ) (at : ℕ) (h : History) → at < length hs → h ≡ slice_index_or hs at h → WaitsAt (slice_get h.entries.items (slice_index ns at)) → WaitsIn hs ns at
-waits_in hs ns at h lt is w k e = subst (λ (y : History). Waits y (slice_index ns at)) (got_same hs at k h lt is e) w
+pub waits_in : (sites : List Seen) (hs : List History) (ns : List ℕ) (at : ℕ) (h : History) → at < length hs → h ≡ slice_index_or hs at h → WaitsAt sites (slice_get h.entries.items (slice_index ns at)) → WaitsIn sites hs ns at
+waits_in sites hs ns at h lt is w k e = subst (λ (y : History). Waits sites y (slice_index ns at)) (got_same hs at k h lt is e) w
 
 -- what a search for a place tells
 same_some : (i j : ℕ) → Some i ≡ Some j → i ≡ j
@@ -153,16 +153,16 @@ got_none (z ∷ xs) zero le = absurd (omega (arith, le))
 got_none (z ∷ xs) (suc i) le = got_none xs i (omega (arith, le))
 
 -- a history with no more entries waits for nothing
-pub waits_ended : (hs : List History) (ns : List ℕ) (at : ℕ) (h : History) (next : ℕ) (entries : List Entry) → at < length hs → h ≡ slice_index_or hs at h → next ≡ slice_index ns at → entries ≡ h.entries.items → false ≡ ltb next (length entries)
-    → WaitsIn hs ns at
-waits_ended hs ns at h next entries lt is n es f =
+pub waits_ended : (sites : List Seen) (hs : List History) (ns : List ℕ) (at : ℕ) (h : History) (next : ℕ) (entries : List Entry) → at < length hs → h ≡ slice_index_or hs at h → next ≡ slice_index ns at → entries ≡ h.entries.items → false ≡ ltb next (length entries)
+    → WaitsIn sites hs ns at
+waits_ended sites hs ns at h next entries lt is n es f =
     let le : length h.entries.items ≤ slice_index ns at = subst (λ (m : ℕ). length h.entries.items ≤ m) n (subst (λ (xs : List Entry). length xs ≤ next) es (ltb-false next (length entries) (sym f))) in
-    waits_in hs ns at h lt is (subst WaitsAt (sym (got_none h.entries.items (slice_index ns at) le)) tt)
+    waits_in sites hs ns at h lt is (subst (WaitsAt sites) (sym (got_none h.entries.items (slice_index ns at) le)) tt)
 
--- or its next entry brings a message
-pub waits_message : (hs : List History) (ns : List ℕ) (at : ℕ) (h : History) (next : ℕ) (entries : List Entry) (e : Entry) → at < length hs → h ≡ slice_index_or hs at h → next ≡ slice_index ns at → entries ≡ h.entries.items → next < length entries
-    → e ≡ slice_index_or entries next e → BringsMessage e → WaitsIn hs ns at
-waits_message hs ns at h next entries e lt is n es within got' b =
+-- or its next entry waits for its message
+pub waits_message : (sites : List Seen) (hs : List History) (ns : List ℕ) (at : ℕ) (h : History) (next : ℕ) (entries : List Entry) (e : Entry) → at < length hs → h ≡ slice_index_or hs at h → next ≡ slice_index ns at → entries ≡ h.entries.items → next < length entries
+    → e ≡ slice_index_or entries next e → IsAwaiting sites e → WaitsIn sites hs ns at
+waits_message sites hs ns at h next entries e lt is n es within got' b =
     let there : slice_get entries next ≡ Some e = got entries next e within got' in
     let same : slice_get h.entries.items (slice_index ns at) ≡ Some e = subst (λ (m : ℕ). slice_get h.entries.items m ≡ Some e) n (subst (λ (xs : List Entry). slice_get xs next ≡ Some e) es there) in
-    waits_in hs ns at h lt is (subst WaitsAt (sym same) b)
+    waits_in sites hs ns at h lt is (subst (WaitsAt sites) (sym same) b)

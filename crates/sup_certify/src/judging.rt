@@ -1,5 +1,5 @@
 //! The judgement.
-ghost use Rattle.std.specs.Prelude.{◌≡◌, All, Bool, List, [], length, map, IsPermutation, IsSorted, IfOk, IfErr};
+ghost use Rattle.std.specs.Prelude.{◌≡◌, All, Bool, List, [], None, length, map, IsPermutation, IsSorted, IfOk, IfErr};
 ghost use Rattle.sup_specs.specs.Values.{Bytes, text_cmp};
 ghost use Rattle.sup_model.specs.Worlds.{new};
 ghost use Rattle.sup_world.specs.Newness.{setting_in};
@@ -7,6 +7,7 @@ ghost use Rattle.sup_world.specs.Seen.{Seen, sites_of};
 ghost use Rattle.sup_certify.specs.Certified.{MakeRun};
 ghost use Rattle.sup_certify.specs.Faults.{CanJudge, IsFaultOf};
 ghost use Rattle.sup_certify.specs.Follows.{IsRunOf, KnowsAll};
+ghost use Rattle.sup_certify.specs.Notes.{noted};
 
 use crate::fault::CertifyFault;
 use crate::plans::{are_of, new_world};
@@ -25,8 +26,9 @@ use sup_world::World;
 ///
 /// # Errors
 ///
-/// `Stuck` where the histories aren't one for each of the plan's nodes, in their order, or the names make no world, or no node can
-/// go on; `Differs` where the world answers an entry otherwise; `OutOfMemory` where a growth was refused.
+/// `Stuck` where the histories aren't one for each of the plan's nodes, in their order, or the names make no world, or, after a run of
+/// the first entries of each history, each node that has entries left waits for a message that none has sent; `Differs` where the
+/// world answers an entry otherwise after such a run; `OutOfMemory` where a growth was refused.
 pub fn certify<W: Weigh + Drop>(
     alloc: Global,
     plan: &Plan,
@@ -69,6 +71,7 @@ fn replay_in<W: Weigh + Drop>(
 ) -> Result<Replay<W>, AllocError>
     ensures world { IfOk result (λ replay. sites_of replay.world ≡ sites_of world) }
     ensures steps { IfOk result (λ replay. replay.steps.items ≡ []) }
+    ensures sent { IfOk result (λ replay. (text : Bytes) → noted replay.sent text ≡ None) }
     ensures placed { IfOk result (λ replay. All (λ n. n ≡ 0) replay.placed.items) }
     ensures count { IfOk result (λ replay. length replay.placed.items ≡ histories) }
 {

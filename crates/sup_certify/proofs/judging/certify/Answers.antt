@@ -1,4 +1,4 @@
-use Rattle.std.proofs.Common.{◌≡◌, ◌≤◌, ℕ, List, length, refl, subst, arith}
+use Rattle.std.proofs.Common.{◌≡◌, ◌≤◌, ℕ, List, length, refl, sym, subst, arith}
 use mathlib.Core.Logic.{inr}
 use Rattle.std.proofs.lemmas.List.Elements.{recursion_from_All}
 use Rattle.sup_keeper.specs.Keeping.{most}
@@ -6,9 +6,11 @@ use Rattle.sup_plan.specs.declared.histories.History.{History}
 use Rattle.sup_world.specs.Seen.{sites_of}
 use Rattle.sup_certify.specs.Certified.{MakeRun}
 use Rattle.sup_certify.specs.Faults.{CanJudge, IsFaultOf}
+use Rattle.sup_certify.specs.Notes.{Knows}
 use Rattle.sup_certify.specs.Progress.{Reaches}
 use Rattle.sup_certify.proofs.FaultLaws.{err_as}
 use Rattle.sup_certify.proofs.FollowLaws.{run_followed}
+use Rattle.sup_certify.proofs.NoteLaws.{knows_new}
 use Rattle.sup_certify.proofs.PlanLaws.{can_judge}
 use Rattle.sup_certify.proofs.RunLaws.{reaches_start, run_made}
 use Rattle.sup_certify.proofs.SumLaws.{none_within}
@@ -17,6 +19,12 @@ use Rattle.sup_certify.proofs.judging.certify.Goals as goal
 pub play-requires-clause-fits : goal.play-requires-clause-fits
 play-requires-clause-fits g c =
     none_within c.as_slice-histories.result.now c.in_ok-replay.replay.placed.items c.in_ok-replay.ensures.count (recursion_from_All (λ (n : ℕ). n ≡ 0) c.in_ok-replay.replay.placed.items c.in_ok-replay.ensures.placed)
+
+pub play-requires-clause-knows : goal.play-requires-clause-knows
+play-requires-clause-knows g c =
+    let w = g.W.Weigh.weight_of in
+    subst (λ sites. Knows w sites c.in_ok-replay.replay.sent) (sym c.in_ok-replay.ensures.world)
+    (knows_new w c.args.plan.now.config c.args.plan.now.nodes.items (sites_of c.in_ok-world.world) c.in_ok-replay.replay.sent c.in_ok-world.ensures.made c.in_ok-replay.ensures.sent)
 
 pub returns-in_err-play-clause-fault : goal.returns-in_err-play-clause-fault
 returns-in_err-play-clause-fault g c =
