@@ -1,0 +1,13 @@
+pub mod PlaceLaws
+pub mod Standing
+pub mod Listings
+pub mod Unlistings
+pub mod Indexings
+pub mod Exchanges
+pub mod Changes
+pub mod MoreChanges
+pub mod Joins
+pub mod Ranges
+pub mod SameStates
+pub mod KnownDots
+pub mod BelowLaws

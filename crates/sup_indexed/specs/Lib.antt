@@ -1,0 +1,4 @@
+pub mod Listed
+pub mod Contents
+pub mod Changed
+pub mod Below

@@ -1,0 +1,20 @@
+//! Stores that are joined in place, and rows that are found by their dots.
+#![tactic(auto)]
+
+mod changing;
+mod comparing;
+mod exchanging;
+pub mod indexed_map;
+pub mod join_in_place;
+mod joining;
+mod listing;
+pub mod place;
+pub mod states;
+mod stores_under;
+mod touched;
+
+pub use indexed_map::IndexedMap;
+pub use join_in_place::JoinInPlace;
+pub use joining::ReadyMap;
+pub use place::Place;
+pub use states::join_from;

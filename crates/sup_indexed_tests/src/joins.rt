@@ -1,0 +1,182 @@
+//! Joins in place, beside merges, at values that were worked out by hand.
+use crate::given::{
+    Dots, Indexed, Known, Rows, dots, indexed, merged, rows, rows_of, under_two_keys,
+};
+use std::process::Abort;
+use sup_causal::Lattice;
+use sup_dot_store::{Both, Causal, DotStore};
+use sup_indexed::{IndexedMap, JoinInPlace, join_from};
+
+// Expects a map with an index to have these rows.
+fn expect_rows(rt: &(impl Abort + AllocGlobal), state: Causal<Indexed>, wanted: Rows<'_>) {
+    let (table, _) = state.into_parts();
+    assert!(rt; rows_of(rt, &table.into_map()) == rows(rt, wanted));
+}
+
+// Expects a join in place to tell whether it changed anything.
+fn grow<S: JoinInPlace>(
+    rt: &(impl Abort + AllocGlobal),
+    state: &mut Causal<S>,
+    other: &Causal<S>,
+    changes: bool,
+) {
+    assert!(rt; join_from(rt.alloc(), state, other).expect(rt, "room") == changes);
+    assert!(rt; other.leq(state));
+}
+
+// Expects the join of the two to have these rows, by a merge, anew and in place.
+fn expect_join(
+    rt: &(impl Abort + AllocGlobal),
+    left: Known<'_>,
+    right: Known<'_>,
+    changes: bool,
+    wanted: Rows<'_>,
+) {
+    let by_merge = merged(rt, left).joined(rt.alloc(), &merged(rt, right));
+    assert!(rt; rows_of(rt, by_merge.expect(rt, "room").store()) == rows(rt, wanted));
+    let other = indexed(rt, right);
+    let anew = indexed(rt, left).joined(rt.alloc(), &other);
+    expect_rows(rt, anew.expect(rt, "room"), wanted);
+    let mut grown = indexed(rt, left);
+    grow(rt, &mut grown, &other, changes);
+    grow(rt, &mut grown, &other, false);
+    expect_rows(rt, grown, wanted);
+}
+
+#[test]
+fn a_join_in_place_gives_what_a_merge_gives(rt: HostRuntime) {
+    let cases: [(Known<'_>, Known<'_>, bool, Rows<'_>); 9] = [
+        // A fresh row, under a key that is there, and under one that is not.
+        (
+            (&[(1, ("a", 1), 7)], &[]),
+            (&[(1, ("b", 1), 8), (2, ("b", 2), 9)], &[]),
+            true,
+            &[(1, ("a", 1), 7), (1, ("b", 1), 8), (2, ("b", 2), 9)],
+        ),
+        // A row that is gone there, by its run and by its cloud.
+        (
+            (&[(1, ("a", 2), 7)], &[]),
+            (&[], &[("a", 1), ("a", 2)]),
+            true,
+            &[],
+        ),
+        ((&[(1, ("a", 3), 7)], &[]), (&[], &[("a", 3)]), true, &[]),
+        // One whose dot isn't known there, after a run and beside a cloud.
+        (
+            (&[(1, ("a", 3), 7)], &[]),
+            (&[], &[("a", 1), ("a", 2)]),
+            true,
+            &[(1, ("a", 3), 7)],
+        ),
+        (
+            (&[(1, ("b", 3), 7)], &[]),
+            (&[], &[("a", 3)]),
+            true,
+            &[(1, ("b", 3), 7)],
+        ),
+        // Of two values the lesser stays, whether it is here or there.
+        (
+            (&[(1, ("a", 1), 7)], &[]),
+            (&[(1, ("a", 1), 5)], &[]),
+            true,
+            &[(1, ("a", 1), 5)],
+        ),
+        (
+            (&[(1, ("a", 1), 5)], &[]),
+            (&[(1, ("a", 1), 7)], &[]),
+            false,
+            &[(1, ("a", 1), 5)],
+        ),
+        // One dot under two keys leaves no row.
+        (
+            (&[(1, ("a", 1), 7)], &[]),
+            (&[(2, ("a", 1), 7)], &[]),
+            true,
+            &[],
+        ),
+        // Nothing that is new.
+        (
+            (&[(1, ("a", 1), 7)], &[("b", 1)]),
+            (&[], &[("b", 1)]),
+            false,
+            &[(1, ("a", 1), 7)],
+        ),
+    ];
+    for (left, right, changes, wanted) in cases {
+        expect_join(&rt, left, right, changes, wanted);
+    }
+}
+
+// Expects this to be left of the rows without these dots, and an index of it.
+fn expect_left(rt: &(impl Abort + AllocGlobal), known: Known<'_>, gone: Dots<'_>, left: Rows<'_>) {
+    let (mut table, context) = indexed(rt, known).into_parts();
+    table.retract(&dots(rt, gone));
+    assert!(rt; table.is_empty() == left.is_empty());
+    let mut state = Causal::of(table, context).expect(rt, "the dots of all rows");
+    // The rows of the dots that went are gone for the others, too.
+    grow(rt, &mut state, &indexed(rt, known), false);
+    expect_rows(rt, state, left);
+}
+
+#[test]
+fn rows_without_dots_leave_the_index(rt: HostRuntime) {
+    let both: Known<'_> = (&[(1, ("a", 1), 7), (2, ("b", 1), 8)], &[]);
+    expect_left(&rt, both, &[("a", 1), ("c", 1)], &[(2, ("b", 1), 8)]);
+    expect_left(&rt, both, &[("a", 1), ("b", 1)], &[]);
+}
+
+#[test]
+fn two_maps_are_joined_in_place_together(rt: HostRuntime) {
+    let pair = |known| {
+        let (first, context) = indexed(&rt, known).into_parts();
+        let (second, _) = indexed(&rt, known).into_parts();
+        Causal::of(Both { first, second }, context).expect(&rt, "the dots of all rows")
+    };
+    let mut both = pair((&[(1, ("a", 1), 7)], &[]));
+    grow(
+        &rt,
+        &mut both,
+        &pair((&[(2, ("b", 1), 8)], &[("a", 1)])),
+        true,
+    );
+    let (both, _) = both.into_parts();
+    let wanted = rows(&rt, &[(2, ("b", 1), 8)]);
+    assert!(rt; rows_of(&rt, &both.first.into_map()) == wanted);
+    assert!(rt; rows_of(&rt, &both.second.into_map()) == wanted);
+}
+
+#[test]
+fn a_join_that_is_given_up_leaves_the_rows(rt: HostRuntime) {
+    let more: Known<'_> = (&[(1, ("b", 1), 8), (2, ("b", 2), 9)], &[("a", 1)]);
+    let (other, known) = indexed(&rt, more).into_parts();
+    let (table, context) = indexed(&rt, (&[(1, ("a", 1), 7)], &[])).into_parts();
+    let ready = table.ready(rt.alloc(), &context, &other, &known);
+    let table: Indexed = IndexedMap::give_up(ready.ok().expect(&rt, "room"));
+    let mut state = Causal::of(table, context).expect(&rt, "the dots of all rows");
+    grow(&rt, &mut state, &indexed(&rt, more), true);
+    expect_rows(&rt, state, &[(1, ("b", 1), 8), (2, ("b", 2), 9)]);
+}
+
+#[test]
+fn a_dot_under_two_keys_goes_from_both(rt: HostRuntime) {
+    let table = under_two_keys(&rt, ("a", 1));
+    let table = IndexedMap::of_map(rt.alloc(), table).expect(&rt, "room");
+    let (_, context) = indexed(&rt, (&[], &[("a", 1)])).into_parts();
+    let mut state = Causal::of(table, context).expect(&rt, "the dot of the rows");
+    grow(
+        &rt,
+        &mut state,
+        &indexed(&rt, (&[(2, ("a", 1), 5)], &[])),
+        true,
+    );
+    expect_rows(&rt, state, &[(2, ("a", 1), 5)]);
+}
+
+#[test]
+fn a_function_is_found_by_its_key(rt: HostRuntime) {
+    let (table, _) = indexed(&rt, (&[(1, ("a", 1), 7)], &[])).into_parts();
+    assert!(rt; table.get(&1).is_some() && table.get(&2).is_none());
+    assert!(rt; table.stores().len() == 1);
+    let nothing: Indexed = IndexedMap::new(rt.alloc());
+    assert!(rt; nothing.is_empty());
+}
