@@ -17,5 +17,5 @@ pub stopped : {A : Type 0} (X : Type 0) (job : Job A) (asked : A) (fault : Fault
 stopped X job asked (BadLine number) input before written short read h = absurd h
 stopped X job asked BadInput input before written short read h = absurd h
 stopped X job asked (BadImage reason) input before written short read h = absurd h
-stopped X job asked Device input before written short read h = inr (short, asked, read, h)
-stopped X job asked OutOfMemory input before written short read h = inr (short, asked, read, h)
+stopped X job asked Device input before written short read h = inr (short, (asked, read, h))
+stopped X job asked OutOfMemory input before written short read h = inr (short, (asked, read, h))

@@ -26,8 +26,8 @@ returns-in-Ok-play g c =
     let printed = prints_all weigher c.args.config c.as_slice.result.now c.as_slice-3.result.now (sites_of c.in-Ok-new.world) c.as_slice-4.result.now (g.W.Write.contents c.args.writer.now) (g.W.Write.contents c.play.new.writer) in_order c.in-Ok-new.ensures.shows all in
     (c.requires, ((script.nodes.items, script.lines.items), c.in-Ok.ensures, rw (c.as_slice.ensures.value, c.as_slice-4.ensures.value) at printed))
 
-pub returns : goal.returns
-returns g c =
+part : goal.part
+part g c =
     let script = c.in-Ok.script in
     let weigher = g.G.Weigh.weight_of in
     let ordered : AreInOrder script.nodes.items c.in_ok-peers.peers.items = record { sorted = c.in_ok-peers.ensures.sorted; all = rw c.as_slice-2.ensures.value at c.in_ok-peers.ensures.all } in
