@@ -1,6 +1,6 @@
 -- Lines one after another.
 use Rattle.std.proofs.Common.{◌≡◌, ◌∙◌, ℕ, ◌+◌, ◌<◌, ◌≤◌, List, [], ◌∷◌, ◌++◌, length, take, get_or, refl, sym, ap, subst, arith, append_assoc}
-use Rattle.std.specs.Prelude.{◌⊎◌, Result, Ok, Err, IsErrAnd}
+use Rattle.std.specs.Prelude.{◌⊎◌, Result, Ok, Err, IfErr, IsErrAnd}
 use mathlib.Core.Logic.{inl, inr}
 use Rattle.std.proofs.lemmas.List.{take_more, append-nil, take_all}
 use Rattle.std.specs.Io.KnownBytes.{Appends}
@@ -109,6 +109,11 @@ ended weigher peers old lines i line mid new a b c OutOfMemory lt is h last = re
   writes = Appends-kept a b c h.printed h.writes last.1;
 }
 
+-- what is known of a fault, of a result that is that fault
+pub of_fault : {X : Type 0} (result : Result X Fault) (Q P : Fault → Type 0) (fault : Fault) → IsErrAnd result Q → ((f : Fault) → Q f → f ≡ fault) → P fault → IfErr result P
+of_fault (Ok x) Q P fault err is h = tt
+of_fault (Err f) Q P fault err is h = subst P (sym (is f err)) h
+
 -- what all of the lines print
 pub whole : (weigher : Weigher) (peers : List Bytes) (old : Scene) (lines : List Line) (i : ℕ) (mid : List Seen) (a b : Known) → length lines ≤ i → PlaysTo weigher peers old (take i lines) mid a b → PrintsAllFrom weigher peers old lines a b
 whole weigher peers old lines i mid a b end h = record {
@@ -120,8 +125,10 @@ whole weigher peers old lines i mid a b end h = record {
 
 module _ {weigher : Weigher} {peers : List Bytes} {s : Scene} {line : Line} {new : List Seen} where
   -- a line whose text was cut short
-  pub said_short : (a b : Known) (text : List ℕ) → (s' : (speaks : Speaks weigher peers s line new) × (text ≡ speaks.said)) → IsCutShort a b text → (speaks : Speaks weigher peers s line new) × IsCutShort a b speaks.said
-  said_short a b text s' w = (s'.0, subst (IsCutShort a b) s'.1 w)
+  pub said_short : {X : Type 0} (result : Result X Fault) (Q : Fault → Type 0) (a b : Known) (text : List ℕ) → IsErrAnd result Q → ((fault : Fault) → Q fault → fault ≡ Device) → (s' : (speaks : Speaks weigher peers s line new) × (text ≡ speaks.said)) → IsCutShort a b text
+      → PlaysLine weigher peers s line new a b result
+  said_short (Ok x) Q a b text err is s' w = absurd err
+  said_short {X} (Err fault) Q a b text err is s' w = subst (λ f. PlaysLine {X = X} weigher peers s line new a b (Err f)) (sym (is fault err)) (s'.0, subst (IsCutShort a b) s'.1 w)
 
   -- a line whose text was written whole
   pub said_all : (a b : Known) (text : List ℕ) → (s' : (speaks : Speaks weigher peers s line new) × (text ≡ speaks.said)) → Appends a b text → (speaks : Speaks weigher peers s line new) × Appends a b speaks.said

@@ -6,7 +6,8 @@ pub returns-in-Err-clause-plays : goal.returns-in-Err-clause-plays
 returns-in-Err-clause-plays g c = λ model stands tells. (c.in-Err.ensures.speaks model stands tells, Keeps-refl _)
 
 pub returns-in_err-put_all-clause-plays : goal.returns-in_err-put_all-clause-plays
-returns-in_err-put_all-clause-plays g c = ?
+returns-in_err-put_all-clause-plays g c = λ model stands tells.
+    said_short c.from_residual.result _ _ _ _ c.from_residual.ensures.1 (λ _ e. e) (c.in-Ok.ensures.speaks model stands tells) (rw c.as_slice.ensures.value at c.in_err-put_all.ensures)
 
 pub returns-clause-plays : goal.returns-clause-plays
 returns-clause-plays g c = λ model stands tells.
