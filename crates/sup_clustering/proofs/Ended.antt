@@ -35,6 +35,18 @@ unprinted X weigher config input before plan LinkClosed says h = (plan, says, h,
 unprinted X weigher config input before plan Stuck says h = (plan, says, h, Keeps-refl before)
 unprinted X weigher config input before plan (Differs node place) says h = (plan, says, h, Keeps-refl before)
 
+-- where nothing is printed of it, the device didn't fail
+pub no_device : {X : Type 0} (weigher : Weigher) (plan : Plan) (fault : ClusterFault) → IsRefused weigher plan fault → fault ≡ Job job.Device → X
+no_device weigher plan (Job job.Device) h is = cc
+no_device weigher plan (Job job.OutOfMemory) h is = cc
+no_device weigher plan (Job (job.BadLine number)) h is = cc
+no_device weigher plan (Job job.BadInput) h is = cc
+no_device weigher plan (Job (job.BadImage reason)) h is = cc
+no_device weigher plan HistoryFull h is = cc
+no_device weigher plan LinkClosed h is = cc
+no_device weigher plan Stuck h is = cc
+no_device weigher plan (Differs node place) h is = cc
+
 -- all is printed
 pub printed : {X : Type 0} (x : X) (weigher : Weigher) (config : Config) (input : List ℕ) (before written : Bytes) (plan : Plan) (said text : List ℕ) → Says config input plan → PrintsCluster weigher plan said → text ≡ said → Appends before written text
     → ClustersTo {X = X} weigher config input before written (Ok x)
