@@ -1,5 +1,5 @@
 -- Clusters that end before anything is printed, and those that print.
-use Rattle.std.proofs.Common.{◌≡◌, ℕ, ◌≤◌, List, length, take, subst, Option, Some, None, Result, Ok, Err, inl, inr, refl}
+use Rattle.std.proofs.Common.{◌≡◌, ℕ, ◌≤◌, List, length, subst, Option, Some, None, Result, Ok, Err, refl}
 use Rattle.std.specs.Io.KnownBytes.{Appends}
 use Rattle.std.proofs.KnownBytes.{Keeps-refl}
 use Rattle.sup_replica.specs.Configs.{Config}
@@ -7,10 +7,11 @@ use Rattle.sup_placement.specs.Place.{Weigher}
 use Rattle.sup_jobs.specs.declared.fault.Fault.{Fault}
 use Rattle.sup_jobs.specs.declared.fault.Fault.TheVariants as job
 use Rattle.sup_jobs.specs.Ends.{Bytes}
+use Rattle.sup_jobs.specs.Tells.{IsCutShort}
 use Rattle.sup_plan.specs.declared.plan.Plan.{Plan}
 use Rattle.sup_cluster_texts.specs.Plans.{IsReadFault, Says}
 use Rattle.sup_clustering.specs.Certifying.{IsRefused, PrintsCluster}
-use Rattle.sup_clustering.specs.Clustering.{ClustersTo}
+use Rattle.sup_clustering.specs.Clustering.{ClustersTo, PrintsShort}
 use Rattle.sup_cluster_texts.specs.declared.fault.ClusterFault.{ClusterFault}
 use Rattle.sup_cluster_texts.specs.declared.fault.ClusterFault.TheVariants.{Job, HistoryFull, LinkClosed, Stuck, Differs}
 
@@ -34,12 +35,24 @@ unprinted X weigher config input before plan LinkClosed says h = (plan, says, h,
 unprinted X weigher config input before plan Stuck says h = (plan, says, h, Keeps-refl before)
 unprinted X weigher config input before plan (Differs node place) says h = (plan, says, h, Keeps-refl before)
 
+-- where nothing is printed of it, the device didn't fail
+pub no_device : {X : Type 0} (weigher : Weigher) (plan : Plan) (fault : ClusterFault) → IsRefused weigher plan fault → fault ≡ Job job.Device → X
+no_device weigher plan (Job job.Device) h is = cc
+no_device weigher plan (Job job.OutOfMemory) h is = cc
+no_device weigher plan (Job (job.BadLine number)) h is = cc
+no_device weigher plan (Job job.BadInput) h is = cc
+no_device weigher plan (Job (job.BadImage reason)) h is = cc
+no_device weigher plan HistoryFull h is = cc
+no_device weigher plan LinkClosed h is = cc
+no_device weigher plan Stuck h is = cc
+no_device weigher plan (Differs node place) h is = cc
+
 -- all is printed
 pub printed : {X : Type 0} (x : X) (weigher : Weigher) (config : Config) (input : List ℕ) (before written : Bytes) (plan : Plan) (said text : List ℕ) → Says config input plan → PrintsCluster weigher plan said → text ≡ said → Appends before written text
     → ClustersTo {X = X} weigher config input before written (Ok x)
 printed x weigher config input before written plan said text says prints same h = (said, (plan, says, prints), subst (λ t. Appends before written t) same h)
 
 -- a front is printed
-pub cut : (X : Type 0) (weigher : Weigher) (config : Config) (input : List ℕ) (before written : Bytes) (plan : Plan) (said text : List ℕ) → Says config input plan → PrintsCluster weigher plan said → text ≡ said
-    → ((count : ℕ) × Appends before written (take count text)) → ClustersTo {X = X} weigher config input before written (Err (Job job.Device))
-cut X weigher config input before written plan said text says prints same h = inr (said, (plan, says, prints), h.0, subst (λ t. Appends before written (take h.0 t)) same h.1)
+pub cut : (weigher : Weigher) (config : Config) (input : List ℕ) (before written : Bytes) (plan : Plan) (said text : List ℕ) → Says config input plan → PrintsCluster weigher plan said → text ≡ said
+    → IsCutShort before written text → PrintsShort weigher config input before written
+cut weigher config input before written plan said text says prints same h = (said, (plan, says, prints), subst (IsCutShort before written) same h)

@@ -1,5 +1,5 @@
 -- The command cluster: a script's nodes run by threads, and what they know once they have settled (this project).
-use Rattle.std.specs.Prelude.{◌≡◌, ◌<◌, ◌≤◌, ◌⊎◌, ℕ, List, length, take, Result, Ok, Err, IfSome}
+use Rattle.std.specs.Prelude.{◌≡◌, ◌<◌, ◌≤◌, ◌⊎◌, ℕ, List, length, Result, Ok, Err, IfSome}
 use Rattle.std.specs.Io.KnownBytes.{Appends, Consumes, Keeps}
 use Rattle.sup_replica.specs.Configs.{Config}
 use Rattle.sup_placement.specs.Place.{Weigher}
@@ -7,7 +7,7 @@ use Rattle.sup_jobs.specs.declared.fault.Ended.{Ended}
 use Rattle.sup_jobs.specs.declared.fault.Fault.{Fault}
 use Rattle.sup_jobs.specs.declared.fault.Fault.TheVariants as job
 use Rattle.sup_jobs.specs.Ends.{Bytes, IsTaken}
-use Rattle.sup_jobs.specs.Tells.{Tells}
+use Rattle.sup_jobs.specs.Tells.{IsCutShort, Tells}
 use Rattle.sup_plan.specs.declared.plan.Plan.{Plan}
 use Rattle.sup_cluster_lines.specs.Script.{plan_script_of}
 use Rattle.sup_cluster_texts.specs.Faults.{fault_line_at, status_at}
@@ -20,10 +20,13 @@ use Rattle.sup_cluster_texts.specs.declared.fault.ClusterFault.TheVariants.{Job,
 abbrev pub MayPrint : Weigher → Config → List ℕ → List ℕ → Type 0
 MayPrint weigher config input said = (plan : Plan) × Says config input plan × PrintsCluster weigher plan said
 
--- The run was stopped: nothing was written, or a front of what is printed.
+-- The writer has got a front of what is printed, and not all.
+abbrev pub PrintsShort : Weigher → Config → List ℕ → Bytes → Bytes → Type 0
+PrintsShort weigher config input before written = (said : List ℕ) × MayPrint weigher config input said × IsCutShort before written said
+
+-- The device failed: nothing was written, or a front of what is printed.
 abbrev pub StopsAt : Weigher → Config → List ℕ → Bytes → Bytes → Type 0
-StopsAt weigher config input before written = Keeps before written
-    ⊎ ((said : List ℕ) × MayPrint weigher config input said × (count : ℕ) × Appends before written (take count said))
+StopsAt weigher config input before written = Keeps before written ⊎ PrintsShort weigher config input before written
 
 -- A plan that the input says was run, and nothing is printed of it, for this fault.
 abbrev pub RefusesAt : Weigher → Config → List ℕ → Bytes → Bytes → ClusterFault → Type 0

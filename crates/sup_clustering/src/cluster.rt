@@ -1,8 +1,8 @@
 //! The command `cluster`.
 
-ghost use Rattle.std.specs.Prelude.{◌≡◌, ◌≤◌, ◌+◌, length, Ok, IfSome};
+ghost use Rattle.std.specs.Prelude.{◌≡◌, ◌≤◌, ◌+◌, length, Ok, Err, IfSome};
 ghost use Rattle.sup_jobs.specs.Ends.{TakesAtMost};
-ghost use Rattle.sup_clustering.specs.Clustering.{Clusters, ClustersTo, TakesFor};
+ghost use Rattle.sup_clustering.specs.Clustering.{Clusters, ClustersTo, PrintsShort, TakesFor};
 
 use crate::certified::plan_text;
 use std::alloc::Global;
@@ -73,7 +73,10 @@ fn run_bytes<T: Threads + Wait + Sync, G: Weigh + Copy + Drop + Send + Sync, W: 
     writer: &mut W,
 ) -> Result<(), ClusterFault>
     requires { length input.now ≤ LIMIT }
-    ensures { ClustersTo G.weight_of config input.now (W.contents writer.old) (W.contents writer.new) result }
+    ensures ends { ClustersTo G.weight_of config input.now (W.contents writer.old) (W.contents writer.new) result }
+    // The device fails only once there is something to write.
+    ensures device { result ≡ Err (ClusterFault.Job Fault.Device)
+        → PrintsShort G.weight_of config input.now (W.contents writer.old) (W.contents writer.new) }
 {
     let plan = match read_plan(alloc, config, input) {
         Ok(plan) => plan,

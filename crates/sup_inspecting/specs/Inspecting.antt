@@ -1,5 +1,5 @@
 -- The command inspect: what a stored image tells (this project).
-use Rattle.std.specs.Prelude.{◌<◌, ◌≤◌, ◌⊎◌, ℕ, List, length, take, Result, Ok, Err}
+use Rattle.std.specs.Prelude.{◌<◌, ◌≤◌, ◌⊎◌, ℕ, List, length, Result, Ok, Err}
 use Rattle.std.specs.Io.KnownBytes.{Appends, Keeps}
 use Rattle.sup_placement.specs.Place.{Weigher}
 use Rattle.sup_wire.specs.declared.image.Image.{Image}
@@ -10,6 +10,7 @@ use Rattle.sup_jobs.specs.declared.fault.Ended.{Ended}
 use Rattle.sup_jobs.specs.declared.fault.Fault.{Fault}
 use Rattle.sup_jobs.specs.declared.fault.Fault.TheVariants.{BadLine, BadInput, BadImage, Device, OutOfMemory}
 use Rattle.sup_jobs.specs.Ends.{Bytes, EndsBy}
+use Rattle.sup_jobs.specs.Tells.{IsCutShort}
 use Rattle.sup_inspecting.specs.Faults.{text_fault}
 
 -- the image that the input says, and what is told of it
@@ -27,9 +28,9 @@ IsUntold input (BadImage fault) = IsFault SaysImage input (text_fault fault)
 IsUntold input Device = ⊥
 IsUntold input OutOfMemory = Unit {0}
 
--- the writer has got a front of what is told of the image
+-- the writer has got a front of what is told of the image, and not all
 abbrev pub TellsFront : Weigher → List ℕ → Bytes → Bytes → Type 0
-TellsFront weigher input before written = (said : List ℕ) × TellsImage weigher input said × (count : ℕ) × Appends before written (take count said)
+TellsFront weigher input before written = (said : List ℕ) × TellsImage weigher input said × IsCutShort before written said
 
 -- The run was stopped: nothing was written, or a front of what is told of an image.
 abbrev pub StopsAt : Weigher → List ℕ → Bytes → Bytes → Type 0

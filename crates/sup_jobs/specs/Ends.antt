@@ -17,23 +17,27 @@ pub record Job (A : Type 0) : Type 1 where
   pub read : List ℕ → Result A ℕ
   -- the writer has got all that this asks for
   pub PrintsAll : A → Bytes → Bytes → Type 0
-  -- the writer has got a front of it
-  pub PrintsFront : A → Bytes → Bytes → Type 0
+  -- the device failed: the writer has got a front of it, and not all
+  pub PrintsShort : A → Bytes → Bytes → Type 0
+  -- memory was refused: the writer has got this much of it
+  pub PrintsBefore : A → Bytes → Bytes → Type 0
 
--- The run was stopped: nothing was written, or a front of what an input asks for that isn't too long.
-abbrev pub StopsAt : {A : Type 0} → Job A → List ℕ → Bytes → Bytes → Type 0
-StopsAt {A} job input before written = Keeps before written
-    ⊎ ((length input ≤ 1048576) × (asked : A) × (job.read input ≡ Ok asked) × job.PrintsFront asked before written)
+-- The input asks for something, and the writer has got so much of it.
+abbrev pub Asks : {A : Type 0} → Job A → (A → Bytes → Bytes → Type 0) → List ℕ → Bytes → Bytes → Type 0
+Asks {A} job Prints input before written = (asked : A) × (job.read input ≡ Ok asked) × Prints asked before written
+
+-- The run was stopped: nothing was written, or so much of what an input asks for that isn't too long.
+abbrev pub StopsAt : {A : Type 0} → Job A → (A → Bytes → Bytes → Type 0) → List ℕ → Bytes → Bytes → Type 0
+StopsAt job Prints input before written = Keeps before written ⊎ ((length input ≤ 1048576) × Asks job Prints input before written)
 
 -- How a run over this input ends, and what the writer has got then.
 abbrev pub EndsAt : {A X : Type 0} → Job A → List ℕ → Bytes → Bytes → Result X Fault → Type 0
-EndsAt {A} {X} job input before written (Ok x) = (length input ≤ 1048576)
-    × ((asked : A) × (job.read input ≡ Ok asked) × job.PrintsAll asked before written)
+EndsAt {A} {X} job input before written (Ok x) = (length input ≤ 1048576) × Asks job job.PrintsAll input before written
 EndsAt {A} {X} job input before written (Err (BadLine number)) = (length input ≤ 1048576) × (job.read input ≡ Err number) × Keeps before written
 EndsAt {A} {X} job input before written (Err BadInput) = (1048576 < length input) × Keeps before written
 EndsAt {A} {X} job input before written (Err (BadImage fault)) = ⊥
-EndsAt {A} {X} job input before written (Err Device) = StopsAt job input before written
-EndsAt {A} {X} job input before written (Err OutOfMemory) = StopsAt job input before written
+EndsAt {A} {X} job input before written (Err Device) = StopsAt job job.PrintsShort input before written
+EndsAt {A} {X} job input before written (Err OutOfMemory) = StopsAt job job.PrintsBefore input before written
 
 -- One byte more than an input may have was taken, exactly where the run ended with that; else no more than it may have.
 abbrev pub IsTaken : {X : Type 0} → Result X Fault → List ℕ → Type 0

@@ -1,14 +1,15 @@
 -- Children that are placed among members (this project's form of input and output; the place itself is rendezvous hashing, Thaler and Ravishankar 1998).
-use Rattle.std.specs.Prelude.{ℕ, ◌&&◌, nat_le, List, [], ◌∷◌, ◌++◌, length, take, Option, Some, None, Result, if◌then◌else◌, codes}
+use Rattle.std.specs.Prelude.{ℕ, ◌&&◌, nat_le, List, [], ◌∷◌, ◌++◌, length, Option, Some, None, Result, if◌then◌else◌, codes}
 use Rattle.std.specs.Str.{bytes_eq}
 use Rattle.std.specs.List.{flat_map}
-use Rattle.std.specs.Io.KnownBytes.{Appends}
+use Rattle.std.specs.Io.KnownBytes.{Appends, Keeps}
 use Rattle.sup_placement.specs.Place.{Weigher, place}
 use Rattle.sup_lines.specs.Words.{Word, Name}
 use Rattle.sup_lines.specs.Values.{child_id_of}
 use Rattle.sup_lines.specs.Opening.{distinct_names_of}
 use Rattle.sup_lines.specs.Script.{is_plain, words_of, numbered_lines, opened}
 use Rattle.sup_jobs.specs.Ends.{Bytes, Job, Does}
+use Rattle.sup_jobs.specs.Tells.{IsCutShort}
 use Rattle.sup_jobs.specs.declared.fault.Ended.{Ended}
 
 -- members NAME.., 0 to 16 distinct names
@@ -50,7 +51,9 @@ abbrev pub placement : Weigher → Job PlacingText
 placement weight = record {
   read = placing_of;
   PrintsAll = λ placing before written. Appends before written (placing_text weight placing);
-  PrintsFront = λ placing before written. (count : ℕ) × Appends before written (take count (placing_text weight placing));
+  PrintsShort = λ placing before written. IsCutShort before written (placing_text weight placing);
+  -- the whole text stands before anything is written
+  PrintsBefore = λ _ before written. Keeps before written;
 }
 
 -- The status tells how the run ended, and the error writer was told of that end.

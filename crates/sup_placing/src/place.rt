@@ -1,7 +1,7 @@
 //! The command `place`: where each of some children is placed.
 
-ghost use Rattle.std.specs.Prelude.{◌≤◌, ◌+◌, length, IfSome};
-ghost use Rattle.sup_jobs.specs.Ends.{EndsAt, TakesAtMost, TakesFor};
+ghost use Rattle.std.specs.Prelude.{◌≡◌, ◌≤◌, ◌+◌, length, Err, IfSome};
+ghost use Rattle.sup_jobs.specs.Ends.{Asks, EndsAt, TakesAtMost, TakesFor};
 ghost use Rattle.sup_placing.specs.Placing.{Places, placement};
 
 use crate::fault::fault_of;
@@ -52,8 +52,11 @@ fn place_bytes<G: Weigh, W: Write>(
     writer: &mut W,
 ) -> Result<(), Fault>
     requires { length input.now ≤ LIMIT }
-    ensures { EndsAt (placement G.weight_of) input.now
+    ensures ends { EndsAt (placement G.weight_of) input.now
         (W.contents writer.old) (W.contents writer.new) result }
+    // The device fails only once there is something to write.
+    ensures device { result ≡ Err Fault.Device → Asks (placement G.weight_of) (placement G.weight_of).PrintsShort
+        input.now (W.contents writer.old) (W.contents writer.new) }
 {
     let Placing { members, ids } = match read_placing(alloc, input) {
         Ok(placing) => placing,

@@ -1,21 +1,23 @@
 -- Lines one after another.
 use Rattle.std.proofs.Common.{◌≡◌, ◌∙◌, ℕ, ◌+◌, ◌<◌, ◌≤◌, List, [], ◌∷◌, ◌++◌, length, take, get_or, refl, sym, ap, subst, arith, append_assoc}
-use Rattle.std.specs.Prelude.{◌⊎◌, Result, Ok, Err, IsErrAnd}
+use Rattle.std.specs.Prelude.{◌⊎◌, Result, Ok, Err, IfErr, IsErrAnd}
 use mathlib.Core.Logic.{inl, inr}
 use Rattle.std.proofs.lemmas.List.{take_more, append-nil, take_all}
-use Rattle.std.proofs.Math.Seq.{take-append-add}
 use Rattle.std.specs.Io.KnownBytes.{Appends}
-use Rattle.std.proofs.KnownBytes.{Appends-nil, Appends-trans}
+use Rattle.std.proofs.KnownBytes.{Appends-kept, Appends-nil, Appends-trans}
 use Rattle.sup_specs.specs.Values.{Bytes}
 use Rattle.sup_placement.specs.Place.{Weigher}
 use Rattle.sup_jobs.specs.Ends.{Bytes as Known}
 use Rattle.sup_jobs.specs.declared.fault.Fault.{Fault}
+use Rattle.sup_jobs.specs.declared.fault.Fault.TheVariants.{BadLine, BadInput, BadImage, Device, OutOfMemory}
+use Rattle.sup_jobs.specs.Tells.{IsCutShort}
+use Rattle.sup_jobs.proofs.Fronts.{cut_in_second}
 use Rattle.sup_model.specs.Worlds.{World}
 use Rattle.sup_world.specs.Following.{StandsFor}
 use Rattle.sup_world.specs.Seen.{Seen}
 use Rattle.sup_lines.specs.declared.line.Line.{Line}
 use Rattle.sup_program.specs.Prints.{Scene, Prints, TellsMessages}
-use Rattle.sup_program.specs.Plays.{Plays, PrintsAllFrom, PrintsFrontFrom}
+use Rattle.sup_program.specs.Plays.{Plays, PrintsAllFrom, PrintsShortFrom, PrintsUntil}
 use Rattle.sup_program.specs.Playing.{Speaks, PlaysLine}
 use Rattle.sup_program.proofs.PlayedRuns.{line_run}
 use Rattle.sup_program.proofs.Messages.{run_same}
@@ -82,39 +84,35 @@ module _ (weigher : Weigher) (peers : List Bytes) (old : Scene) (lines : List Li
   }
 
   -- a line whose text was cut short
-  pub cut_front : (count : ℕ) → Appends b c (take count speaks.said) → PrintsFrontFrom weigher peers old lines a c
-  cut_front count w = record {
+  pub cut_short : IsCutShort b c speaks.said → PrintsShortFrom weigher peers old lines a c
+  cut_short w = record {
     made = i + 1;
-    bytes = length h.printed + count;
     printed = h.printed ++ speaks.said;
     final = to;
     plays = more;
-    writes = rw (take-append-add h.printed speaks.said count) (Appends-trans a b c h.printed (take count speaks.said) h.writes w);
+    short = cut_in_second a b c h.printed speaks.said h.writes w;
   }
 
--- what all of the lines print is a front of itself
-pub whole_front : (weigher : Weigher) (peers : List Bytes) (old : Scene) (lines : List Line) (i : ℕ) (mid : List Seen) (a b : Known) → PlaysTo weigher peers old (take i lines) mid a b → PrintsFrontFrom weigher peers old lines a b
-whole_front weigher peers old lines i mid a b h = record {
+-- a line that was cut short, or that there was no memory to print
+pub ended : (weigher : Weigher) (peers : List Bytes) (old : Scene) (lines : List Line) (i : ℕ) (line : Line) (mid new : List Seen) (a b c : Known) (fault : Fault) → i < length lines → line ≡ get_or lines i line → (h : PlaysTo weigher peers old (take i lines) mid a b)
+    → PlaysLine {X = Unit {0}} weigher peers (record { model = h.reached; sites = mid }) line new b c (Err fault) → PrintsUntil weigher peers old lines a c fault
+ended weigher peers old lines i line mid new a b c (BadLine number) lt is h last = absurd last
+ended weigher peers old lines i line mid new a b c BadInput lt is h last = absurd last
+ended weigher peers old lines i line mid new a b c (BadImage reason) lt is h last = absurd last
+ended weigher peers old lines i line mid new a b c Device lt is h last = cut_short weigher peers old lines i line mid new a b c lt is h last.0 last.1
+ended weigher peers old lines i line mid new a b c OutOfMemory lt is h last = record {
   made = i;
-  bytes = length h.printed;
+  left = lt;
   printed = h.printed;
   final = record { model = h.reached; sites = mid };
   plays = h.plays;
-  writes = rw (take_all (length h.printed) h.printed (omega arith)) h.writes;
+  writes = Appends-kept a b c h.printed h.writes last.1;
 }
 
--- a line that was cut short, or not played
-pub ended_front : (weigher : Weigher) (peers : List Bytes) (old : Scene) (lines : List Line) (i : ℕ) (line : Line) (mid new : List Seen) (a b c : Known) → i < length lines → line ≡ get_or lines i line → (h : PlaysTo weigher peers old (take i lines) mid a b)
-    → ((speaks : Speaks weigher peers (record { model = h.reached; sites = mid }) line new) × (count : ℕ) × Appends b c (take count speaks.said)) ⊎ ((new ≡ mid) × Appends b c []) → PrintsFrontFrom weigher peers old lines a c
-ended_front weigher peers old lines i line mid new a b c lt is h (inl last) = cut_front weigher peers old lines i line mid new a b c lt is h last.0 last.1 last.2
-ended_front weigher peers old lines i line mid new a b c lt is h (inr last) = record {
-  made = i;
-  bytes = length h.printed;
-  printed = h.printed;
-  final = record { model = h.reached; sites = mid };
-  plays = h.plays;
-  writes = rw (take_all (length h.printed) h.printed (omega arith)) (subst (λ (said : List ℕ). Appends a c said) (append-nil h.printed) (Appends-trans a b c h.printed [] h.writes last.1));
-}
+-- what is known of a fault, of a result that is that fault
+pub of_fault : {X : Type 0} (result : Result X Fault) (Q P : Fault → Type 0) (fault : Fault) → IsErrAnd result Q → ((f : Fault) → Q f → f ≡ fault) → P fault → IfErr result P
+of_fault (Ok x) Q P fault err is h = tt
+of_fault (Err f) Q P fault err is h = subst P (sym (is f err)) h
 
 -- what all of the lines print
 pub whole : (weigher : Weigher) (peers : List Bytes) (old : Scene) (lines : List Line) (i : ℕ) (mid : List Seen) (a b : Known) → length lines ≤ i → PlaysTo weigher peers old (take i lines) mid a b → PrintsAllFrom weigher peers old lines a b
@@ -126,15 +124,11 @@ whole weigher peers old lines i mid a b end h = record {
 }
 
 module _ {weigher : Weigher} {peers : List Bytes} {s : Scene} {line : Line} {new : List Seen} where
-  -- a line of which no text was written
-  pub said_none : (a : Known) → Speaks weigher peers s line new ⊎ (new ≡ s.sites) → ((speaks : Speaks weigher peers s line new) × (count : ℕ) × Appends a a (take count speaks.said)) ⊎ ((new ≡ s.sites) × Appends a a [])
-  said_none a (inl speaks) = inl (speaks, 0, Appends-nil a)
-  said_none a (inr same) = inr (same, Appends-nil a)
-
   -- a line whose text was cut short
-  pub said_front : {X : Type 0} (result : Result X Fault) (Q : Fault → Type 0) (a b : Known) (text : List ℕ) → IsErrAnd result Q → (s' : (speaks : Speaks weigher peers s line new) × (text ≡ speaks.said)) → ((count : ℕ) × Appends a b (take count text)) → PlaysLine weigher peers s line new a b result
-  said_front (Ok x) Q a b text err s' w = absurd err
-  said_front (Err fault) Q a b text err s' w = inl (s'.0, w.0, rw s'.1 at w.1)
+  pub said_short : {X : Type 0} (result : Result X Fault) (Q : Fault → Type 0) (a b : Known) (text : List ℕ) → IsErrAnd result Q → ((fault : Fault) → Q fault → fault ≡ Device) → (s' : (speaks : Speaks weigher peers s line new) × (text ≡ speaks.said)) → IsCutShort a b text
+      → PlaysLine weigher peers s line new a b result
+  said_short (Ok x) Q a b text err is s' w = absurd err
+  said_short {X} (Err fault) Q a b text err is s' w = subst (λ f. PlaysLine {X = X} weigher peers s line new a b (Err f)) (sym (is fault err)) (s'.0, subst (IsCutShort a b) s'.1 w)
 
   -- a line whose text was written whole
   pub said_all : (a b : Known) (text : List ℕ) → (s' : (speaks : Speaks weigher peers s line new) × (text ≡ speaks.said)) → Appends a b text → (speaks : Speaks weigher peers s line new) × Appends a b speaks.said

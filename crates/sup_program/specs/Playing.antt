@@ -1,11 +1,13 @@
 -- What playing one line does (this project): the code's world follows some line of the model's, and the writer has got its text, or a front of it.
-use Rattle.std.specs.Prelude.{◌≡◌, ◌<◌, ◌⊎◌, ℕ, false, All, List, [], take, Result, Ok, Err}
-use Rattle.std.specs.Io.KnownBytes.{Appends}
+use Rattle.std.specs.Prelude.{◌≡◌, ◌<◌, ◌⊎◌, ℕ, false, All, List, Result, Ok, Err}
+use Rattle.std.specs.Io.KnownBytes.{Appends, Keeps}
 use Rattle.sup_specs.specs.Values.{Bytes as Name}
 use Rattle.sup_placement.specs.Place.{Weigher}
 use Rattle.sup_keeper.specs.Keeping.{most}
 use Rattle.sup_jobs.specs.Ends.{Bytes}
+use Rattle.sup_jobs.specs.Tells.{IsCutShort}
 use Rattle.sup_jobs.specs.declared.fault.Fault.{Fault}
+use Rattle.sup_jobs.specs.declared.fault.Fault.TheVariants.{BadLine, BadInput, BadImage, Device, OutOfMemory}
 use Rattle.sup_model.specs.Worlds.{World}
 use Rattle.sup_world.specs.Carrying.{has_bytes}
 use Rattle.sup_world.specs.Seen.{Seen}
@@ -38,8 +40,11 @@ abbrev pub MaySpeak : {X E : Type 0} → (X → List ℕ) → Weigher → List N
 MaySpeak view weigher peers s line new (Ok x) = (speaks : Speaks weigher peers s line new) × (view x ≡ speaks.said)
 MaySpeak view weigher peers s line new (Err e) = Speaks weigher peers s line new ⊎ (new ≡ s.sites)
 
--- the writer has got all of that; or a front of it; or nothing changed
+-- the writer has got all of that; or, where it failed, a front of it and not all; or, where memory was refused, nothing
 abbrev pub PlaysLine : {X : Type 0} → Weigher → List Name → Scene → Line → List Seen → Bytes → Bytes → Result X Fault → Type 0
 PlaysLine weigher peers s line new before written (Ok x) = (speaks : Speaks weigher peers s line new) × Appends before written speaks.said
-PlaysLine weigher peers s line new before written (Err fault) =
-    ((speaks : Speaks weigher peers s line new) × (count : ℕ) × Appends before written (take count speaks.said)) ⊎ ((new ≡ s.sites) × Appends before written [])
+PlaysLine weigher peers s line new before written (Err (BadLine number)) = ⊥
+PlaysLine weigher peers s line new before written (Err BadInput) = ⊥
+PlaysLine weigher peers s line new before written (Err (BadImage fault)) = ⊥
+PlaysLine weigher peers s line new before written (Err Device) = (speaks : Speaks weigher peers s line new) × IsCutShort before written speaks.said
+PlaysLine weigher peers s line new before written (Err OutOfMemory) = (Speaks weigher peers s line new ⊎ (new ≡ s.sites)) × Keeps before written

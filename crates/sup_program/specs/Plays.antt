@@ -1,5 +1,5 @@
 -- What the lines of a script print, one after another (this project).
-use Rattle.std.specs.Prelude.{◌≡◌, ℕ, Bool, List, [], ◌∷◌, ◌++◌, take, IsSorted, IsPermutation}
+use Rattle.std.specs.Prelude.{◌≡◌, ◌<◌, ℕ, Bool, List, [], ◌∷◌, ◌++◌, length, take, IsSorted, IsPermutation}
 use Rattle.std.specs.Io.KnownBytes.{Appends}
 use Rattle.sup_specs.specs.Values.{Bytes, text_cmp}
 use Rattle.sup_tables.specs.States.{State}
@@ -8,6 +8,9 @@ use Rattle.sup_replica.specs.ByTables.{by_tables}
 use Rattle.sup_replica.specs.Configs.{Config}
 use Rattle.sup_replica.specs.Stations.{Codec}
 use Rattle.sup_jobs.specs.Ends.{Bytes as Known}
+use Rattle.sup_jobs.specs.Tells.{IsCutShort}
+use Rattle.sup_jobs.specs.declared.fault.Fault.{Fault}
+use Rattle.sup_jobs.specs.declared.fault.Fault.TheVariants.{BadLine, BadInput, BadImage, Device, OutOfMemory}
 use Rattle.sup_model.specs.Posts.{real_new}
 use Rattle.sup_model.specs.Worlds.{Setting, new}
 use Rattle.sup_model.specs.Headline.{Headline}
@@ -31,14 +34,30 @@ module _ (weigher : Weigher) (peers : List Bytes) where
     pub plays : Plays s lines printed final
     pub writes : Appends before written printed
 
-  -- The writer has got a front of what the first of these lines print.
-  pub record PrintsFrontFrom (s : Scene) (lines : List Line) (before written : Known) : Type 0 where
+  -- The device failed: the writer has got a front of what the first of these lines print, and not all.
+  pub record PrintsShortFrom (s : Scene) (lines : List Line) (before written : Known) : Type 0 where
     pub made : ℕ
-    pub bytes : ℕ
     pub printed : List ℕ
     pub final : Scene
     pub plays : Plays s (take made lines) printed final
-    pub writes : Appends before written (take bytes printed)
+    pub short : IsCutShort before written printed
+
+  -- Memory was refused for the text of a line: the writer has got what the lines before it print, and no more.
+  pub record PrintsBeforeFrom (s : Scene) (lines : List Line) (before written : Known) : Type 0 where
+    pub made : ℕ
+    pub left : made < length lines
+    pub printed : List ℕ
+    pub final : Scene
+    pub plays : Plays s (take made lines) printed final
+    pub writes : Appends before written printed
+
+  -- How far the lines were printed that this fault ended.
+  abbrev pub PrintsUntil : Scene → List Line → Known → Known → Fault → Type 0
+  PrintsUntil s lines before written (BadLine number) = ⊥
+  PrintsUntil s lines before written BadInput = ⊥
+  PrintsUntil s lines before written (BadImage fault) = ⊥
+  PrintsUntil s lines before written Device = PrintsShortFrom s lines before written
+  PrintsUntil s lines before written OutOfMemory = PrintsBeforeFrom s lines before written
 
 -- whatever is played from a new world, it is a run of the model, and the main theorem holds of the world after it
 abbrev pub PlayedWorldsKeep : Type 0
@@ -69,9 +88,10 @@ pub record PrintsAll (weigher : Weigher) (config : Config) (names : List Bytes) 
   pub prints : (is_message : Bytes → Bool) → TellsMessages is_message → PrintsAllFrom weigher peers (opening weigher config names is_message sites) lines before written
   pub headline : (is_message : Bytes → Bool) (tells : TellsMessages is_message) → Headline (prints is_message tells).final.model
 
-pub record PrintsFront (weigher : Weigher) (config : Config) (names : List Bytes) (lines : List Line) (before written : Known) : Type 0 where
+-- from such a world, as far as the fault let it
+pub record PrintsPart (weigher : Weigher) (config : Config) (names : List Bytes) (lines : List Line) (fault : Fault) (before written : Known) : Type 0 where
   pub peers : List Bytes
   pub in_order : AreInOrder names peers
   pub sites : List Seen
   pub opens : IsOpening weigher config names sites
-  pub prints : (is_message : Bytes → Bool) → TellsMessages is_message → PrintsFrontFrom weigher peers (opening weigher config names is_message sites) lines before written
+  pub prints : (is_message : Bytes → Bool) → TellsMessages is_message → PrintsUntil weigher peers (opening weigher config names is_message sites) lines before written fault

@@ -3,14 +3,16 @@ use Rattle.sup_replica.specs.Configs.{Config}
 use Rattle.sup_placement.specs.Place.{Weigher}
 use Rattle.sup_lines.specs.Script.{ScriptText, script_of}
 use Rattle.sup_jobs.specs.declared.fault.Ended.{Ended}
+use Rattle.sup_jobs.specs.declared.fault.Fault.TheVariants.{Device, OutOfMemory}
 use Rattle.sup_jobs.specs.Ends.{Bytes, Job, Does}
-use Rattle.sup_program.specs.Plays.{PrintsAll, PrintsFront}
+use Rattle.sup_program.specs.Plays.{PrintsAll, PrintsPart}
 
 abbrev pub simulation : Weigher → Config → Job ScriptText
 simulation weigher config = record {
   read = script_of;
   PrintsAll = λ script. PrintsAll weigher config script.0 script.1;
-  PrintsFront = λ script. PrintsFront weigher config script.0 script.1;
+  PrintsShort = λ script. PrintsPart weigher config script.0 script.1 Device;
+  PrintsBefore = λ script. PrintsPart weigher config script.0 script.1 OutOfMemory;
 }
 
 -- The status tells how the run ended, and the error writer was told of that end.

@@ -6,7 +6,7 @@ ghost use Rattle.sup_jobs.specs.Faults.{IsOutside};
 ghost use Rattle.sup_model.specs.Worlds.{World as Model};
 ghost use Rattle.sup_world.specs.Following.{StandsFor};
 ghost use Rattle.sup_world.specs.Seen.{sites_of, FailedOnceAtMost};
-ghost use Rattle.sup_program.specs.Plays.{PrintsAllFrom, PrintsFrontFrom};
+ghost use Rattle.sup_program.specs.Plays.{PrintsAllFrom, PrintsUntil};
 ghost use Rattle.sup_program.specs.Playing.{BringsNoBytes, CanFail, PlaysLine};
 ghost use Rattle.sup_program.specs.Prints.{TellsMessages};
 
@@ -24,7 +24,7 @@ use sup_world::World;
 /// # Errors
 ///
 /// The writer's fault, or want of memory for a text. The lines before are played and written then, and the one at which it ended
-/// is played, and written in part or not at all; none behind it is played.
+/// is played; it is written in part where the device failed, and not at all where memory was refused. None behind it is played.
 pub fn play<G: Weigh, W: Write>(
     alloc: Global,
     weigher: &G,
@@ -37,8 +37,8 @@ pub fn play<G: Weigh, W: Write>(
     requires bytes { All BringsNoBytes lines.now }
     ensures all { (model : Model) → StandsFor G.weight_of (sites_of world.old) model → TellsMessages model.is_message
         → OnOk result (PrintsAllFrom G.weight_of peers.now (record { model = model; sites = sites_of world.old }) lines.now (W.contents writer.old) (W.contents writer.new)) }
-    ensures front { (model : Model) → StandsFor G.weight_of (sites_of world.old) model → TellsMessages model.is_message
-        → PrintsFrontFrom G.weight_of peers.now (record { model = model; sites = sites_of world.old }) lines.now (W.contents writer.old) (W.contents writer.new) }
+    ensures until { (model : Model) → StandsFor G.weight_of (sites_of world.old) model → TellsMessages model.is_message
+        → IfErr result (PrintsUntil G.weight_of peers.now (record { model = model; sites = sites_of world.old }) lines.now (W.contents writer.old) (W.contents writer.new)) }
     ensures faults { IfErr result IsOutside }
 {
     for line in lines {

@@ -1,8 +1,8 @@
 //! The command `simulate`: a script is run from the world of its nodes.
 
-ghost use Rattle.std.specs.Prelude.{◌≤◌, ◌+◌, length, IfOk, IfSome, IsPermutation, IsSorted};
+ghost use Rattle.std.specs.Prelude.{◌≡◌, ◌≤◌, ◌+◌, length, Err, IfOk, IfSome, IsPermutation, IsSorted};
 ghost use Rattle.sup_specs.specs.Values.{text_cmp};
-ghost use Rattle.sup_jobs.specs.Ends.{EndsAt, TakesAtMost, TakesFor};
+ghost use Rattle.sup_jobs.specs.Ends.{Asks, EndsAt, TakesAtMost, TakesFor};
 ghost use Rattle.sup_program.specs.Simulating.{Simulates, simulation};
 
 use crate::play::play;
@@ -60,8 +60,11 @@ fn run_bytes<G: Weigh + Copy + Drop, W: Write>(
     writer: &mut W,
 ) -> Result<(), Fault>
     requires { length input.now ≤ LIMIT }
-    ensures { EndsAt (simulation G.weight_of config) input.now
+    ensures ends { EndsAt (simulation G.weight_of config) input.now
         (W.contents writer.old) (W.contents writer.new) result }
+    // The device fails only once there is something to write.
+    ensures device { result ≡ Err Fault.Device → Asks (simulation G.weight_of config) (simulation G.weight_of config).PrintsShort
+        input.now (W.contents writer.old) (W.contents writer.new) }
 {
     let Script { nodes, lines } = match read_script(alloc, input) {
         Ok(script) => script,

@@ -1,11 +1,10 @@
 use Rattle.std.proofs.Common.{[], ◌∷◌, ◌++◌}
-use Rattle.sup_jobs.proofs.Fronts.{front_of_first, told_behind, told_short}
+use Rattle.sup_jobs.proofs.Fronts.{cut_in_first, told_behind, told_short}
 use Rattle.sup_cluster_texts.proofs.telling.report_pair.Goals as goal
 
 pub returns-in_err-put_all : goal.returns-in_err-put_all
 returns-in_err-put_all g c =
-    let first = c.in_err-put_all.ensures in
-    told_short _ _ _ _ _ c.from_residual.ensures.1 (front_of_first _ _ c.args.word.now (32 ∷ (c.args.last.now ++ 10 ∷ [])) first.0 first.1)
+    told_short _ _ _ _ _ c.from_residual.ensures.1 (cut_in_first _ _ c.args.word.now (32 ∷ (c.args.last.now ++ 10 ∷ [])) c.in_err-put_all.ensures)
 
 pub returns : goal.returns
 returns g c = told_behind _ _ _ _ c.args.word.now _ c.in_ok-put_all.ensures c.report_end.ensures

@@ -1,14 +1,15 @@
 use Rattle.std.proofs.Common.{arith}
 use Rattle.sup_world.specs.Seen.{sites_of}
 use Rattle.sup_program.proofs.Counts.{failed_once_more, unfailed}
-use Rattle.sup_program.proofs.Playing.{begins, goes_on, whole, whole_front, ended_front}
+use Rattle.sup_program.proofs.Playing.{begins, goes_on, whole, ended, of_fault}
 use Rattle.sup_program.proofs.play.play.Goals as goal
 
-pub returns-in_err-play_line-clause-front : goal.returns-in_err-play_line-clause-front
-returns-in_err-play_line-clause-front g c = λ model stands tells.
+pub returns-in_err-play_line-clause-until : goal.returns-in_err-play_line-clause-until
+returns-in_err-play_line-clause-until g c = λ model stands tells.
     let so_far = c.loop-line.invariant.plays model stands tells in
     let last = c.in_err-play_line.ensures.plays so_far.reached so_far.stands so_far.tells in
-    ended_front g.G.Weigh.weight_of _ _ _ c.loop-line.line-index c.line-item.result _ (sites_of c.play_line.new.world) _ _ _ c.loop-line-test.true c.line-item.is so_far last
+    of_fault c.from_residual.result _ _ _ c.from_residual.ensures.1 (λ _ e. e)
+    (ended g.G.Weigh.weight_of _ _ _ c.loop-line.line-index c.line-item.result _ (sites_of c.play_line.new.world) _ _ _ _ c.loop-line-test.true c.line-item.is so_far last)
 
 pub loop-line-preserved : goal.loop-line-preserved
 loop-line-preserved g c = record {
@@ -18,9 +19,6 @@ loop-line-preserved g c = record {
       let last = c.in_ok-play_line.ensures.plays so_far.reached so_far.stands so_far.tells in
       goes_on g.G.Weigh.weight_of _ _ _ c.loop-line.line-index c.line-item.result _ _ _ _ _ c.loop-line-test.true c.line-item.is so_far last.0 last.1;
 }
-
-pub returns-clause-front : goal.returns-clause-front
-returns-clause-front g c = λ model stands tells. whole_front g.G.Weigh.weight_of _ _ _ c.loop-line.line-index _ _ _ (c.loop-line.invariant.plays model stands tells)
 
 pub loop-line-init : goal.loop-line-init
 loop-line-init g c = record {
