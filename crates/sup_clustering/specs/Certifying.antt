@@ -2,7 +2,6 @@
 use Rattle.std.specs.Prelude.{◌≡◌, ℕ, Bool, List, Ok}
 use Rattle.sup_specs.specs.Values.{Bytes}
 use Rattle.sup_placement.specs.Place.{Weigher}
-use Rattle.sup_jobs.specs.declared.fault.Fault.{Fault}
 use Rattle.sup_jobs.specs.declared.fault.Fault.TheVariants as job
 use Rattle.sup_plan.specs.declared.histories.History.{History}
 use Rattle.sup_plan.specs.declared.plan.Plan.{Plan}
@@ -14,8 +13,8 @@ use Rattle.sup_world.specs.Newness.{setting_in}
 use Rattle.sup_world.specs.Seen.{Seen}
 use Rattle.sup_world.specs.Settling.{SettlesTo}
 use Rattle.sup_cluster.specs.Runs as threads
-use Rattle.sup_certify.specs.Certified.{MakeRun}
-use Rattle.sup_certify.specs.Faults.{IsFaultOf}
+use Rattle.sup_certify.specs.Certified.{MakeRun, IsNewWorld}
+use Rattle.sup_certify.specs.Faults.{IsFaultFrom}
 use Rattle.sup_certify.specs.Follows.{IsRunOf, KnowsAll}
 use Rattle.sup_certify.specs.declared.fault.CertifyFault.{CertifyFault}
 use Rattle.sup_certify.specs.declared.fault.CertifyFault.TheVariants as judged
@@ -44,11 +43,19 @@ pub record PrintsCluster (weigher : Weigher) (plan : Plan) (said : List ℕ) : T
   pub settles : SettlesFrom weigher sites after
   pub says : said ≡ cluster_text weigher after plan.nodes.items
 
--- what the plan's threads did is judged to be no run, for this fault
+-- what the plan's threads did is judged to be no run: in a new world of its nodes a run of the first entries of each history ends by this fault
 pub record IsNoRun (weigher : Weigher) (plan : Plan) (fault : CertifyFault) : Type 0 where
   pub histories : List History
   pub ran : threads.IsRunOf weigher plan histories
-  pub judged : IsFaultOf weigher plan.config plan.nodes.items histories fault
+  pub start : List Seen
+  pub is_new : IsNewWorld weigher plan.config plan.nodes.items start
+  pub ends : IsFaultFrom weigher start histories fault
+
+-- why a plan's run is not certified
+abbrev pub IsUncertified : Weigher → Plan → CertifyFault → Type 0
+IsUncertified weigher plan judged.Stuck = IsNoRun weigher plan judged.Stuck
+IsUncertified weigher plan (judged.Differs node place) = IsNoRun weigher plan (judged.Differs node place)
+IsUncertified weigher plan judged.OutOfMemory = Unit {0}
 
 -- why nothing is printed of a plan's nodes
 abbrev pub IsRefused : Weigher → Plan → ClusterFault → Type 0

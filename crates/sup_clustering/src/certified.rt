@@ -3,7 +3,7 @@
 ghost use Rattle.std.specs.Prelude.{◌≡◌, ◌≢◌, Err, IfErr, IfOk, MatchResult, string_bytes};
 ghost use Rattle.sup_plan.specs.Plans.{IsPlan};
 ghost use Rattle.sup_world.specs.Seen.{sites_of};
-ghost use Rattle.sup_clustering.specs.Certifying.{IsCertified, IsNoRun, IsRefused, PrintsCluster, SettlesFrom};
+ghost use Rattle.sup_clustering.specs.Certifying.{IsCertified, IsRefused, IsUncertified, PrintsCluster, SettlesFrom};
 ghost use Rattle.sup_cluster_texts.specs.Faults.{judged_as};
 
 use std::alloc::Global;
@@ -65,7 +65,7 @@ fn judged_run<T: Threads + Wait + Sync, G: Weigh + Copy + Drop + Send + Sync>(
     ensures good { result ≢ Err RunFault.BadPlan }
     ensures judged { IfOk result (λ judged. MatchResult judged
         (λ run. IsCertified G.weight_of plan.now run.steps.items (sites_of run.world))
-        (IsNoRun G.weight_of plan.now)) }
+        (IsUncertified G.weight_of plan.now)) }
 {
     match sup_cluster::run(rt, alloc, plan, &Quiet, &Quiet, weigher) {
         Ok(histories) => Ok(certify(alloc, plan, &histories, *weigher)),
