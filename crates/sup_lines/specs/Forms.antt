@@ -1,5 +1,5 @@
 -- The forms of the lines that may end in a moment and a failing save: what each does, and the words that it leaves (this project's script format). A further form is a further case of `deed_of`.
-use Rattle.std.specs.Prelude.{List, [], ◌∷◌, Option, Some, None, unwrap_or, if◌then◌else◌, codes}
+use Rattle.std.specs.Prelude.{List, [], ◌∷◌, drop, Option, Some, None, unwrap_or, if◌then◌else◌, codes}
 use Rattle.std.specs.Str.{bytes_eq}
 use Rattle.sup_specs.specs.declared.limits.TheConstants.{MAX}
 use Rattle.sup_specs.specs.Reasons.{reason_of}
@@ -9,7 +9,7 @@ use Rattle.sup_lines.specs.declared.deed.Deed.{Deed}
 use Rattle.sup_lines.specs.declared.deed.Deed.TheVariants.{At, Delivery}
 use Rattle.sup_lines.specs.Words.{Word, ◌>>=◌}
 use Rattle.sup_lines.specs.Values.{node_name_of, child_id_of, registered_name_of, number_of, incarnation_of}
-use Rattle.sup_lines.specs.Options.{label_of, spec_of, word_behind, if_there}
+use Rattle.sup_lines.specs.Options.{label_of, option_at, spec_left, spec_of, word_behind, if_there}
 
 -- join N [label=TEXT]
 unfoldable pub join_of : List Word → Option (Deed × List Word)
@@ -139,3 +139,21 @@ deed_of (verb ∷ words) =
     (if bytes_eq verb (codes "deliver") then deliver_of words else
     (if bytes_eq verb (codes "stop") then stop_of words else
     (if bytes_eq verb (codes "restart") then reboot_of words else None))))))))))))
+
+-- the words that a line of a form leaves for its endings: those behind the words that the form has, and its options
+unfoldable pub left_of : List Word → List Word
+left_of [] = []
+left_of (verb ∷ words) =
+    if bytes_eq verb (codes "join") then (option_at (codes "label=") [] (drop 1 words)).1 else
+    (if bytes_eq verb (codes "leave") then drop 2 words else
+    (if bytes_eq verb (codes "start") then spec_left (drop 2 words) else
+    (if bytes_eq verb (codes "replace") then spec_left (drop 2 words) else
+    (if bytes_eq verb (codes "delete") then drop 2 words else
+    (if bytes_eq verb (codes "register") then drop 3 words else
+    (if bytes_eq verb (codes "unregister") then drop 2 words else
+    (if bytes_eq verb (codes "exit") then drop 4 words else
+    (if bytes_eq verb (codes "ship") then drop 2 words else
+    (if bytes_eq verb (codes "push") then drop 2 words else
+    (if bytes_eq verb (codes "deliver") then (word_behind (codes "drop") (word_behind (codes "at") (drop 2 words)).1).1 else
+    (if bytes_eq verb (codes "stop") then drop 1 words else
+    (if bytes_eq verb (codes "restart") then drop 1 words else words))))))))))))

@@ -1,5 +1,5 @@
 -- The lines behind the one of the nodes: each is a step, or asks for something else (this project's script format). A further form without endings is a further case of `form_of`.
-use Rattle.std.specs.Prelude.{◌≡◌, ◌≢◌, ◌==◌, List, [], ◌∷◌, length, Option, Some, None, if◌then◌else◌, codes}
+use Rattle.std.specs.Prelude.{◌==◌, List, [], ◌∷◌, length, Option, Some, None, if◌then◌else◌, codes}
 use Rattle.std.specs.Str.{bytes_eq}
 use Rattle.sup_specs.specs.declared.limits.TheConstants.{MAX}
 use Rattle.sup_model.specs.declared.step.Step.TheVariants.{Raw}
@@ -77,7 +77,3 @@ form_of (verb ∷ words) =
     (if bytes_eq verb (codes "image") then image_of words else
     (if bytes_eq verb (codes "where") then where_of words else
     (if bytes_eq verb (codes "message") then message_of words else step_of (verb ∷ words)))))))
-
--- has a form, or has one but for its endings
-abbrev pub IsBegun : List Word → Type 0
-IsBegun words = form_of words ≡ None → deed_of words ≢ None

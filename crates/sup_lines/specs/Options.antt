@@ -36,6 +36,14 @@ label_of words = do
   label ← text_of label_word.0
   Some (label, label_word.1)
 
+-- the words after [kind=K] [arg=TEXT] [restart=R] [shutdown=S]
+unfoldable pub spec_left : List Word → List Word
+spec_left words =
+    let kind_word = option_at (codes "kind=") (codes "worker") words in
+    let arg_word = option_at (codes "arg=") [] kind_word.1 in
+    let restart_word = option_at (codes "restart=") (codes "permanent") arg_word.1 in
+    (option_at (codes "shutdown=") (codes "5000") restart_word.1).1
+
 -- [kind=K] [arg=TEXT] [restart=R] [shutdown=S], in this order, and the words after them
 unfoldable pub spec_of : List Word → Option (ChildSpec × List Word)
 spec_of words = do

@@ -1,11 +1,10 @@
 -- A script: its lines, and the number of the first bad one (this project's script format).
-use Rattle.std.specs.Prelude.{◌≡◌, ℕ, Bool, true, not, ◌&&◌, ◌||◌, ◌==◌, nat_le, List, [], ◌∷◌, length, slice_index, filter, Option, Some, None, Result, Ok, Err, if◌then◌else◌}
+use Rattle.std.specs.Prelude.{◌≡◌, ℕ, Bool, not, ◌&&◌, ◌||◌, ◌==◌, nat_le, List, [], ◌∷◌, length, slice_index, filter, Option, Some, None, Result, Ok, Err, if◌then◌else◌}
 use Rattle.std.specs.List.{slice_split, enumerate_from, list_all}
-use Rattle.sup_lines.specs.Words.{Word, Name, ReadsWhere}
+use Rattle.sup_lines.specs.Words.{Word, Name}
 use Rattle.sup_lines.specs.Opening.{nodes_of}
 use Rattle.sup_lines.specs.Lines.{form_of}
 use Rattle.sup_lines.specs.declared.line.Line.{Line}
-use Rattle.sup_lines.specs.declared.fault.LineFault.{LineFault}
 use Rattle.sup_lines.specs.declared.fault.ScriptFault.{ScriptFault}
 use Rattle.sup_lines.specs.declared.fault.ScriptFault.TheVariants.{BadLine, OutOfMemory}
 
@@ -24,6 +23,11 @@ is_plain line = list_all (λ byte. nat_le 32 byte && nat_le byte 126) line
 -- words stand between single spaces (32), so two spaces have an empty word between them
 abbrev pub words_of : List ℕ → List Word
 words_of line = slice_split (λ byte. byte == 32) line
+
+-- the words of a rest, if there is one
+abbrev pub words_behind : Option (List ℕ) → List Word
+words_behind None = []
+words_behind (Some rest) = words_of rest
 
 -- what the bytes of a line after the first ask for
 unfoldable pub line_of : List ℕ → Option Line
@@ -66,12 +70,8 @@ ScriptText = List Name × List Line
 abbrev pub script_of : List ℕ → Result ScriptText ℕ
 script_of bytes = opened opening_of line_of (numbered_lines bytes)
 
--- What was answered is what reading the line gives, unless memory was refused, to list its words or to what they say. A line that isn't plain is always bad.
-abbrev pub ReadsLine : {X Y : Type 0} → (X → Y) → List ℕ → Result X LineFault → Option Y → Type 0
-ReadsLine view line result read = ReadsWhere view (is_plain line ≡ true) result read
-
--- What was answered is what reading gives, unless memory was refused.
+-- What was answered is what reading gives, unless memory was refused to what has no bad line: the first bad line is always told.
 abbrev pub ReadsAll : {X Y : Type 0} → (X → Y) → Result X ScriptFault → Result Y ℕ → Type 0
 ReadsAll view (Ok x) read = read ≡ Ok (view x)
 ReadsAll view (Err (BadLine number)) read = read ≡ Err number
-ReadsAll view (Err OutOfMemory) read = Unit {0}
+ReadsAll {Y = Y} view (Err OutOfMemory) read = (said : Y) × (read ≡ Ok said)

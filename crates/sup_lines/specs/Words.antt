@@ -24,12 +24,6 @@ Reads view (Ok x) read = read ≡ Some (view x)
 Reads view (Err Bad) read = read ≡ None
 Reads view (Err OutOfMemory) read = read ≢ None
 
--- What was answered is what reading gives, unless memory was refused, which happens only where this holds.
-abbrev pub ReadsWhere : {X Y : Type 0} → (X → Y) → Type 0 → Result X LineFault → Option Y → Type 0
-ReadsWhere view holds (Ok x) read = read ≡ Some (view x)
-ReadsWhere view holds (Err Bad) read = read ≡ None
-ReadsWhere view holds (Err OutOfMemory) read = holds
-
 -- what a reader gives: a value, and the words behind it
 abbrev pub and_rest : {X : Type 0} → X × Bor (List (Bor Word)) → X × List Word
 and_rest (x, rest) = (x, texts rest.now)

@@ -22,4 +22,4 @@ pub use opening::{MOST_NODES, read_distinct};
 pub use options::value_after;
 pub use script::{Script, read_script};
 pub use values::{read_child_id, read_node_name, read_number};
-pub use words::{plain_text, words_of};
+pub use words::{MOST_WORDS, Words, cut_words, first_word, plain_text};

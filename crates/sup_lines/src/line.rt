@@ -1,16 +1,15 @@
 //! The lines after `nodes`: each is a step, or asks for something else.
 
-ghost use Rattle.std.specs.Prelude.{◌≡◌, ◌≢◌, IfErr, None};
-ghost use Rattle.sup_lines.specs.Words.{Reads, ReadsWhere, texts};
-ghost use Rattle.sup_lines.specs.Forms.{deed_of};
-ghost use Rattle.sup_lines.specs.Lines.{IsBegun, form_of, image_of, inspect_of, message_of, raw_of, settle_of, show_of, step_of, where_of};
-ghost use Rattle.sup_lines.specs.Script.{ReadsLine, line_of};
+ghost use Rattle.std.specs.Prelude.{◌≡◌, IfErr};
+ghost use Rattle.sup_lines.specs.Words.{Reads, texts};
+ghost use Rattle.sup_lines.specs.Lines.{form_of, image_of, inspect_of, message_of, raw_of, settle_of, show_of, step_of, where_of};
+ghost use Rattle.sup_lines.specs.Script.{line_of};
 
-use crate::endings::read_ended;
+use crate::endings::{read_ended, read_endings};
 use crate::fault::LineFault;
-use crate::forms::read_deed;
+use crate::forms::{read_deed, words_left};
 use crate::values::{read_node_name, read_number, read_registered_name};
-use crate::words::{plain_text, words_of};
+use crate::words::{cut_words, plain_text};
 use std::alloc::Global;
 use sup_model::Step;
 use sup_replica::MessageText;
@@ -39,26 +38,24 @@ pub enum Line {
 ///
 /// # Errors
 ///
-/// - `LineFault::Bad` where it has no form: always where it isn't plain.
-/// - `LineFault::OutOfMemory` where memory was refused. The words are listed first, so that it may
-///   stand in place of any answer to a plain line.
-#[tactic(auto, unfolding(crate::specs::Script::line_of))]
+/// - `LineFault::Bad` exactly where it has no form.
+/// - `LineFault::OutOfMemory` where it has one, and memory was refused.
+#[tactic(auto, using(crate::proofs::Lengths::no_long_form), unfolding(crate::specs::Script::line_of))]
 pub fn read_line(alloc: Global, line: &[u8]) -> Result<Line, LineFault>
-    ensures { ReadsLine (λ line. line) line.now result (line_of line.now) }
+    ensures { Reads (λ line. line) result (line_of line.now) }
 {
-    match plain_text(line) {
-        Some(text) => {
-            let words = words_of(alloc, text)?;
-            read_form(alloc, words.as_slice())
-        }
+    let Some(text) = plain_text(line) else {
+        return Err(LineFault::Bad);
+    };
+    match cut_words(text) {
+        Some(words) => read_form(alloc, words.as_slice()),
         None => Err(LineFault::Bad),
     }
 }
 
 #[tactic(auto, unfolding(crate::specs::Lines::form_of))]
 fn read_form(alloc: Global, words: &[&str]) -> Result<Line, LineFault>
-    ensures { ReadsWhere (λ line. line) (IsBegun (texts words.now)) result
-        (form_of (texts words.now)) }
+    ensures { Reads (λ line. line) result (form_of (texts words.now)) }
 {
     let Some((verb, others)) = words.split_first() else {
         return Err(LineFault::Bad);
@@ -75,15 +72,19 @@ fn read_form(alloc: Global, words: &[&str]) -> Result<Line, LineFault>
     }
 }
 
-// Where memory was refused, the endings were not judged.
 #[tactic(auto, unfolding(crate::specs::Lines::step_of))]
 fn read_step(alloc: Global, words: &[&str]) -> Result<Line, LineFault>
-    ensures { ReadsWhere (λ line. line) (deed_of (texts words.now) ≢ None) result
-        (step_of (texts words.now)) }
+    ensures { Reads (λ line. line) result (step_of (texts words.now)) }
 {
-    let (deed, endings) = read_deed(alloc, words)?;
-    let step = read_ended(deed, endings)?;
-    Ok(Line::Step(step))
+    match read_deed(alloc, words) {
+        Ok((deed, endings)) => Ok(Line::Step(read_ended(deed, endings)?)),
+        Err(LineFault::Bad) => Err(LineFault::Bad),
+        // The endings are judged all the same.
+        Err(LineFault::OutOfMemory) => {
+            read_endings(words_left(words))?;
+            Err(LineFault::OutOfMemory)
+        }
+    }
 }
 
 #[tactic(auto, unfolding(crate::specs::Lines::raw_of))]

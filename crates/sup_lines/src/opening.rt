@@ -3,11 +3,11 @@
 ghost use Rattle.std.specs.Prelude.{◌≡◌, ◌≢◌, IfErr, None};
 ghost use Rattle.sup_lines.specs.Words.{Reads, texts};
 ghost use Rattle.sup_lines.specs.Opening.{are_distinct, distinct_names_of, names_of, nodes_of};
-ghost use Rattle.sup_lines.specs.Script.{ReadsLine, opening_of};
+ghost use Rattle.sup_lines.specs.Script.{opening_of};
 
 use crate::fault::LineFault;
 use crate::values::read_node_name;
-use crate::words::{plain_text, words_of};
+use crate::words::{cut_words, plain_text};
 use std::alloc::Global;
 use sup_specs::NodeName;
 
@@ -15,15 +15,15 @@ use sup_specs::NodeName;
 pub const MOST_NODES: usize = 16;
 
 /// The nodes of a script, 1 to 16 distinct ones.
-#[tactic(auto, unfolding(crate::specs::Script::opening_of))]
+#[tactic(auto, using(crate::proofs::Lengths::few_nodes), unfolding(crate::specs::Script::opening_of))]
 pub fn read_opening(alloc: Global, line: &[u8]) -> Result<Vec<NodeName>, LineFault>
-    ensures { ReadsLine (λ v. v.items) line.now result (opening_of line.now) }
+    ensures { Reads (λ v. v.items) result (opening_of line.now) }
 {
-    match plain_text(line) {
-        Some(text) => {
-            let words = words_of(alloc, text)?;
-            read_nodes(alloc, words.as_slice())
-        }
+    let Some(text) = plain_text(line) else {
+        return Err(LineFault::Bad);
+    };
+    match cut_words(text) {
+        Some(words) => read_nodes(alloc, words.as_slice()),
         None => Err(LineFault::Bad),
     }
 }

@@ -2,7 +2,7 @@
 
 ghost use Rattle.std.specs.Prelude.{◌≡◌, IfErr, option_map};
 ghost use Rattle.sup_lines.specs.Words.{Reads, and_rest, texts};
-ghost use Rattle.sup_lines.specs.Options.{label_of, option_at, spec_of, value_after, word_behind};
+ghost use Rattle.sup_lines.specs.Options.{label_of, option_at, spec_left, spec_of, value_after, word_behind};
 
 use crate::fault::LineFault;
 use crate::values::{check_text, read_kind, read_restart, read_shutdown, read_text};
@@ -55,6 +55,18 @@ pub fn read_label<'a>(
     let (label, words) = option_at(words, "label=", "");
     let label = read_text(alloc, label)?;
     Ok((label, words))
+}
+
+/// The words after the specification of a child.
+#[tactic(auto, unfolding(crate::specs::Options::spec_left))]
+pub fn spec_left<'a>(words: &'a [&'a str]) -> &'a [&'a str]
+    ensures { texts result.now ≡ spec_left (texts words.entry.now) }
+{
+    let (_kind, words) = option_at(words, "kind=", "worker");
+    let (_arg, words) = option_at(words, "arg=", "");
+    let (_restart, words) = option_at(words, "restart=", "permanent");
+    let (_shutdown, words) = option_at(words, "shutdown=", "5000");
+    words
 }
 
 /// The specification of a child; and the words after it. All of it is judged before memory is

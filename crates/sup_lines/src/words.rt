@@ -1,21 +1,64 @@
-//! The words of a line.
+//! The words of a line, which are cut without memory.
 
-ghost use Rattle.std.specs.Prelude.{◌≡◌, IfOk, None, Some, option_map, if◌then◌else◌};
+ghost use Rattle.std.specs.Prelude.{◌≡◌, ◌∷◌, ◌<◌, ◌≤◌, length, take, None, Some, IfSome, IsNone, option_map, if◌then◌else◌};
 ghost use Rattle.sup_lines.specs.Words.{texts};
-ghost use Rattle.sup_lines.specs.Script.{is_plain, words_of};
+ghost use Rattle.sup_lines.specs.Script.{is_plain, words_behind, words_of};
+ghost use Rattle.sup_lines.specs.declared.words.TheConstants.{MOST_WORDS};
 
-use std::alloc::{AllocError, Global};
 use std::str;
 
-/// The words between single spaces. Two spaces have an empty word between them.
-///
-/// # Errors
-///
-/// `AllocError` where memory was refused.
-pub fn words_of<'a>(alloc: Global, line: &'a str) -> Result<Vec<&'a str>, AllocError>
-    ensures { IfOk result (λ v. texts v.items ≡ words_of line.entry.now) }
+/// No line of few words has more: a verb, and sixteen names.
+pub const MOST_WORDS: usize = 17;
+
+/// The words of a line of few.
+#[derive(Drop)]
+pub struct Words<'a> {
+    /// The first `count` are the line's.
+    pub items: [&'a str; MOST_WORDS],
+    pub count: usize,
+    ghost bounded: { count ≤ MOST_WORDS },
+}
+
+impl<'a> Words<'a> {
+    /// The words.
+    pub fn as_slice(&self) -> &[&'a str]
+        ensures { result.now ≡ take self.now.count self.now.items }
+    {
+        &self.items[..self.count]
+    }
+}
+
+/// The words between single spaces, none where there are more than `MOST_WORDS`. Two spaces have an
+/// empty word between them.
+pub fn cut_words<'a>(line: &'a str) -> Option<Words<'a>>
+    ensures words { IfSome result (λ w. texts (take w.count w.items) ≡ words_of line.entry.now) }
+    ensures many { IsNone result → MOST_WORDS < length (words_of line.entry.now) }
 {
-    line.split(' ').collect(alloc)
+    let mut items = [""; MOST_WORDS];
+    let mut count = 0;
+    let mut rest = Some(line);
+    while let Some(text) = rest {
+        if count == MOST_WORDS {
+            return None;
+        }
+        let (word, others) = first_word(text);
+        items[count] = word;
+        count += 1;
+        rest = others;
+    }
+    Some(Words { items, count })
+}
+
+/// The first word, and what stands behind the space after it.
+pub fn first_word<'a>(text: &'a str) -> (&'a str, Option<&'a str>)
+    ensures words { words_of text.entry.now
+        ≡ result.0.now ∷ words_behind (option_map (λ t. t.now) result.1) }
+    ensures less { IfSome result.1 (λ rest. length rest.now < length text.entry.now) }
+{
+    match text.split_once(' ') {
+        Some((word, rest)) => (word, Some(rest)),
+        None => (text, None),
+    }
 }
 
 /// A line's text, if it has no byte but those from ` ` to `~`.
