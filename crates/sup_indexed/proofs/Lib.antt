@@ -1,4 +1,5 @@
 pub mod PlaceLaws
+pub mod PlaceCounts
 pub mod Standing
 pub mod Listings
 pub mod Unlistings

@@ -1,38 +1,46 @@
-//! Values under keys and dots, with an index of where each dot has a value.
+//! Values under keys and dots, with an index of where each dot has a value from the first join in place on.
 
-ghost use Rattle.std.specs.Prelude.{◌≡◌, [], IfOk};
+ghost use Rattle.std.specs.Prelude.{◌≡◌, ◌<◌, [], true, IfOk, IfSome, IfNone};
 ghost use Rattle.std.proofs.Props.{props};
 ghost use Rattle.std.specs.Option.{option_copied};
-ghost use Rattle.std.specs.BTreeMap.{get, IsOrdered};
+ghost use Rattle.std.specs.BTreeMap.{get, values, IsOrdered};
+ghost use Rattle.sup_specs.specs.Rising.{among};
+ghost use Rattle.sup_causal.specs.declared.dot.Dot.{Dot as DotValue};
+ghost use Rattle.sup_causal.specs.Dots.{has};
 ghost use Rattle.sup_causal.specs.Join.{lesser as lesser_of, lesser_laws as laws_of_lesser};
 ghost use Rattle.sup_dot_store.specs.Contents.{stores_of};
-ghost use Rattle.sup_dot_store.specs.Index.{value_of};
+ghost use Rattle.sup_dot_store.specs.Index.{value_of, count_in};
 ghost use Rattle.sup_dot_store.specs.Places.{optional_held, NoneEmpty};
-ghost use Rattle.sup_indexed.specs.Listed.{ListsAll};
+ghost use Rattle.sup_indexed.specs.Listed.{stands, ListsAll};
 
 use crate::comparing::are_below_at;
-use crate::listing::{index_of, keep_standing};
+use crate::listing::{count_values, standing_places};
 use crate::place::Place;
 use crate::stores_under::{StoresIn, StoresUnder};
 use crate::touched::touched;
 use std::alloc::{AllocError, Global};
 use std::collections::{BTreeMap, BTreeSet};
 use std::mem::replace;
-use sup_causal::{CausalContext, Dot, all_below, merge_maps};
+use sup_causal::{CausalContext, Dot, all_below, keys_rise, merge_maps};
 use sup_dot_store::{DotFun, DotMap, DotStore};
 use sup_specs::Plain;
 
-/// Functions from dots to values under keys, and beside them exactly the places where a value stands, in dot order: a
-/// row is found by its dot without a walk. A dot may have values under several keys. No function is empty.
+// Maps are compared by an index where the other context knows at most an eighth as many dots as there are keys.
+const SMALL: usize = 8;
+
+/// Functions from dots to values under keys, and, once a join in place has wanted them, exactly the places where a value
+/// stands, in dot order: a row is found by its dot without a walk. A dot may have values under several keys. No function
+/// is empty.
 #[derive(Drop)]
 pub struct IndexedMap<K: Plain, V: Plain> {
     pub(crate) alloc: Global,
     pub(crate) stores: BTreeMap<K, DotFun<V>>,
-    pub(crate) index: BTreeSet<Place<K>>,
+    // None until a join in place wants it: a map that is merged, copied or read needs none.
+    pub(crate) index: Option<BTreeSet<Place<K>>>,
     // The keys rise. Every map's keys do; here it is said, so that a proof knows it of a map inside other values.
     pub ghost ordered: { IsOrdered K.cmp stores } by { Prim.hlevel props },
     pub ghost none_empty: { NoneEmpty value_of K.cmp stores },
-    pub ghost lists_all: { ListsAll K.cmp index stores },
+    pub ghost lists_all: { IfSome index (λ places. ListsAll K.cmp places stores) } by { Prim.hlevel props },
 }
 
 impl<K: Plain, V: Plain> IndexedMap<K, V> {
@@ -45,32 +53,32 @@ impl<K: Plain, V: Plain> IndexedMap<K, V> {
         IndexedMap {
             alloc,
             stores: BTreeMap::new(alloc),
-            index: BTreeSet::new(alloc),
+            index: None,
         }
     }
 
-    /// The map with these functions, each with a value. An `Err` is want of memory.
-    pub fn of_stores(alloc: Global, stores: BTreeMap<K, DotFun<V>>) -> Result<Self, AllocError>
+    /// The map with these functions, each with a value.
+    pub fn of_stores(alloc: Global, stores: BTreeMap<K, DotFun<V>>) -> Self
         requires { NoneEmpty value_of K.cmp stores }
-        ensures { IfOk result (λ m. functions_of m ≡ stores) }
+        ensures { functions_of result ≡ stores }
     {
-        let index = index_of(alloc, &stores)?;
-        Ok(IndexedMap {
+        // For its clause alone: the keys rise.
+        keys_rise(&stores);
+        IndexedMap {
             alloc,
             stores,
-            index,
-        })
+            index: None,
+        }
     }
 
-    /// The map with the rows of one without an index. An `Err` is want of memory.
-    pub fn of_map(alloc: Global, map: DotMap<K, DotFun<V>>) -> Result<Self, AllocError>
-        ensures { IfOk result (λ m. functions_of m ≡ stores_of map) }
+    /// The map with the rows of one that never has an index.
+    pub fn of_map(alloc: Global, map: DotMap<K, DotFun<V>>) -> Self
+        ensures { functions_of result ≡ stores_of map }
     {
-        let map = IndexedMap::of_stores(alloc, map.into_stores())?;
-        Ok(map)
+        IndexedMap::of_stores(alloc, map.into_stores())
     }
 
-    /// The same rows without an index.
+    /// The same rows in a map that never has an index.
     pub fn into_map(self) -> DotMap<K, DotFun<V>>
         ensures { stores_of result ≡ functions_of self }
     {
@@ -91,6 +99,31 @@ impl<K: Plain, V: Plain> IndexedMap<K, V> {
         ensures { option_copied result ≡ get K.cmp (functions_of self.now) key.now }
     {
         self.stores.get(key)
+    }
+
+    /// How many values there are. None only where there are more than a count can say. Without a walk over the keys
+    /// from the first join in place on.
+    pub fn count(&self) -> Option<usize>
+        ensures some { IfSome result (λ n. n ≡ count_in (values (functions_of self.now))) }
+        ensures none { IfNone result (usize.MAX < count_in (values (functions_of self.now))) }
+    {
+        match &self.index {
+            Some(index) => Some(index.len()),
+            None => count_values(&self.stores),
+        }
+    }
+
+    // The keys of the values here, and those of the other's values whose dots are known here: under no others do two maps
+    // differ. None where a walk over both costs less, or where memory for the keys was refused.
+    fn keys_to_compare(&self, mine: &CausalContext, other: &Self) -> Option<Vec<K>>
+        ensures here { IfSome result (λ keys. (k : K) (d : DotValue) → stands K.cmp (functions_of self.now) k d ≡ true → among K.cmp keys.items k ≡ true) }
+        ensures there { IfSome result (λ keys. (k : K) (d : DotValue) → stands K.cmp (functions_of other.now) k d ≡ true → has mine.now d ≡ true → among K.cmp keys.items k ≡ true) }
+    {
+        let index = other.index.as_ref()?;
+        if !mine.has_at_most(other.stores.len() / SMALL) {
+            return None;
+        }
+        touched(self.alloc, index, &self.stores, mine).ok()
     }
 }
 
@@ -133,15 +166,15 @@ impl<K: Plain, V: Plain> DotStore for IndexedMap<K, V> {
             theirs,
         };
         let stores = merge_maps(alloc, &self.stores, &other.stores, &by)?;
-        IndexedMap::of_stores(self.alloc, stores)
+        Ok(IndexedMap::of_stores(self.alloc, stores))
     }
 
-    // Under keys that are not looked at no value stands here, and none there whose dot is known here. A walk over both
-    // needs no memory.
     fn leq_under(&self, mine: &CausalContext, other: &Self, theirs: &CausalContext) -> bool {
-        match touched(self.alloc, &other.index, &self.stores, mine) {
-            Ok(keys) => are_below_at(self.alloc, &self.stores, mine, &other.stores, theirs, &keys),
-            Err(_) => {
+        match self.keys_to_compare(mine, other) {
+            Some(keys) => {
+                are_below_at(self.alloc, &self.stores, mine, &other.stores, theirs, &keys)
+            }
+            None => {
                 let by = StoresUnder {
                     alloc: self.alloc,
                     mine,
@@ -157,6 +190,7 @@ impl<K: Plain, V: Plain> DotStore for IndexedMap<K, V> {
         let mut map = DotMap::of_stores(self.alloc, stores);
         map.retract(dots);
         self.stores = map.into_stores();
-        keep_standing(&mut self.index, &self.stores);
+        let index = replace(&mut self.index, None);
+        self.index = standing_places(index, &self.stores);
     }
 }

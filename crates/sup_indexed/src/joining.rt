@@ -46,7 +46,10 @@ impl<K: Plain, V: Plain> JoinInPlace for IndexedMap<K, V> {
         other: &Self,
         theirs: &CausalContext,
     ) -> Result<ReadyMap<K, V>, Self> {
-        let mut changing = Changing::of(self);
+        let mut changing = match Changing::of(self) {
+            Ok(changing) => changing,
+            Err(map) => return Err(map),
+        };
         match change_all(alloc, &mut changing, mine, other.stores(), theirs) {
             Ok(()) => Ok(ReadyMap { changing }),
             Err(_) => Err(changing.given_up()),

@@ -17,4 +17,4 @@ pub use indexed_map::IndexedMap;
 pub use join_in_place::JoinInPlace;
 pub use joining::ReadyMap;
 pub use place::Place;
-pub use states::join_from;
+pub use states::{join_from, joined_with};

@@ -63,10 +63,10 @@ pub(crate) fn merged(rt: &(impl Abort + AllocGlobal), known: Known<'_>) -> Causa
     all
 }
 
-/// The same with an index.
+/// The same as a map that gets an index by its first join in place.
 pub(crate) fn indexed(rt: &(impl Abort + AllocGlobal), known: Known<'_>) -> Causal<Indexed> {
     let (table, context) = merged(rt, known).into_parts();
-    let table = IndexedMap::of_map(rt.alloc(), table).expect(rt, "room");
+    let table = IndexedMap::of_map(rt.alloc(), table);
     Causal::of(table, context).expect(rt, "the dots of all rows")
 }
 

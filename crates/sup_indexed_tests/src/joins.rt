@@ -5,11 +5,12 @@ use crate::given::{
 use std::process::Abort;
 use sup_causal::Lattice;
 use sup_dot_store::{Both, Causal, DotStore};
-use sup_indexed::{IndexedMap, JoinInPlace, join_from};
+use sup_indexed::{IndexedMap, JoinInPlace, join_from, joined_with};
 
-// Expects a map with an index to have these rows.
+// Expects a map to have these rows, and to count them.
 fn expect_rows(rt: &(impl Abort + AllocGlobal), state: Causal<Indexed>, wanted: Rows<'_>) {
     let (table, _) = state.into_parts();
+    assert!(rt; table.count() == Some(wanted.len()));
     assert!(rt; rows_of(rt, &table.into_map()) == rows(rt, wanted));
 }
 
@@ -34,12 +35,24 @@ fn expect_join(
 ) {
     let by_merge = merged(rt, left).joined(rt.alloc(), &merged(rt, right));
     assert!(rt; rows_of(rt, by_merge.expect(rt, "room").store()) == rows(rt, wanted));
-    let other = indexed(rt, right);
-    let anew = indexed(rt, left).joined(rt.alloc(), &other);
+    expect_joins(rt, left, &indexed(rt, right), changes, wanted);
+}
+
+fn expect_joins(
+    rt: &(impl Abort + AllocGlobal),
+    left: Known<'_>,
+    other: &Causal<Indexed>,
+    changes: bool,
+    wanted: Rows<'_>,
+) {
+    let anew = indexed(rt, left).joined(rt.alloc(), other);
     expect_rows(rt, anew.expect(rt, "room"), wanted);
+    let (in_place, done) = joined_with(rt.alloc(), indexed(rt, left), other);
+    done.expect(rt, "room");
+    expect_rows(rt, in_place, wanted);
     let mut grown = indexed(rt, left);
-    grow(rt, &mut grown, &other, changes);
-    grow(rt, &mut grown, &other, false);
+    grow(rt, &mut grown, other, changes);
+    grow(rt, &mut grown, other, false);
     expect_rows(rt, grown, wanted);
 }
 
@@ -145,14 +158,25 @@ fn two_maps_are_joined_in_place_together(rt: HostRuntime) {
     assert!(rt; rows_of(&rt, &both.second.into_map()) == wanted);
 }
 
+// The state whose join with another was made ready and given up.
+fn given_up(
+    rt: &(impl Abort + AllocGlobal),
+    state: Causal<Indexed>,
+    other: &Causal<Indexed>,
+) -> Causal<Indexed> {
+    let (table, context) = state.into_parts();
+    let (theirs, known) = (other.store(), other.context());
+    assert!(rt; theirs.covered_by(known));
+    let ready = table.ready(rt.alloc(), &context, theirs, known);
+    let table: Indexed = IndexedMap::give_up(ready.ok().expect(rt, "room"));
+    Causal::of(table, context).expect(rt, "the dots of all rows")
+}
+
 #[test]
 fn a_join_that_is_given_up_leaves_the_rows(rt: HostRuntime) {
     let more: Known<'_> = (&[(1, ("b", 1), 8), (2, ("b", 2), 9)], &[("a", 1)]);
-    let (other, known) = indexed(&rt, more).into_parts();
-    let (table, context) = indexed(&rt, (&[(1, ("a", 1), 7)], &[])).into_parts();
-    let ready = table.ready(rt.alloc(), &context, &other, &known);
-    let table: Indexed = IndexedMap::give_up(ready.ok().expect(&rt, "room"));
-    let mut state = Causal::of(table, context).expect(&rt, "the dots of all rows");
+    let state = indexed(&rt, (&[(1, ("a", 1), 7)], &[]));
+    let mut state = given_up(&rt, state, &indexed(&rt, more));
     grow(&rt, &mut state, &indexed(&rt, more), true);
     expect_rows(&rt, state, &[(1, ("b", 1), 8), (2, ("b", 2), 9)]);
 }
@@ -160,7 +184,7 @@ fn a_join_that_is_given_up_leaves_the_rows(rt: HostRuntime) {
 #[test]
 fn a_dot_under_two_keys_goes_from_both(rt: HostRuntime) {
     let table = under_two_keys(&rt, ("a", 1));
-    let table = IndexedMap::of_map(rt.alloc(), table).expect(&rt, "room");
+    let table = IndexedMap::of_map(rt.alloc(), table);
     let (_, context) = indexed(&rt, (&[], &[("a", 1)])).into_parts();
     let mut state = Causal::of(table, context).expect(&rt, "the dot of the rows");
     grow(
@@ -170,6 +194,28 @@ fn a_dot_under_two_keys_goes_from_both(rt: HostRuntime) {
         true,
     );
     expect_rows(&rt, state, &[(2, ("a", 1), 5)]);
+}
+
+#[test]
+fn a_state_of_few_dots_is_found_by_an_index(rt: HostRuntime) {
+    let many: Rows<'_> = &[
+        (1, ("a", 1), 7),
+        (2, ("a", 2), 7),
+        (3, ("a", 3), 7),
+        (4, ("a", 4), 7),
+        (5, ("a", 5), 7),
+        (6, ("a", 6), 7),
+        (7, ("a", 7), 7),
+        (8, ("a", 8), 7),
+    ];
+    let mut state = indexed(&rt, (many, &[]));
+    grow(&rt, &mut state, &indexed(&rt, (&[], &[("b", 1)])), true);
+    // What it has, what it has not, what is greater there, and what is gone there.
+    assert!(rt; indexed(&rt, (&[(3, ("a", 3), 7)], &[])).leq(&state));
+    assert!(rt; !indexed(&rt, (&[(3, ("a", 9), 7)], &[])).leq(&state));
+    assert!(rt; !indexed(&rt, (&[(3, ("a", 3), 6)], &[])).leq(&state));
+    assert!(rt; !indexed(&rt, (&[], &[("a", 3)])).leq(&state));
+    expect_rows(&rt, state, many);
 }
 
 #[test]

@@ -17,8 +17,7 @@ pub mod GreatestLaws
 pub mod CoverTests
 pub mod WorkedRows
 pub mod PlacedRows
-pub mod InPlaceLaws
-pub mod OpenedLaws
+pub mod JoinedInPlace
 pub mod OneForm
 pub mod StateJoins
 pub mod OneOperationLaws

@@ -7,20 +7,20 @@ use Rattle.std.specs.declared.cmp.PartialOrd.{Ghosts as PartialOrdGhosts}
 use Rattle.std.specs.declared.cmp.Ord.{Ghosts as OrdGhosts}
 use Rattle.std.specs.Map.{lookup, keys_of}
 use Rattle.std.specs.Map.{values_of as all_values}
-use Rattle.std.specs.BTreeMap.{BTreeMap, get, is_at}
+use Rattle.std.specs.BTreeMap.{BTreeMap, is_at}
 use Rattle.sup_specs.specs.Values.{Bytes, text_cmp}
 use Rattle.sup_specs.specs.declared.child.ChildSpec.{ChildSpec}
 use Rattle.sup_specs.specs.declared.child.MemberInfo.{MemberInfo}
 use Rattle.sup_causal.specs.declared.dot.Dot.{Dot}
 use Rattle.sup_causal.specs.Dots.{Context, has}
-use Rattle.sup_dot_store.specs.declared.dot_store.DotStore.{Ghosts as StoreGhosts}
 use Rattle.sup_dot_store.specs.ByDot.{at_dot}
 use Rattle.sup_dot_store.specs.declared.dot_fun.DotFun.{DotFun}
-use Rattle.sup_dot_store.specs.declared.dot_map.DotMap.{DotMap}
 use Rattle.sup_dot_store.specs.declared.both.Both.{Both}
-use Rattle.sup_dot_store.specs.Contents.{stores_of, values_of}
+use Rattle.sup_dot_store.specs.Contents.{values_of}
 use Rattle.sup_dot_store.specs.Index.{count_in}
 use Rattle.sup_dot_store.specs.Places.{optional_held}
+use Rattle.sup_indexed.specs.declared.indexed_map.IndexedMap.{IndexedMap}
+use Rattle.sup_indexed.specs.Contents.{functions_of}
 use Rattle.sup_tables.specs.declared.row.Entry.{Entry}
 use Rattle.sup_tables.specs.declared.row.Entry.TheVariants.{Member, Child, Name}
 use Rattle.sup_tables.specs.declared.row.Row.{Row}
@@ -86,9 +86,9 @@ abbrev pub stored : BTreeMap Bytes (DotFun MemberInfo) → BTreeMap Bytes (DotFu
 stored members children names = record { member_values = members.entries; child_values = children.entries; name_values = names.entries }
 
 -- the values that stores keep
-abbrev pub stored_in : {me ce ne : EqGhosts Bytes} {mo co no : OrdGhosts Bytes} {mp cp np : PartialOrdGhosts Bytes} {ms : StoreGhosts (DotFun MemberInfo)} {cs : StoreGhosts (DotFun ChildSpec)} {ns : StoreGhosts (DotFun Bytes)}
-    → Both (DotMap Bytes (DotFun MemberInfo) me mo mp ms) (Both (DotMap Bytes (DotFun ChildSpec) ce co cp cs) (DotMap Bytes (DotFun Bytes) ne no np ns)) → Stored
-stored_in s = stored (stores_of s.first) (stores_of s.second.first) (stores_of s.second.second)
+abbrev pub stored_in : {me ce ne ie : EqGhosts Bytes} {mo co no io : OrdGhosts Bytes} {mp cp np ip : PartialOrdGhosts Bytes} {ve : EqGhosts MemberInfo} {vo : OrdGhosts MemberInfo} {vp : PartialOrdGhosts MemberInfo} {se : EqGhosts ChildSpec} {so : OrdGhosts ChildSpec} {sp : PartialOrdGhosts ChildSpec}
+    → Both (IndexedMap Bytes MemberInfo me mo mp ve vo vp) (Both (IndexedMap Bytes ChildSpec ce co cp se so sp) (IndexedMap Bytes Bytes ne no np ie io ip)) → Stored
+stored_in s = stored (functions_of s.first) (functions_of s.second.first) (functions_of s.second.second)
 
 -- how many values the three tables have
 abbrev pub count_stored : Stored → ℕ

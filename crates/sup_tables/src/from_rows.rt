@@ -1,5 +1,8 @@
 //! Tables from a context and rows.
 ghost use Rattle.std.specs.Prelude.{◌≡◌, ◌↔◌, IsTrue, IfOk, IsErrOf};
+ghost use Rattle.sup_specs.specs.Rising.{IsRising};
+ghost use Rattle.sup_dot_store.specs.RowLists.{rows_of, row_cmp};
+ghost use Rattle.sup_indexed.specs.Contents.{functions_of};
 ghost use Rattle.sup_tables.specs.Rows.{AreInOrder};
 ghost use Rattle.sup_tables.specs.States.{HasDotsOf, with_rows};
 
@@ -7,10 +10,12 @@ use crate::fault::RowsFault;
 use crate::row::Row;
 use crate::row_order::are_in_order;
 use crate::row_parts::parts_of;
-use crate::tables::{Tables, tables_of};
+use crate::tables::{Table, Tables, tables_of};
 use std::alloc::{AllocError, Global};
-use sup_causal::CausalContext;
+use sup_causal::{CausalContext, Dot};
 use sup_dot_store::DotMap;
+use sup_indexed::IndexedMap;
+use sup_specs::Plain;
 
 impl Tables {
     /// The tables that know the context's dots and have these rows. `NotCanonical` exactly where the rows don't
@@ -56,8 +61,20 @@ fn tables_with(alloc: Global, context: CausalContext, rows: Vec<Row>) -> Result<
 {
     let count = rows.len();
     let parts = parts_of(alloc, rows)?;
-    let members = DotMap::of_rows(alloc, parts.members)?;
-    let children = DotMap::of_rows(alloc, parts.children)?;
-    let names = DotMap::of_rows(alloc, parts.names)?;
+    let members = table_of(alloc, parts.members)?;
+    let children = table_of(alloc, parts.children)?;
+    let names = table_of(alloc, parts.names)?;
     Ok(tables_of(alloc, members, children, names, context, count))
+}
+
+// The table with these rows, which rise by key and under one key by dot.
+fn table_of<K: Plain, V: Plain>(
+    alloc: Global,
+    rows: Vec<(K, Dot, V)>,
+) -> Result<Table<K, V>, AllocError>
+    requires { IsRising (row_cmp K.cmp) rows.items }
+    ensures { IfOk result (λ table. rows_of (functions_of table).entries ≡ rows.items) }
+{
+    let map = DotMap::of_rows(alloc, rows)?;
+    Ok(IndexedMap::of_map(alloc, map))
 }

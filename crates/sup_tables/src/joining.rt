@@ -1,19 +1,20 @@
 //! The tables as a lattice, and their copies.
-ghost use Rattle.std.specs.Prelude.{◌≡◌, ◌<◌, ◌↔◌, ◌++◌, List, IsTrue, IfOk, IfSome, IfNone, OnOk, OnErr};
+ghost use Rattle.std.specs.Prelude.{◌≡◌, ◌+◌, ◌<◌, ◌≤◌, ◌↔◌, ◌++◌, List, length, IsTrue, IfOk, IfSome, IfNone, OnOk, OnErr};
 ghost use Rattle.sup_causal.specs.declared.dot.Dot.{Dot as DotValue};
 ghost use Rattle.sup_causal.specs.Dots.{has};
 ghost use Rattle.sup_tables.specs.Operations.{Operation, Covers, NoClash};
-ghost use Rattle.sup_tables.specs.Stored.{stored_in, count_stored};
+ghost use Rattle.sup_dot_store.specs.Contents.{store_of, context_of};
+ghost use Rattle.sup_tables.specs.Stored.{stored_in, count_stored, state_of};
 ghost use Rattle.sup_tables.specs.States.{StandsFor, Knowledge, knowledge, together, together_laws};
 ghost use Rattle.sup_tables.specs.Joined.{join_states, covers_state};
 
-use crate::in_place::NotJoined;
-use crate::index::found_index;
 use crate::table::count_with;
 use crate::tables::{Stores, Tables, store_in};
 use std::alloc::{AllocError, Global};
 use std::mem::replace;
 use sup_causal::Lattice;
+use sup_dot_store::Causal;
+use sup_indexed::joined_with;
 
 impl Lattice for Tables {
     ghost Meaning = { Knowledge };
@@ -38,7 +39,6 @@ impl Lattice for Tables {
         let tables = Tables {
             state,
             count,
-            index: None,
             alloc: self.alloc,
         };
         // For its clause: what was joined is kept as a state is.
@@ -88,34 +88,23 @@ impl Tables {
         if !other.is_small_beside(self) {
             return self.join_by_merge(alloc, other);
         }
-        self.make_index(alloc)?;
+        // Where there may be more rows than a count can say, the merge counts them.
+        let Some(_rows) = self.row_count().checked_add(other.row_count()) else {
+            return self.join_by_merge(alloc, other);
+        };
         let tables = replace(self, Tables::empty(alloc));
         let (tables, joined) = tables.joined_in_place(alloc, other);
         *self = tables;
-        match joined {
-            Ok(()) => Ok(()),
-            Err(NotJoined::OutOfMemory) => Err(AllocError),
-            Err(NotJoined::ByMerge) => self.join_by_merge(alloc, other),
-        }
+        joined
     }
 
     // Becomes the merge of both: a new state. An `Err` changes nothing.
-    pub(crate) fn join_by_merge(&mut self, alloc: Global, other: &Tables) -> Result<(), AllocError>
+    fn join_by_merge(&mut self, alloc: Global, other: &Tables) -> Result<(), AllocError>
         ensures knowledge { OnOk result (knowledge self.new ≡ together (knowledge self.old) (knowledge other.now)) }
         ensures err { OnErr result (self.new ≡ self.old) }
     {
         let joined = self.joined(alloc, other)?;
         *self = joined;
-        Ok(())
-    }
-
-    // Makes the index of the rows' dots, where there is none and no dot stands under two keys.
-    pub(crate) fn make_index(&mut self, alloc: Global) -> Result<(), AllocError>
-        ensures { self.new ≡ self.old }
-    {
-        if self.index.is_none() {
-            self.index = found_index(alloc, store_in(&self.state))?;
-        }
         Ok(())
     }
 
@@ -132,6 +121,43 @@ impl Tables {
         let copy = self.joined(alloc, &nothing)?;
         copy.context();
         Ok(copy)
+    }
+}
+
+// The tables of a state with what others know, changed in place. An `Err` gives the tables of the state.
+pub(crate) fn joined_state(
+    alloc: Global,
+    own: Global,
+    state: Causal<Stores>,
+    other: &Tables,
+) -> (Tables, Result<(), AllocError>)
+    requires { length (state_of (context_of state) (stored_in (store_of state))).rows + length other.now.rows ≤ usize.MAX }
+    ensures knowledge { OnOk result.1 (knowledge result.0 ≡ together (knowledge (state_of (context_of state) (stored_in (store_of state)))) (knowledge other.now)) }
+    ensures err { OnErr result.1 (result.0 ≡ state_of (context_of state) (stored_in (store_of state))) }
+{
+    let before = state.context();
+    // For its clause: a context's dots stand in order.
+    before.in_order();
+    let (after, joined) = joined_with(alloc, state, &other.state);
+    let tables = tables_in(own, after);
+    // For its clause, as in `joined`.
+    tables.context();
+    (tables, joined)
+}
+
+// The tables of a state whose rows a count can say.
+fn tables_in(alloc: Global, state: Causal<Stores>) -> Tables
+    requires { count_stored (stored_in (store_of state)) ≤ usize.MAX }
+    ensures { result ≡ state_of (context_of state) (stored_in (store_of state)) }
+{
+    let count = match count_of(store_in(&state)) {
+        Some(count) => count,
+        None => unreachable!(),
+    };
+    Tables {
+        state,
+        count,
+        alloc,
     }
 }
 

@@ -1,6 +1,6 @@
 //! The rows in order, lent: for whoever writes them out and keeps none.
 ghost use Rattle.std.specs.Prelude.{◌≡◌, ◌++◌, IfOk, OnOk, map};
-ghost use Rattle.sup_dot_store.specs.Contents.{stores_of};
+ghost use Rattle.sup_indexed.specs.Contents.{functions_of};
 ghost use Rattle.sup_tables.specs.Rows.{row_of, AreInOrder};
 ghost use Rattle.sup_tables.specs.States.{HasDotsOf};
 ghost use Rattle.sup_tables.specs.Stored.{rows_in};
@@ -50,7 +50,7 @@ fn lend_rows<'a, K: Plain, V: Entered<K>>(
     rows: &mut Vec<LentRow<'a>>,
     table: &'a Table<K, V>,
 ) -> Result<(), AllocError>
-    ensures { OnOk result (rows_lent rows.new.items ≡ rows_lent rows.old.items ++ rows_in (λ k d v. row_of d (V.says k v)) (stores_of table.now).entries) }
+    ensures { OnOk result (rows_lent rows.new.items ≡ rows_lent rows.old.items ++ rows_in (λ k d v. row_of d (V.says k v)) (functions_of table.now).entries) }
 {
     for (key, values) in table.stores() {
         lend_rows_at(rows, key, values.values())?;

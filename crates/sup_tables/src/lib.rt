@@ -5,8 +5,6 @@ mod adding;
 mod delta;
 pub mod fault;
 mod from_rows;
-mod in_place;
-mod index;
 mod joining;
 pub mod laws;
 pub mod lent;

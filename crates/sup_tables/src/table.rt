@@ -5,7 +5,7 @@ ghost use Rattle.sup_tables.specs.Rows.{row_of};
 ghost use Rattle.std.specs.BTreeMap.{get, values};
 ghost use Rattle.std.specs.Map.{keys_of};
 ghost use Rattle.sup_tables.specs.Stored.{values_under, triple, pair, firsts_in, dots_to, dots_to_in, rows_in};
-ghost use Rattle.sup_dot_store.specs.Contents.{stores_of};
+ghost use Rattle.sup_indexed.specs.Contents.{functions_of};
 ghost use Rattle.sup_dot_store.specs.Index.{count_in};
 
 use crate::row::{Entered, Row};
@@ -35,7 +35,7 @@ pub(crate) fn first_under<'a, K: Plain, V: Plain>(
     table: &'a Table<K, V>,
     key: &K,
 ) -> Option<(Dot, &'a V)>
-    ensures { option_map (λ r. (r.0, r.1.now)) result ≡ slice_get (values_under (get K.cmp (stores_of table.now) key.now)) 0 }
+    ensures { option_map (λ r. (r.0, r.1.now)) result ≡ slice_get (values_under (get K.cmp (functions_of table.now) key.now)) 0 }
 {
     let values = table.get(key)?;
     let (dot, value) = values.first()?;
@@ -47,7 +47,7 @@ pub(crate) fn firsts_of<'a, K: Plain, V: Plain>(
     alloc: Global,
     table: &'a Table<K, V>,
 ) -> Result<Vec<Winner<'a, K, V>>, AllocError>
-    ensures { IfOk result (λ firsts. map (λ w. triple w.key.now w.dot.now w.value.now) firsts.items ≡ firsts_in triple (stores_of table.now).entries) }
+    ensures { IfOk result (λ firsts. map (λ w. triple w.key.now w.dot.now w.value.now) firsts.items ≡ firsts_in triple (functions_of table.now).entries) }
 {
     let mut firsts = Vec::new(alloc);
     for (key, values) in table.stores() {
@@ -64,7 +64,7 @@ pub(crate) fn rest_under<'a, K: Plain, V: Plain>(
     table: &'a Table<K, V>,
     key: &K,
 ) -> Result<Vec<Loser<'a, V>>, AllocError>
-    ensures { IfOk result (λ rest. map (λ l. pair l.dot.now l.value.now) rest.items ≡ drop 1 (values_under (get K.cmp (stores_of table.now) key.now))) }
+    ensures { IfOk result (λ rest. map (λ l. pair l.dot.now l.value.now) rest.items ≡ drop 1 (values_under (get K.cmp (functions_of table.now) key.now))) }
 {
     match table.get(key) {
         None => Ok(Vec::new(alloc)),
@@ -97,7 +97,7 @@ pub(crate) fn dots_under<K: Plain, V: Plain>(
     table: &Table<K, V>,
     key: &K,
 ) -> Result<Vec<Dot>, AllocError>
-    ensures { IfOk result (λ dots. dots.items ≡ keys_of (values_under (get K.cmp (stores_of table.now) key.now))) }
+    ensures { IfOk result (λ dots. dots.items ≡ keys_of (values_under (get K.cmp (functions_of table.now) key.now))) }
 {
     match table.get(key) {
         None => Ok(Vec::new(alloc)),
@@ -125,7 +125,7 @@ pub(crate) fn add_dots_to(
     names: &Names,
     id: &ChildId,
 ) -> Result<(), AllocError>
-    ensures { OnOk result (dots.new.items ≡ dots.old.items ++ dots_to_in id.now (values (stores_of names.now))) }
+    ensures { OnOk result (dots.new.items ≡ dots.old.items ++ dots_to_in id.now (values (functions_of names.now))) }
 {
     for ids in names.stores().values() {
         add_dots_at(dots, ids.values(), id)?;
@@ -151,14 +151,10 @@ fn add_dots_at(
 
 // How many values there are with those of this table. None only where there are more than a count can say.
 pub(crate) fn count_with<K: Plain, V: Plain>(count: usize, table: &Table<K, V>) -> Option<usize>
-    ensures some { IfSome result (λ n. n ≡ count + count_in (values (stores_of table.now))) }
-    ensures none { IfNone result (usize.MAX < count + count_in (values (stores_of table.now))) }
+    ensures some { IfSome result (λ n. n ≡ count + count_in (values (functions_of table.now))) }
+    ensures none { IfNone result (usize.MAX < count + count_in (values (functions_of table.now))) }
 {
-    let mut total = count;
-    for entries in table.stores().values() {
-        total = total.checked_add(entries.values().len())?;
-    }
-    Some(total)
+    count.checked_add(table.count()?)
 }
 
 // Adds the rows of a table.
@@ -167,7 +163,7 @@ pub(crate) fn add_rows<K: Plain, V: Entered<K>>(
     rows: &mut Vec<Row>,
     table: &Table<K, V>,
 ) -> Result<(), AllocError>
-    ensures { OnOk result (rows.new.items ≡ rows.old.items ++ rows_in (λ k d v. row_of d (V.says k v)) (stores_of table.now).entries) }
+    ensures { OnOk result (rows.new.items ≡ rows.old.items ++ rows_in (λ k d v. row_of d (V.says k v)) (functions_of table.now).entries) }
 {
     for (key, values) in table.stores() {
         add_rows_at(alloc, rows, key, values.values())?;

@@ -1,23 +1,21 @@
 //! The three tables under one context.
-ghost use Rattle.std.specs.Prelude.{◌≡◌, [], length, IfSome, OnOk, OnErr};
-ghost use Rattle.sup_specs.specs.Values.{text_cmp};
-ghost use Rattle.std.proofs.Props.{props};
+ghost use Rattle.std.specs.Prelude.{◌≡◌, ◌+◌, ◌≤◌, [], length, OnOk, OnErr};
 ghost use Rattle.sup_tables.specs.Stored.{AreCovered, stored, stored_in, count_stored, state_of};
-ghost use Rattle.sup_dot_store.specs.Contents.{stores_of, store_of, context_of};
-ghost use Rattle.sup_dot_store.specs.Index.{IsIndex};
+ghost use Rattle.sup_dot_store.specs.Contents.{store_of, context_of};
+ghost use Rattle.sup_indexed.specs.Contents.{functions_of};
 ghost use Rattle.sup_tables.specs.States.{StandsFor, IsKept, knowledge, together};
 ghost use Rattle.sup_tables.specs.Joined.{IsTables, no_state};
 
-use crate::in_place::{NotJoined, joined_with, opened_state, unindexed};
-use crate::index::Index;
-use std::alloc::Global;
+use crate::joining::joined_state;
+use std::alloc::{AllocError, Global};
 use std::marker::Model;
 use sup_causal::CausalContext;
-use sup_dot_store::{Both, Causal, DotFun, DotMap};
+use sup_dot_store::{Both, Causal};
+use sup_indexed::IndexedMap;
 use sup_specs::{ChildId, ChildSpec, MemberInfo, Name, NodeName};
 
-// Values under keys and dots.
-pub(crate) type Table<K, V> = DotMap<K, DotFun<V>>;
+// Values under keys and dots. An index of its rows' dots is made when a join in place first wants it.
+pub(crate) type Table<K, V> = IndexedMap<K, V>;
 
 pub(crate) type Members = Table<NodeName, MemberInfo>;
 
@@ -33,11 +31,8 @@ pub struct Tables {
     pub(crate) state: Causal<Stores>,
     // How many rows there are, so that nobody has to count them.
     pub(crate) count: usize,
-    // Where the rows' dots stand. None until a join in place wants it.
-    pub(crate) index: Option<Index>,
     pub(crate) alloc: Global,
     pub ghost counted: { count ≡ count_stored (stored_in (store_of state)) },
-    pub ghost indexed: { IfSome index (λ i. IsIndex text_cmp (stores_of (store_of state).first) i.members × (IsIndex text_cmp (stores_of (store_of state).second.first) i.children × IsIndex text_cmp (stores_of (store_of state).second.second) i.names)) } by { Prim.hlevel props },
 }
 
 // By hand, so that it is proved once: a derived one is proved anew in each crate that lets tables go.
@@ -46,7 +41,6 @@ impl Drop for Tables {
         let Tables {
             state: _,
             count: _,
-            index: _,
             alloc: _,
         } = self;
     }
@@ -68,9 +62,9 @@ impl Tables {
         ensures stands { StandsFor result [] }
         ensures state { result ≡ no_state }
     {
-        let members = DotMap::new(alloc);
-        let children = DotMap::new(alloc);
-        let names = DotMap::new(alloc);
+        let members = IndexedMap::new(alloc);
+        let children = IndexedMap::new(alloc);
+        let names = IndexedMap::new(alloc);
         let tables = tables_of(
             alloc,
             members,
@@ -109,23 +103,17 @@ impl Tables {
         self,
         alloc: Global,
         other: &Tables,
-    ) -> (Tables, Result<(), NotJoined>)
+    ) -> (Tables, Result<(), AllocError>)
+        requires { length self.rows + length other.now.rows ≤ usize.MAX }
         ensures knowledge { OnOk result.1 (knowledge result.0 ≡ together (knowledge self) (knowledge other.now)) }
         ensures err { OnErr result.1 (result.0 ≡ self) }
     {
         let Tables {
             state,
-            count,
-            index,
+            count: _,
             alloc: own,
         } = self;
-        match index {
-            Some(index) => {
-                let (opened, context) = opened_state(state, count, index);
-                joined_with(alloc, own, opened, context, other)
-            }
-            None => (unindexed(own, state, count), Err(NotJoined::ByMerge)),
-        }
+        joined_state(alloc, own, state, other)
     }
 
     /// How many rows there are, losers among them.
@@ -145,9 +133,9 @@ pub(crate) fn tables_of(
     context: CausalContext,
     count: usize,
 ) -> Tables
-    requires covered { AreCovered context (stored (stores_of members) (stores_of children) (stores_of names)) }
-    requires counted { count ≡ count_stored (stored (stores_of members) (stores_of children) (stores_of names)) }
-    ensures { result ≡ state_of context (stored (stores_of members) (stores_of children) (stores_of names)) }
+    requires covered { AreCovered context (stored (functions_of members) (functions_of children) (functions_of names)) }
+    requires counted { count ≡ count_stored (stored (functions_of members) (functions_of children) (functions_of names)) }
+    ensures { result ≡ state_of context (stored (functions_of members) (functions_of children) (functions_of names)) }
 {
     let store = Both {
         first: members,
@@ -159,7 +147,6 @@ pub(crate) fn tables_of(
     Tables {
         state: state_with(store, context),
         count,
-        index: None,
         alloc,
     }
 }

@@ -11,14 +11,14 @@ use Rattle.sup_tables.proofs.CountLaws.{stored_count}
 use Rattle.sup_tables.proofs.PlacedRows.{members_rise, children_rise, names_rise, stored_again, stored_covered}
 use Rattle.sup_tables.proofs.from_rows.tables_with.Goals as goal
 
-pub of_rows-requires : goal.of_rows-requires
-of_rows-requires c = subst (IsRising (row_cmp text_cmp)) (sym c.in_ok-parts.ensures.members) (members_rise c.args.rows.items c.requires.in_order)
+pub table_of-requires : goal.table_of-requires
+table_of-requires c = subst (IsRising (row_cmp text_cmp)) (sym c.in_ok-parts.ensures.members) (members_rise c.args.rows.items c.requires.in_order)
 
-pub of_rows-requires-2 : goal.of_rows-requires-2
-of_rows-requires-2 c = subst (IsRising (row_cmp text_cmp)) (sym c.in_ok-parts.ensures.children) (children_rise c.args.rows.items c.requires.in_order)
+pub table_of-requires-2 : goal.table_of-requires-2
+table_of-requires-2 c = subst (IsRising (row_cmp text_cmp)) (sym c.in_ok-parts.ensures.children) (children_rise c.args.rows.items c.requires.in_order)
 
-pub of_rows-requires-3 : goal.of_rows-requires-3
-of_rows-requires-3 c = subst (IsRising (row_cmp text_cmp)) (sym c.in_ok-parts.ensures.names) (names_rise c.args.rows.items c.requires.in_order)
+pub table_of-requires-3 : goal.table_of-requires-3
+table_of-requires-3 c = subst (IsRising (row_cmp text_cmp)) (sym c.in_ok-parts.ensures.names) (names_rise c.args.rows.items c.requires.in_order)
 
 pub tables_of-requires : goal.tables_of-requires
 tables_of-requires c =
