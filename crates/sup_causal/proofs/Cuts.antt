@@ -4,7 +4,7 @@ use Rattle.std.specs.Cmp.Lexicographic.{texts_ties}
 use Rattle.std.specs.declared.cmp.Ordering.TheVariants.{Less}
 use Rattle.std.specs.Ordering.{eq_by_cmp}
 use Rattle.std.specs.List.{AllByRecursion}
-use Rattle.std.proofs.lemmas.Bool.{or_left, or_right, and_from, le-leb, cases_order}
+use Rattle.std.proofs.lemmas.Bool.{or_left, or_right, and_from, le-leb, lt-leb, cases_order}
 use Rattle.std.proofs.lemmas.Bool.Decides.{nat_tests}
 use Rattle.std.proofs.lemmas.List.{take_more, get_or_read, get_or-take}
 use Rattle.std.proofs.lemmas.Map.Lookups.{exact_bytes}
@@ -48,6 +48,25 @@ and-true false = refl
 pub and-false : (b : Bool) → (b && false) ≡ false
 and-false true = refl
 and-false false = refl
+
+-- ---- a dot that is not there
+pub beyond_its_run : (v : List (List ℕ × ℕ)) (c : List Dot) (x : Dot) → entry v x.node < x.counter → list_has c x ≡ false → in_parts v c x ≡ false
+beyond_its_run v c x above none =
+    ap (λ b. (leb 1 x.counter && b) || among dot_cmp c x) (lt-leb x.counter (entry v x.node) above)
+    ∙ ap (λ b. b || among dot_cmp c x) (and-false (leb 1 x.counter))
+    ∙ sym (among_is c x)
+    ∙ none
+
+-- the cloud lacks what goes on with its run
+pub cloud_lacks : (v : List (List ℕ × ℕ)) (c : List Dot) (x : Dot) → IsCanonical v c → x.counter < entry v x.node + 2 → list_has c x ≡ false
+cloud_lacks v c x canonical near = at (list_has c x) refl
+  where
+    at : (b : Bool) → list_has c x ≡ b → b ≡ false
+    at true there = let far = each_has (λ d. (entry v d.node + 2 ≤ d.counter) × (d.counter ≤ MAX)) c canonical.apart x there in absurd (omega (arith, far.0, near))
+    at false none = refl
+
+pub next_is_new : (v : List (List ℕ × ℕ)) (c : List Dot) (x : Dot) → IsCanonical v c → entry v x.node < x.counter → x.counter < entry v x.node + 2 → in_parts v c x ≡ false
+next_is_new v c x canonical above near = beyond_its_run v c x above (cloud_lacks v c x canonical near)
 
 module _ (v w : List (List ℕ × ℕ)) (c : List Dot) (x : Dot) (next : x.counter ≡ entry v x.node + 1) (puts : (q : List ℕ) → entry w q ≡ cond (eq_by_cmp text_cmp x.node q) x.counter (entry v q)) where
   pub raised_vector : (d : Dot) → in_vector w d ≡ (in_vector v d || dot_eq x d)

@@ -18,10 +18,16 @@ use Rattle.sup_causal.specs.DotLaws.{dot_total, dot_exact}
 use Rattle.sup_causal.specs.Dots.{dot_cmp, dot_eq, list_has, IsCounted, IsGreatest}
 use Rattle.sup_specs.specs.declared.limits.TheConstants.{MAX}
 use Rattle.std.specs.List.{list_any}
+use Rattle.std.specs.Result.{OnErr}
 use mathlib.Core.Bool.{false≢true}
 use mathlib.Core.Path.{fun_ext}
 use Rattle.sup_causal.specs.Join.{pointwise_join}
 use Rattle.sup_causal.specs.declared.dot.Dot.{Dot}
+
+-- what holds after a refusal, where it holds anyway
+pub on_err : {A E P : Type 0} (r : Result A E) → P → OnErr r P
+on_err (Ok x) p = tt
+on_err (Err e) p = p
 
 -- the test is the comparison
 pub dot_ties : (a b : Dot) → dot_eq a b ≡ is_eq (dot_cmp a b)

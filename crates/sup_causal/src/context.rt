@@ -117,11 +117,13 @@ impl CausalContext {
         parts_have(&self.vector, &self.cloud, dot)
     }
 
-    /// Adds a dot, which passes [`Dot::is_counted`]. Where memory is refused the context stays as it was.
+    /// Adds a dot, which passes [`Dot::is_counted`]. Refused only for memory, and only where the context lacks the dot;
+    /// it stays as it was then.
     pub fn insert(&mut self, dot: Dot) -> Result<(), AllocError>
         requires { IsCounted dot }
         ensures ok { OnOk result ((d : Dot) → has self.new d ≡ (dot_eq dot d || has self.old d)) }
         ensures err { OnErr result (self.new ≡ self.old) }
+        ensures fresh { OnErr result (has self.old dot ≡ false) }
     {
         let entry = entry_in(&self.vector, &dot.node);
         if dot.counter <= entry {

@@ -1,6 +1,6 @@
 //! Lists of dots in rising order: a list sorted, the union of two, and the greatest counter of a node.
 
-ghost use Rattle.std.specs.Prelude.{◌≡◌, ◌+◌, ◌≤◌, ◌||◌, length, IfOk, OnOk, OnErr};
+ghost use Rattle.std.specs.Prelude.{◌≡◌, ◌+◌, ◌≤◌, ◌||◌, false, length, IfOk, OnOk, OnErr};
 ghost use Rattle.std.specs.List.{AllByRecursion};
 ghost use Rattle.sup_specs.specs.Rising.{IsRising};
 ghost use Rattle.sup_causal.specs.Dots.{dot_cmp, dot_eq, list_has, IsCounted, IsGreatest, IsKept};
@@ -77,12 +77,14 @@ pub(crate) fn greatest_of(dots: &[Dot], node: &NodeName) -> u64
     0
 }
 
-// Puts a dot in at its place, where it is not there. Where memory is refused the list stays as it was.
+// Puts a dot in at its place, where it is not there. Where memory is refused the list stays as it was, and the dot is
+// not there.
 pub(crate) fn put(dots: &mut Vec<Dot>, dot: Dot) -> Result<(), AllocError>
     requires { IsRising dot_cmp dots.old.items }
     ensures rising { IsRising dot_cmp dots.new.items }
     ensures ok { OnOk result ((d : Dot) → list_has dots.new.items d ≡ (list_has dots.old.items d || dot_eq dot d)) }
     ensures err { OnErr result (dots.new.items ≡ dots.old.items) }
+    ensures fresh { OnErr result (list_has dots.old.items dot ≡ false) }
 {
     match dots.binary_search(&dot) {
         Ok(_) => Ok(()),

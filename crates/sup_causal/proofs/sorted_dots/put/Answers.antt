@@ -1,8 +1,8 @@
-use Rattle.std.proofs.Common.{Err, ap, ◌∙◌}
+use Rattle.std.proofs.Common.{Err, ap, sym, ◌∙◌}
 use Rattle.sup_causal.specs.Dots.{list_has, dot_eq}
 use Rattle.sup_causal.specs.DotLaws.{dot_total}
 use Rattle.sup_causal.proofs.Rising.{searched, rising_insert}
-use Rattle.sup_causal.proofs.DotLemmas.{search_has, has_again, list_has-insert}
+use Rattle.sup_causal.proofs.DotLemmas.{on_err, search_has, has_again, list_has-insert}
 use Rattle.sup_causal.proofs.Cuts.{or_turn}
 use Rattle.sup_causal.proofs.sorted_dots.put.Goals as goal
 
@@ -22,3 +22,8 @@ returns-in_ok-insert-in-Err-clause-rising c =
 pub returns-in_ok-insert-in-Err-clause-ok : goal.returns-in_ok-insert-in-Err-clause-ok
 returns-in_ok-insert-in-Err-clause-ok c d =
     ap (λ dots. list_has dots d) c.in_ok-insert-in-Err.ensures.items ∙ list_has-insert _ _ c.args.dot d ∙ or_turn (dot_eq c.args.dot d) (list_has c.args.dots.now.items d)
+
+pub returns-in_err-insert-in-Err-clause-fresh : goal.returns-in_err-insert-in-Err-clause-fresh
+returns-in_err-insert-in-Err-clause-fresh c =
+    let dots = c.args.dots.now.items in
+    on_err c.from_residual.result (sym (search_has dots c.requires c.args.dot (Err c.in-Err.at) (rw c.deref.ensures.value at c.in-Err.ensures.bound) (rw c.deref.ensures.value at c.in-Err.ensures.position)))
