@@ -7,7 +7,7 @@ use std::alloc::{AllocError, Global};
 use std::marker::PhantomData;
 use sup_local_sup::Effects;
 use sup_placement::Weigh;
-use sup_replica::{Config, Done, Event, Refusal};
+use sup_replica::{Config, Done, Event, Refusal, Reply};
 use sup_specs::NodeName;
 use sup_wire::Image;
 
@@ -90,6 +90,10 @@ impl<W: Weigh> Node<W> {
     {
         let Planned { done, change } = planned;
         self.state.carry_out(change)?;
+        // Where one message brings nothing new, the next ones may bring nothing either: they are looked up.
+        if matches!(&done.reply, Reply::Known) {
+            self.state.index_rows();
+        }
         Ok(done)
     }
 

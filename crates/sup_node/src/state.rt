@@ -85,6 +85,13 @@ impl NodeState {
         }
     }
 
+    // Rows are found by their dots from now on. It is what it was.
+    pub(crate) fn index_rows(&mut self)
+        ensures { station_in self.new ≡ station_in self.old }
+    {
+        self.replica.index_rows();
+    }
+
     // The tables have more, what is kept follows them, and the delta stands behind the held ones.
     fn learn(&mut self, learned: Learned)
         requires { Fits (station_in self.old) (Learns learned) }

@@ -9,12 +9,13 @@ ghost use Rattle.sup_tables.specs.Joined.{IsTables, no_state};
 use crate::joining::joined_state;
 use std::alloc::{AllocError, Global};
 use std::marker::Model;
+use std::mem::replace;
 use sup_causal::CausalContext;
 use sup_dot_store::{Both, Causal};
 use sup_indexed::IndexedMap;
 use sup_specs::{ChildId, ChildSpec, MemberInfo, Name, NodeName};
 
-// Values under keys and dots. An index of its rows' dots is made when a join in place first wants it.
+// Values under keys and dots. An index of its rows' dots is made when it is wanted.
 pub(crate) type Table<K, V> = IndexedMap<K, V>;
 
 pub(crate) type Members = Table<NodeName, MemberInfo>;
@@ -114,6 +115,39 @@ impl Tables {
             alloc: own,
         } = self;
         joined_state(alloc, own, state, other)
+    }
+
+    /// Has an index of where each dot has a row, so that a comparison with few rows of others looks at few of these, and
+    /// a join in place needs no walk. It takes memory; where that is refused, there is none. A merge makes tables without
+    /// one.
+    pub fn index_rows(&mut self)
+        ensures { self.new ≡ self.old }
+    {
+        let tables = replace(self, Tables::empty(self.alloc));
+        *self = tables.with_index();
+    }
+
+    // The same tables with an index.
+    fn with_index(self) -> Tables
+        ensures { result ≡ self }
+    {
+        let Tables {
+            state,
+            count,
+            alloc,
+        } = self;
+        let (store, context) = state.into_parts();
+        let Both {
+            first: members,
+            second: Both {
+                first: children,
+                second: names,
+            },
+        } = store;
+        let members = members.with_index();
+        let children = children.with_index();
+        let names = names.with_index();
+        tables_of(alloc, members, children, names, context, count)
     }
 
     /// How many rows there are, losers among them.

@@ -19,6 +19,13 @@ impl Replica {
         self.supervisor.restart(id, now);
     }
 
+    // Its tables find rows by their dots from now on, until they change. It knows what it knew.
+    pub(crate) fn index_rows(&mut self)
+        ensures { self.new ≡ self.old }
+    {
+        self.tables.index_rows();
+    }
+
     // Has the image's tables, and keeps what was made ready for them.
     pub(crate) fn take_in(&mut self, image: Image, own: Option<Tables>, plan: Plan)
         requires { image.count ≤ MOST }
