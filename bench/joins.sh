@@ -3,7 +3,8 @@
 # it does so more often. And memory: what one more copy of the tables takes.
 # - merges: two disjoint tables of 500 and of 5,000 rows, for each row of both;
 # - rows: one row taken in and taken out again, in tables of 1,000 and of 9,995 rows, for each;
-# - looks: whether a state of one row is known already, in tables of 1,000 and of 9,995 rows;
+# - looks: whether a state of one row is known already, in tables of 1,000 and of 9,995 rows, as a merge leaves them and with an
+#   index of their rows, as a node's are once a message brought nothing new;
 # - copies: tables of 1,000 and of 10,000 rows.
 # With another program's path it times that beside it, which reads scripts and ships whole states, each as what the script takes more with
 # so many lines of the kind.
@@ -91,6 +92,7 @@ looks() {
     theirs=$(other_each "$times")
   fi
   told "one row that is known among $count" "microseconds" "$(own_each looks "$times" "$times")" "$theirs"
+  told "the same with an index" "microseconds" "$(own_each found "$((100 * times))" "$((100 * times))")" "$theirs"
 }
 
 copies() {

@@ -1,5 +1,5 @@
 //! Joins the tables of two images, each on a line of standard input, so many times, for a clock outside. Prints how many rows the
-//! first one's have in the end. Words: `merges`, `rows`, `looks` or `copies`, and how often, which is also how many copies are kept.
+//! first one's have in the end. Words: `merges`, `rows`, `looks`, `found` or `copies`, and how often, which is also how many copies are kept.
 #![tactic(auto)]
 
 use std::alloc::Global;
@@ -19,6 +19,8 @@ enum Job {
     Rows,
     // Whether the second knows all that the first one knows.
     Looks,
+    // The same where the second has an index of its rows, as a node's tables have once a message brought nothing new.
+    Found,
     // The first once more, and all copies are kept, so that their memory can be seen.
     Copies,
 }
@@ -29,6 +31,7 @@ impl Job {
             "merges" => Some(Job::Merges),
             "rows" => Some(Job::Rows),
             "looks" => Some(Job::Looks),
+            "found" => Some(Job::Found),
             "copies" => Some(Job::Copies),
             _ => None,
         }
@@ -74,9 +77,12 @@ fn done(
     job: Job,
     times: u32,
     mine: &mut Tables,
-    theirs: &Tables,
+    theirs: &mut Tables,
 ) -> io::Result<usize> {
     let me = NodeName::parse("a").map_err(|_| invalid())?;
+    if matches!(job, Job::Found) {
+        theirs.index_rows();
+    }
     let mut copies = Vec::new(alloc);
     for _ in 0..times {
         match job {
@@ -84,7 +90,7 @@ fn done(
                 mine.joined(alloc, theirs)?;
             }
             Job::Rows => turn(alloc, me, mine)?,
-            Job::Looks => {
+            Job::Looks | Job::Found => {
                 let _covered = mine.leq(theirs);
             }
             Job::Copies => copies.push(mine.try_clone(alloc)?)?,
@@ -100,8 +106,8 @@ fn main(rt: HostRuntime) -> io::Result<()> {
     rt.stdin().read_to_string(&mut text)?;
     let mut lines = text.lines();
     let mut mine = tables_of(rt.alloc(), lines.next())?;
-    let theirs = tables_of(rt.alloc(), lines.next())?;
-    let rows = done(rt.alloc(), job, times, &mut mine, &theirs)?;
+    let mut theirs = tables_of(rt.alloc(), lines.next())?;
+    let rows = done(rt.alloc(), job, times, &mut mine, &mut theirs)?;
     println!(rt; "{rows}")?;
     Ok(())
 }
