@@ -6,11 +6,6 @@ pub mod Retains
 pub mod RowListLaws
 pub mod RowRuns
 pub mod ShortLaws
-pub mod Counts
 pub mod OneRow
 pub mod IndexLaws
-pub mod IndexMade
 pub mod RowValues
-pub mod JoinedInPlace
-pub mod FreshRows
-pub mod FreshTwice

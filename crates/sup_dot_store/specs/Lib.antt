@@ -4,4 +4,3 @@ pub mod Places
 pub mod Contents
 pub mod RowLists
 pub mod Index
-pub mod Outcomes

@@ -1,11 +1,11 @@
 //! A function from dots to values.
 
-ghost use Rattle.std.specs.Prelude.{◌≡◌, ◌+◌, length, Option, Some, None, IsSome, IfOk, OnOk, OnErr, IfSome, IfNone, [], ◌∷◌, slice_get, if◌then◌else◌};
+ghost use Rattle.std.specs.Prelude.{◌≡◌, Option, Some, None, IfOk, IfSome, IfNone, [], ◌∷◌, slice_get, if◌then◌else◌};
 ghost use Rattle.std.proofs.Props.{props};
 ghost use Rattle.sup_specs.specs.Rising.{among};
 ghost use Rattle.sup_causal.specs.declared.dot.Dot.{Dot as DotValue};
 ghost use Rattle.sup_causal.specs.Join.{lesser as lesser_of, lesser_laws as laws_of_lesser};
-ghost use Rattle.sup_causal.specs.Dots.{dot_cmp, dot_eq};
+ghost use Rattle.sup_causal.specs.Dots.{dot_cmp};
 ghost use Rattle.sup_dot_store.specs.ByDot.{at_dot, DotsRise};
 
 use crate::dot_by_dot::{merge_values, values_below};
@@ -62,26 +62,6 @@ impl<V: Plain> DotFun<V> {
         ensures none { IfNone result ((values_of self.now).entries ≡ []) }
     {
         self.values.first()
-    }
-
-    // Puts a value under a dot that has none. An `Err` changes nothing.
-    pub(crate) fn put(&mut self, dot: Dot, value: V) -> Result<(), AllocError>
-        requires { at_dot (values_of self.old) dot ≡ None }
-        ensures put { OnOk result ((d : DotValue) → at_dot (values_of self.new) d ≡ (if dot_eq dot d then Some value else at_dot (values_of self.old) d)) }
-        ensures count { OnOk result (length (values_of self.new).entries ≡ length (values_of self.old).entries + 1) }
-        ensures err { OnErr result ((values_of self.new).entries ≡ (values_of self.old).entries) }
-    {
-        self.values.put(dot, value)?;
-        Ok(())
-    }
-
-    // Takes the value of a dot away.
-    pub(crate) fn take(&mut self, dot: &Dot)
-        requires { IsSome (at_dot (values_of self.old) dot.now) }
-        ensures taken { (d : DotValue) → at_dot (values_of self.new) d ≡ (if dot_eq dot.now d then None else at_dot (values_of self.old) d) }
-        ensures count { length (values_of self.new).entries + 1 ≡ length (values_of self.old).entries }
-    {
-        self.values.take(dot);
     }
 
     /// The values, by dot: as a list they stand in dot order.

@@ -1,7 +1,5 @@
 use Rattle.sup_causal.specs.Dots.{dot_cmp}
-use Rattle.sup_causal.specs.DotLaws.{dot_total, dot_exact}
 use Rattle.sup_dot_store.specs.ByDot.{at_dot}
-use Rattle.std.specs.BTreeMap.{is_at}
 use Rattle.sup_causal.specs.Merge.{IsBelowAt}
 use Rattle.sup_causal.proofs.Walk.{Passes}
 use Rattle.sup_dot_store.proofs.dot_by_dot.values_below.Given as goal

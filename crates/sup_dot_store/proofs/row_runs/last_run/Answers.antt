@@ -1,4 +1,4 @@
-use Rattle.std.proofs.Common.{◌++◌, [], ap, ◌∙◌, reverse, append-nil}
+use Rattle.std.proofs.Common.{◌++◌, ap, ◌∙◌, reverse}
 use Rattle.sup_dot_store.specs.RowLists.{rows_under}
 use Rattle.sup_dot_store.proofs.RowRuns.{row_more, run_rises, run_is}
 use Rattle.sup_dot_store.proofs.row_runs.last_run.Goals as goal

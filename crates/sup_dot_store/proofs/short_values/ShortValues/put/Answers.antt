@@ -1,8 +1,7 @@
-use Rattle.std.proofs.Common.{◌≡◌, None, Some, sym, ap, subst, ◌∙◌}
+use Rattle.std.proofs.Common.{sym, ap, subst, ◌∙◌}
 use Rattle.std.specs.List.{insert}
 use Rattle.std.specs.List.Sorted.{IsBinarySearchResult}
 use Rattle.std.proofs.Common.{Err}
-use Rattle.std.proofs.lemmas.List.Edits.{length-insert}
 use Rattle.sup_causal.specs.Dots.{dot_cmp}
 use Rattle.sup_dot_store.specs.ByDot.{at_dot}
 use Rattle.sup_dot_store.proofs.ShortLaws.{Rises, found_at, found, not_there, put_rises, put_at}

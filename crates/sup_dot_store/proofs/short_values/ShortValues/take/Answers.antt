@@ -1,4 +1,4 @@
-use Rattle.std.proofs.Common.{◌≡◌, None, Some, sym, ap, subst, ◌∙◌}
+use Rattle.std.proofs.Common.{sym, ap, subst, ◌∙◌}
 use Rattle.std.specs.List.{remove}
 use Rattle.sup_dot_store.specs.ByDot.{at_dot}
 use Rattle.sup_dot_store.proofs.ShortLaws.{Rises, found_at, taken_from, missed, not_some, none_taken, take_rises, take_at}
