@@ -1,6 +1,6 @@
 -- That runs and the rest are a set's cut, and that canonical parts are just the cuts.
 use Rattle.std.proofs.Common.{◌≡◌, ℕ, ◌+◌, ◌<◌, ◌≤◌, Bool, true, false, ◌||◌, ◌&&◌, cond, leb, List, [], ◌∷◌, get_or, refl, sym, ap, ◌∙◌, subst, arith, inl, inr}
-use Rattle.std.specs.List.{AllByRecursion, filter}
+use Rattle.std.specs.List.{AllByRecursion}
 use Rattle.std.proofs.lemmas.Bool.{both_ways, or_left, or_right, or_cases, or_from, and_from, cases_order, false_from_ne_true, le-leb, lt-leb}
 use Rattle.std.proofs.lemmas.Cmp.{nat_list_cmp_total, tied_itself}
 use Rattle.std.proofs.lemmas.List.Elements.{recursion_from_All, All-from_recursion}
@@ -13,24 +13,6 @@ use Rattle.sup_causal.specs.Cut.{entry, IsRun, IsVector, IsCloud, IsCanonical, i
 use Rattle.sup_causal.proofs.DotLemmas.{dot_eq-true, among_is, each_has, each_from_has}
 use Rattle.sup_causal.proofs.Sorted.{pairs_rise}
 use Rattle.sup_causal.proofs.CutLemmas.{run_is_one, entry_found}
-
--- ---- those that pass a test
-pub has-filter : (p : Dot → Bool) (xs : List Dot) (d : Dot) → list_has (filter p xs) d ≡ (list_has xs d && p d)
-has-filter p [] d = refl
-has-filter p (x ∷ xs) d = turn (p x) refl (dot_eq x d) refl (has-filter p xs d)
-  where
-    turn : (b : Bool) → p x ≡ b → (e : Bool) → dot_eq x d ≡ e → list_has (filter p xs) d ≡ (list_has xs d && p d) → list_has (cond b (x ∷ filter p xs) (filter p xs)) d ≡ ((dot_eq x d || list_has xs d) && p d)
-    turn true h true e further = ap (λ b. b || list_has (filter p xs) d) e ∙ sym (ap p (sym (dot_eq-true x d e)) ∙ h) ∙ ap (λ b. (b || list_has xs d) && p d) (sym e)
-    turn true h false e further = ap (λ b. b || list_has (filter p xs) d) e ∙ further ∙ ap (λ b. (b || list_has xs d) && p d) (sym e)
-    turn false h true e further = further ∙ ap (λ b. list_has xs d && b) none ∙ and-false (list_has xs d) ∙ sym none ∙ ap (λ b. (b || list_has xs d) && p d) (sym e)
-      where
-        none : p d ≡ false
-        none = ap p (sym (dot_eq-true x d e)) ∙ h
-
-        and-false : (b : Bool) → (b && false) ≡ false
-        and-false true = refl
-        and-false false = refl
-    turn false h false e further = further ∙ ap (λ b. (b || list_has xs d) && p d) (sym e)
 
 -- ---- canonical parts are the cut of what they have
 module _ (holds : Dot → Bool) (vector : List (List ℕ × ℕ)) (cloud : List Dot) (canonical : IsCanonical vector cloud) (same : (d : Dot) → holds d ≡ in_parts vector cloud d) where

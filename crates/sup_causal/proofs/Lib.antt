@@ -6,7 +6,6 @@ pub mod Union
 pub mod Sorted
 pub mod CutLemmas
 pub mod CutLaws
-pub mod Filters
 pub mod GreatestLaws
 pub mod Versions
 pub mod Cuts

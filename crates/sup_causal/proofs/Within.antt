@@ -1,4 +1,4 @@
--- Parts beside others: that one pair's dots are the other's, the dots beyond them, and a node's greatest.
+-- Parts beside others: that one pair's dots are the other's, and a node's greatest.
 use Rattle.std.proofs.Common.{◌≡◌, ℕ, ◌+◌, ◌<◌, ◌≤◌, Bool, true, false, not, ◌||◌, ◌&&◌, leb, eqb, List, refl, sym, ap, ◌∙◌, subst, arith, inl, inr}
 use Rattle.std.specs.Prelude.{max}
 use Rattle.std.specs.Ordering.{eq_by_cmp}
@@ -42,67 +42,6 @@ or_four true b c d = refl
 or_four false true true d = refl
 or_four false true false d = refl
 or_four false false c d = refl
-
--- ---- what is beyond
-pub run_not_beyond : (holds : Dot → Bool) (node : List ℕ) (n m : ℕ) → IsRun holds node n → m ≤ n → (d : Dot) → (in_run node m d && not (holds d)) ≡ false
-run_not_beyond holds node n m run le d = at (in_run node m d) refl
-  where
-    there : in_run node m d ≡ true → holds d ≡ true
-    there h =
-        let both = and_parts (eq_by_cmp text_cmp d.node node) (leb 1 d.counter && leb d.counter m) h in
-        let ends = and_parts (leb 1 d.counter) (leb d.counter m) both.1 in
-        let own : d.node ≡ node = exact_bytes d.node node (equal_from_is_eq _ both.0) in
-        let low : 1 ≤ d.counter = leb-true _ _ ends.0 in
-        let high : d.counter ≤ m = leb-true _ _ ends.1 in
-        ap holds (λ k. record { counter = d.counter; node = own k }) ∙ run.all_there d.counter low (omega (arith, high, le))
-
-    at : (b : Bool) → in_run node m d ≡ b → (b && not (holds d)) ≡ false
-    at true h = ap not (there h)
-    at false h = refl
-
-one_more : (b : Bool) (n c : ℕ) → (b && (leb 1 c && leb c (n + 1))) ≡ ((b && (leb 1 c && leb c n)) || (eqb (n + 1) c && b))
-one_more true n c = grind (arith, nat_tests)
-one_more false n c = grind (arith, nat_tests)
-
-run_more : (node : List ℕ) (n : ℕ) (d : Dot) → in_run node (n + 1) d ≡ (in_run node n d || dot_eq (record { counter = n + 1; node = node }) d)
-run_more node n d =
-    one_more (eq_by_cmp text_cmp d.node node) n d.counter
-    ∙ ap (λ b. in_run node n d || b) (sym (dot_parts (record { counter = n + 1; node = node }) d ∙ ap (λ b. eqb (n + 1) d.counter && b) ((eq_by_cmp_equiv nat_list_cmp_total).symm node d.node)))
-
-beyond_more : (r q h : Bool) → (q ≡ true → h ≡ false) → ((r && not h) || q) ≡ ((r || q) && not h)
-beyond_more r true true e = absurd (false≢true (sym (e refl)))
-beyond_more true true false e = refl
-beyond_more false true false e = refl
-beyond_more true false true e = refl
-beyond_more true false false e = refl
-beyond_more false false h e = refl
-
-beyond_same : (r q h : Bool) → (q ≡ true → h ≡ true) → (r && not h) ≡ ((r || q) && not h)
-beyond_same r true false e = absurd (false≢true (e refl))
-beyond_same true true true e = refl
-beyond_same false true true e = refl
-beyond_same true false h e = refl
-beyond_same false false h e = refl
-
-module _ (holds : Dot → Bool) (node : List ℕ) (n : ℕ) (d : Dot) where
-  -- the next dot of a run, which holds does not have
-  pub next_beyond : holds (record { counter = n + 1; node = node }) ≡ false → ((in_run node n d && not (holds d)) || dot_eq (record { counter = n + 1; node = node }) d) ≡ (in_run node (n + 1) d && not (holds d))
-  next_beyond none =
-      beyond_more (in_run node n d) (dot_eq (record { counter = n + 1; node = node }) d) (holds d) (λ same. ap holds (sym (dot_eq-true (record { counter = n + 1; node = node }) d same)) ∙ none)
-      ∙ ap (λ b. b && not (holds d)) (sym (run_more node n d))
-
-  -- and one that it has
-  pub next_not_beyond : holds (record { counter = n + 1; node = node }) ≡ true → (in_run node n d && not (holds d)) ≡ (in_run node (n + 1) d && not (holds d))
-  next_not_beyond there =
-      beyond_same (in_run node n d) (dot_eq (record { counter = n + 1; node = node }) d) (holds d) (λ same. ap holds (sym (dot_eq-true (record { counter = n + 1; node = node }) d same)) ∙ there)
-      ∙ ap (λ b. b && not (holds d)) (sym (run_more node n d))
-
-pub or_and : (a b n : Bool) → ((a && n) || (b && n)) ≡ ((a || b) && n)
-or_and true true true = refl
-or_and true true false = refl
-or_and true false true = refl
-or_and true false false = refl
-or_and false b n = refl
 
 -- ---- a node's greatest counter
 pub greatest_parts : (v : List (List ℕ × ℕ)) (c : List Dot) (node : List ℕ) (n : ℕ) → IsGreatest (list_has c) node n → IsGreatest (in_parts v c) node (max n (entry v node))

@@ -1,5 +1,5 @@
 -- The dots of a version vector and a dot cloud (Almeida, Shoker, Baquero 2018).
-use Rattle.std.specs.Prelude.{◌≡◌, ℕ, zero, suc, ◌+◌, ◌≤◌, Bool, ◌&&◌, List, [], ◌∷◌, ◌++◌, nat_le, length}
+use Rattle.std.specs.Prelude.{ℕ, zero, suc, ◌+◌, ◌≤◌, Bool, ◌&&◌, List, [], ◌∷◌, ◌++◌, nat_le}
 use Rattle.std.specs.List.{AllByRecursion}
 use Rattle.std.specs.Map.{keys_of}
 use Rattle.sup_specs.specs.Values.{text_cmp}
@@ -7,7 +7,7 @@ use Rattle.sup_specs.specs.Rising.{IsRising, rising}
 use Rattle.sup_specs.specs.declared.limits.TheConstants.{MAX}
 use Rattle.sup_causal.specs.declared.dot.Dot.{Dot}
 use Rattle.sup_causal.specs.Dots.{dot_cmp, Context}
-use Rattle.sup_causal.specs.Cut.{entry, IsVector, IsCloud}
+use Rattle.sup_causal.specs.Cut.{entry}
 
 -- by name, an entry from 1 to MAX for each node that has one
 pub record IsVersions (vector : List (List ℕ × ℕ)) : Type 0 where
@@ -36,11 +36,3 @@ dots_of vector cloud = rising dot_cmp (runs_dots vector ++ cloud)
 abbrev pub total_of : List (List ℕ × ℕ) → ℕ
 total_of [] = 0
 total_of (e ∷ es) = e.1 + total_of es
-
--- as many entries and cloud dots together as the cut of those that pass the test has
-pub record IsWidthOf (holds : Dot → Bool) (n : ℕ) : Type 0 where
-  pub vector : List (List ℕ × ℕ)
-  pub cloud : List Dot
-  pub is_vector : IsVector holds vector
-  pub is_cloud : IsCloud holds cloud
-  pub as_many : length vector + length cloud ≡ n

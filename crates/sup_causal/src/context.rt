@@ -1,24 +1,22 @@
 //! Causal contexts: which dots a node has seen, kept as a version vector and a dot cloud.
 
-ghost use Rattle.std.specs.Prelude.{◌≡◌, ◌≤◌, ◌+◌, ◌||◌, ◌&&◌, ◌↔◌, length, not, Bool, false, true, IsTrue, Err, IfOk, IfErr, OnOk, OnErr, IfSome, IsNone};
+ghost use Rattle.std.specs.Prelude.{◌≡◌, ◌≤◌, ◌+◌, ◌||◌, ◌↔◌, length, Bool, false, true, IsTrue, Err, IfOk, IfErr, OnOk, OnErr, IfSome, IsNone};
 ghost use Rattle.std.specs.Prelude.{All};
 ghost use Rattle.sup_specs.specs.Rising.{among, IsRising};
-ghost use Rattle.sup_causal.specs.Cut.{in_parts, IsRun, IsVector, IsCloud, IsCanonical};
+ghost use Rattle.sup_causal.specs.Cut.{in_parts, IsVector, IsCloud, IsCanonical};
 ghost use Rattle.sup_causal.specs.declared.parts.PartsFault.TheVariants.{NotCanonical};
 ghost use Rattle.sup_causal.specs.Dots.{has, list_has, dot_cmp, dot_eq, IsCounted, IsGreatest, IsKept, IsNext};
 ghost use Rattle.sup_causal.specs.Greatest.{greatest_in};
-ghost use Rattle.sup_causal.specs.Parts.{IsVersions, in_vector, IsWidthOf};
+ghost use Rattle.sup_causal.specs.Parts.{IsVersions, in_vector};
 
-mod listing;
 mod within;
 
 use crate::absorb::absorb;
-use crate::context::listing::{cloud_beyond, common, runs_beyond};
 use crate::context::within::{cloud_within, is_at_most, parts_have, runs_within};
 use crate::dot::Dot;
 use crate::entries::{entry_in, lift, raise};
 use crate::lattice::Lattice;
-use crate::parts::{PartsFault, dots_of, is_canonical};
+use crate::parts::{PartsFault, is_canonical};
 use crate::sorted_dots::{greatest_of, is_in, put, sorted, union};
 use std::alloc::{AllocError, Global};
 use std::marker::Model;
@@ -191,48 +189,11 @@ impl CausalContext {
         Ok(cloud)
     }
 
-    /// How many entries the vector and how many dots the cloud has, together: what a walk over the context costs.
-    pub fn width(&self) -> usize
-        ensures { IsWidthOf (has self.now) result }
-    {
-        self.vector.len() + self.cloud.len()
-    }
-
     /// Whether the context has at most so many dots. It takes no memory, and one look at each entry of the vector.
     pub fn has_at_most(&self, most: usize) -> bool
         ensures { IsTrue result ↔ (length self.now ≤ most) }
     {
         is_at_most(&self.vector, self.cloud.len(), most)
-    }
-
-    /// The dots of this context that the other has too, rising. Refused only for memory. It lists all dots of this one,
-    /// so ask [`has_at_most`](Self::has_at_most) first, and makes one look-up in the other for each.
-    pub fn shared(&self, alloc: Global, other: &CausalContext) -> Result<Vec<Dot>, AllocError>
-        ensures dots { IfOk result (λ dots. (d : Dot) → among dot_cmp dots.items d ≡ (has self.now d && has other.now d)) }
-        ensures rising { IfOk result (λ dots. IsRising dot_cmp dots.items) }
-    {
-        let dots = dots_of(alloc, &self.vector, &self.cloud)?;
-        let shared = common(alloc, &dots, other)?;
-        Ok(shared)
-    }
-
-    /// The dots of this context that the other lacks, rising. Refused only for memory. One look-up in the other for
-    /// each dot of this one's runs above the other's entries, and for each of its cloud.
-    pub fn beyond(&self, alloc: Global, other: &CausalContext) -> Result<Vec<Dot>, AllocError>
-        ensures dots { IfOk result (λ dots. (d : Dot) → among dot_cmp dots.items d ≡ (has self.now d && not (has other.now d))) }
-        ensures rising { IfOk result (λ dots. IsRising dot_cmp dots.items) }
-    {
-        let runs = sorted(runs_beyond(alloc, &self.vector, other)?);
-        let cloud = cloud_beyond(alloc, &self.cloud, other)?;
-        let dots = union(alloc, &runs, &cloud)?;
-        Ok(dots)
-    }
-
-    // The node's entry.
-    fn run(&self, node: &NodeName) -> u64
-        ensures { IsRun (has self.now) node.now result }
-    {
-        entry_in(&self.vector, node)
     }
 }
 

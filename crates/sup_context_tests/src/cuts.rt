@@ -88,17 +88,3 @@ fn a_dot_beyond_a_gap_is_not_below(rt: HostRuntime) {
     assert!(rt; !far.leq(&near) && !near.leq(&far));
     assert!(rt; CausalContext::empty(rt.alloc()).leq(&far));
 }
-
-#[test]
-fn what_is_beyond_rises(rt: HostRuntime) {
-    let mine = context(&rt, &[("a", MAX), ("b", 3)], &[("c", 2)]);
-    let theirs = context(&rt, &[("a", MAX - 2), ("b", 1)], &[("b", 3), ("a", MAX)]);
-    let news = mine.beyond(rt.alloc(), &theirs).expect(&rt, "room");
-    assert!(rt; news == dots(&rt, &[("b", 2), ("c", 2), ("a", MAX - 1)]));
-    assert!(rt;
-        theirs
-            .beyond(rt.alloc(), &mine)
-            .expect(&rt, "room")
-            .is_empty()
-    );
-}

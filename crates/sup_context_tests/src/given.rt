@@ -63,7 +63,6 @@ pub(crate) fn expect_cut(
 ) {
     assert!(rt; context.vector().expect(rt, "room") == entries(rt, vector));
     assert!(rt; context.cloud().expect(rt, "room") == dots(rt, cloud));
-    assert!(rt; context.width() == vector.len() + cloud.len());
 }
 
 /// The join, through the trait's bound.

@@ -172,16 +172,11 @@ fn a_join_has_the_dots_of_both(rt: HostRuntime) {
 }
 
 #[test]
-fn dots_of_two_contexts_are_shared_or_beyond(rt: HostRuntime) {
+fn contexts_that_share_dots_may_both_have_more(rt: HostRuntime) {
     let left = context(&rt, &[("a", 3)], &[("b", 2)]);
     let right = context(&rt, &[("b", 2)], &[("a", 2), ("a", 4)]);
-    let shared = left.shared(rt.alloc(), &right).expect(&rt, "room");
-    assert!(rt; shared == dots(&rt, &[("a", 2), ("b", 2)]));
-    let beyond = left.beyond(rt.alloc(), &right).expect(&rt, "room");
-    assert!(rt; beyond == dots(&rt, &[("a", 1), ("a", 3)]));
-    let beyond = right.beyond(rt.alloc(), &left).expect(&rt, "room");
-    assert!(rt; beyond == dots(&rt, &[("b", 1), ("a", 4)]));
     expect_not_below(&rt, &left, &right);
+    expect_not_below(&rt, &right, &left);
     expect_below(&rt, &left, &left);
 }
 

@@ -1,9 +1,0 @@
-use Rattle.std.proofs.Common.{◌≡◌, take}
-use Rattle.std.specs.List.{AllByRecursion}
-use Rattle.sup_causal.specs.Cut.{in_runs}
-use Rattle.sup_causal.specs.declared.dot.Dot.{Dot}
-use Rattle.sup_causal.specs.Dots.{list_has, IsCounted}
-use Rattle.sup_causal.proofs.parts.dots_of_runs.Given as goal
-
-abbrev pub invariant-loop-node : goal.invariant-loop-node
-invariant-loop-node l = AllByRecursion IsCounted l.dots.items × ((d : Dot) → list_has l.dots.items d ≡ in_runs (take l.node-index l.vector) d)

@@ -1,9 +1,0 @@
-use Rattle.std.proofs.Common.{◌≡◌, ◌||◌}
-use Rattle.std.specs.List.{AllByRecursion}
-use Rattle.sup_causal.specs.Cut.{in_run}
-use Rattle.sup_causal.specs.declared.dot.Dot.{Dot}
-use Rattle.sup_causal.specs.Dots.{list_has, IsCounted}
-use Rattle.sup_causal.proofs.parts.push_run.Given as goal
-
-abbrev pub invariant-loop-done : goal.invariant-loop-done
-invariant-loop-done l = AllByRecursion IsCounted l.dots.items × ((d : Dot) → list_has l.dots.items d ≡ (list_has l.fn.dots.items d || in_run l.node l.done d))
