@@ -156,3 +156,39 @@ fn few_rows_join_many(rt: HostRuntime) {
     absorb(&rt, &mut a, &b);
     expect_shown(&rt, &a, &[]);
 }
+
+// The ids of as many children as an index is asked for beside one dot.
+const IDS: [&str; 8] = ["p", "q", "r", "s", "t", "u", "v", "w"];
+
+// Expects tables that got an index to be what they were, and to compare with others and take them in as before.
+fn expect_as_indexed(
+    rt: &(impl Abort + AllocGlobal),
+    mine: &Tables,
+    other: &Tables,
+    is_known: bool,
+) {
+    let merged = merged(rt, mine, other);
+    let mut indexed = copy(rt, mine);
+    indexed.index_rows();
+    expect_same(rt, &indexed, mine);
+    assert!(rt; other.leq(mine) == is_known && other.leq(&indexed) == is_known);
+    absorb(rt, &mut indexed, other);
+    expect_same(rt, &indexed, &merged);
+}
+
+#[test]
+fn an_index_changes_no_answer(rt: HostRuntime) {
+    let mut many = empty(&rt);
+    for id in IDS {
+        start(&rt, &mut many, "many", id, "one");
+    }
+    let mut few = empty(&rt);
+    start(&rt, &mut few, "few", "x", "two");
+    expect_as_indexed(&rt, &many, &few, false);
+    absorb(&rt, &mut many, &few);
+    expect_as_indexed(&rt, &many, &few, true);
+    drop(delete(&rt, &mut few, "x"));
+    expect_as_indexed(&rt, &many, &few, false);
+    absorb(&rt, &mut many, &few);
+    expect_as_indexed(&rt, &many, &few, true);
+}
