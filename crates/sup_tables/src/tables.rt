@@ -136,6 +136,8 @@ impl Tables {
             count,
             alloc,
         } = self;
+        // For its clause: the context has the dots of all rows.
+        store_in(&state);
         let (store, context) = state.into_parts();
         let Both {
             first: members,
