@@ -1,5 +1,5 @@
 -- Dots, and lists of what is read: what is read was written so, and what is written so is read.
-use Rattle.std.proofs.Common.{◌≡◌, ℕ, List, [], ◌∷◌, Option, Some, None, refl, ap, ap₂, subst, ◌∙◌}
+use Rattle.std.proofs.Common.{append_assoc, ◌≡◌, ℕ, List, [], ◌∷◌, ◌++◌, Option, Some, None, refl, sym, ap, ap₂, subst, ◌∙◌}
 use Rattle.std.specs.Prelude.{option_map, map}
 use Rattle.std.proofs.lemmas.Option.{option_and_then_some, same_Some, none-some}
 use Rattle.sup_specs.specs.Values.{Bytes}
@@ -13,8 +13,8 @@ use Rattle.serde_json.specs.View.{items_of}
 use Rattle.sup_causal.specs.declared.dot.Dot.{Dot}
 use Rattle.sup_specs.proofs.TextLemmas.{text_from_no_fault, no_fault_from_text}
 use Rattle.sup_wire.specs.Forms.{count_value, dot_value, vector_members, IsName, IsDot, IsNote}
-use Rattle.sup_wire.specs.FieldReads.{unfaulted, name_at, count_at}
-use Rattle.sup_wire.specs.RowReads.{two_in, two_at, dot_at, each_in}
+use Rattle.sup_wire.specs.FieldReads.{◌>>=◌, unfaulted, name_at, count_at}
+use Rattle.sup_wire.specs.RowReads.{two_in, two_at, dot_at, each_in, after}
 use Rattle.sup_wire.specs.DraftReads.{dots_at, name_from, note_from, notes_in}
 use Rattle.sup_wire.proofs.FieldLaws.{unfaulted-some, name_takes, name_again, within_takes, within_again}
 
@@ -59,6 +59,15 @@ dot_takes d x e =
 pub dot_again : (x : Dot) → IsDot x → dot_at (dot_value x) ≡ Some x
 unfolding dot_at two_at
 dot_again x is = rw (name_again x.node is.node, within_again 1 MAX x.counter is.counter.least is.counter.most)
+
+-- one item more that was read
+pub one_read : {Y : Type 0} (read : Data → Option Y) (front : List Y) (y : Y) (d : Data) (ds : Items) → read d ≡ Some y → after (front ++ y ∷ []) (each_in read ds) ≡ after front (each_in read (item d ds))
+one_read {Y} read front y d ds here =
+    at (each_in read ds) ∙ ap (λ o. after front (o >>= λ z. option_map (λ zs. z ∷ zs) (each_in read ds))) (sym here)
+  where
+    at : (o : Option (List Y)) → after (front ++ y ∷ []) o ≡ after front (option_map (λ zs. y ∷ zs) o)
+    at None = refl
+    at (Some zs) = ap Some (append_assoc front (y ∷ []) zs)
 
 module _ {Y : Type 0} (read : Data → Option Y) (write : Y → Data) (Good : Y → Type 0) where
   pub each_takes : ((d : Data) (y : Y) → read d ≡ Some y → (d ≡ write y) × Good y) → (ds : Items) (ys : List Y) → each_in read ds ≡ Some ys → (ds ≡ items_of (map write ys)) × AllByRecursion Good ys
