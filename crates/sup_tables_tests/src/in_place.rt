@@ -4,6 +4,7 @@ use crate::acts::{absorb, copy, delete, empty, join, merged, register, replace, 
 use crate::reading::tables;
 use crate::seen::{Shown, expect_same, expect_shown};
 use std::process::Abort;
+use sup_causal::Lattice;
 use sup_tables::Tables;
 
 // Expects that joins with other tables, which know few dots beside these tables' rows, give what merges give: the first one, which
