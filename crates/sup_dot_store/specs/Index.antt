@@ -2,7 +2,8 @@
 use Rattle.std.specs.Prelude.{ℕ, ◌+◌, ◌&&◌, cond, List, [], ◌∷◌, length, Option, Some, None}
 use Rattle.std.specs.declared.cmp.Ordering.{Ordering}
 use Rattle.std.specs.Ordering.{eq_by_cmp}
-use Rattle.std.specs.BTreeMap.{BTreeMap, get}
+use Rattle.std.specs.Map.{lookup}
+use Rattle.std.specs.BTreeMap.{BTreeMap, is_at}
 use Rattle.sup_causal.specs.declared.dot.Dot.{Dot}
 use Rattle.sup_causal.specs.Dots.{dot_eq}
 use Rattle.sup_dot_store.specs.declared.dot_fun.DotFun.{DotFun}
@@ -14,9 +15,13 @@ use Rattle.sup_dot_store.specs.Places.{optional_held}
 abbrev pub value_of : {V : Type 0} → DotFun V → Dot → Unit {0} → Option V
 value_of f d p = at_dot (values_of f) d
 
--- the value under a key and a dot
+-- the value under a key and a dot, of functions that stand in a list under their keys
+abbrev pub value_among : {K V : Type 0} → (K → K → Ordering) → List (K × DotFun V) → K → Dot → Option V
+value_among cmp es k d = optional_held value_of (lookup (is_at (cmp k)) es) d tt
+
+-- the same of a map
 abbrev pub value_under : {K V : Type 0} → (K → K → Ordering) → BTreeMap K (DotFun V) → K → Dot → Option V
-value_under cmp stores k d = optional_held value_of (get cmp stores k) d tt
+value_under cmp stores k d = value_among cmp stores.entries k d
 
 -- how many values there are
 abbrev pub count_in : {V : Type 0} → List (DotFun V) → ℕ

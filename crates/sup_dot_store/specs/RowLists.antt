@@ -13,10 +13,14 @@ use Rattle.sup_dot_store.specs.Contents.{values_of}
 abbrev pub rows_under : {K V : Type 0} → K → List (Dot × V) → List (K × Dot × V)
 rows_under k es = map (λ e. (k, e.0, e.1)) es
 
--- the rows of functions under keys, each a key, a dot and a value
+-- the rows of functions under keys, each made of a key, a dot and a value
+abbrev pub rows_in : {K V Row : Type 0} → (K → Dot → V → Row) → List (K × DotFun V) → List Row
+rows_in make [] = []
+rows_in make (e ∷ es) = map (λ f. make e.0 f.0 f.1) (values_of e.1).entries ++ rows_in make es
+
+-- the same as these three
 abbrev pub rows_of : {K V : Type 0} → List (K × DotFun V) → List (K × Dot × V)
-rows_of [] = []
-rows_of (e ∷ es) = rows_under e.0 (values_of e.1).entries ++ rows_of es
+rows_of es = rows_in (λ key dot value. (key, dot, value)) es
 
 -- rows by key, then by dot
 abbrev pub row_cmp : {K V : Type 0} → (K → K → Ordering) → K × Dot × V → K × Dot × V → Ordering

@@ -16,7 +16,6 @@ pub mod RunStands
 pub mod OperationJoins
 pub mod SettleStands
 pub mod TableLaws
-pub mod ShipmentLaws
 pub mod ExchangeLaws
 pub mod FollowLaws
 pub mod RunLaws

@@ -8,7 +8,7 @@ use Rattle.sup_lines.specs.Words.{Word, Name}
 use Rattle.sup_lines.specs.Values.{child_id_of}
 use Rattle.sup_lines.specs.Opening.{distinct_names_of}
 use Rattle.sup_lines.specs.Script.{is_plain, words_of, numbered_lines, opened}
-use Rattle.sup_jobs.specs.Ends.{Bytes, Job, Does}
+use Rattle.sup_jobs.specs.Ends.{KnownBytes, Job, Does}
 use Rattle.sup_jobs.specs.Tells.{IsCutShort}
 use Rattle.sup_jobs.specs.declared.fault.Ended.{Ended}
 
@@ -57,5 +57,5 @@ placement weight = record {
 }
 
 -- The status tells how the run ended, and the error writer was told of that end.
-abbrev pub Places : Weigher → Bytes → Bytes → Bytes → Bytes → Bytes → Bytes → Ended → Type 0
+abbrev pub Places : Weigher → KnownBytes → KnownBytes → KnownBytes → KnownBytes → KnownBytes → KnownBytes → Ended → Type 0
 Places weight input left before written errors_before errors_written ended = Does (placement weight) input left before written errors_before errors_written ended

@@ -11,7 +11,7 @@ use Rattle.sup_command_line.specs.declared.request.Request.TheVariants.{Simulate
 use Rattle.sup_command_line.specs.Weighings.{weight_of}
 use Rattle.sup_jobs.specs.declared.fault.Ended.{Ended}
 use Rattle.sup_jobs.specs.declared.fault.Fault.TheVariants.{OutOfMemory}
-use Rattle.sup_jobs.specs.Ends.{Bytes, Job, Does, TakesAtMost}
+use Rattle.sup_jobs.specs.Ends.{KnownBytes, Job, Does, TakesAtMost}
 use Rattle.sup_placement.specs.Place.{Weigher}
 use Rattle.sup_placing.specs.Placing.{placement}
 use Rattle.sup_inspecting.specs.Inspecting.{Inspects}
@@ -22,16 +22,16 @@ use Rattle.sup_program.specs.declared.run.Ran.{Ran}
 use Rattle.sup_program.specs.declared.run.Ran.TheVariants as Ran
 
 -- a run that was refused memory at once has taken and written nothing, whatever its input is
-unstarted : {A : Type 0} (job : Job A) (input before errors_before errors_written : Bytes) (ended : Ended) → WantsMemory errors_before errors_written ended → Does job input input before before errors_before errors_written ended
+unstarted : {A : Type 0} (job : Job A) (input before errors_before errors_written : KnownBytes) (ended : Ended) → WantsMemory errors_before errors_written ended → Does job input input before before errors_before errors_written ended
 unstarted job None before errors_before errors_written ended h = (Err OutOfMemory, h.0, h.1, ([], omega arith, tt), tt)
 unstarted job (Some bytes) before errors_before errors_written ended h = (Err OutOfMemory, h.0, h.1, ([], omega arith, refl), inl (Keeps-refl before))
 
-unlooked : (weigher : Weigher) (input before errors_before errors_written : Bytes) (ended : Ended) → WantsMemory errors_before errors_written ended → Inspects weigher input input before before errors_before errors_written ended
+unlooked : (weigher : Weigher) (input before errors_before errors_written : KnownBytes) (ended : Ended) → WantsMemory errors_before errors_written ended → Inspects weigher input input before before errors_before errors_written ended
 unlooked weigher None before errors_before errors_written ended h = (Err OutOfMemory, h.0, h.1, ([], omega arith, tt), tt)
 unlooked weigher (Some bytes) before errors_before errors_written ended h = (Err OutOfMemory, h.0, h.1, ([], omega arith, refl), Keeps-refl before)
 
 -- whatever was asked for
-pub unperformed : (asked : Option Request) (input before errors_before errors_written : Bytes) (ended : Ended) → WantsMemory errors_before errors_written ended → Performs asked input input before before errors_before errors_written ended
+pub unperformed : (asked : Option Request) (input before errors_before errors_written : KnownBytes) (ended : Ended) → WantsMemory errors_before errors_written ended → Performs asked input input before before errors_before errors_written ended
 unperformed None input before errors_before errors_written ended h = inr h
 unperformed (Some (Simulate weighing config)) input before errors_before errors_written ended h = unstarted (simulation (weight_of weighing) config) input before errors_before errors_written ended h
 unperformed (Some (Cluster weighing config)) input before errors_before errors_written ended h = (h, Keeps-refl input, Keeps-refl before)
@@ -39,14 +39,14 @@ unperformed (Some (Place weighing)) input before errors_before errors_written en
 unperformed (Some (Inspect weighing)) input before errors_before errors_written ended h = unlooked (weight_of weighing) input before errors_before errors_written ended h
 
 -- words that ask for nothing
-pub refused : (asked : Option Request) (input left before written errors_before errors_written : Bytes) (ended : Ended) → asked ≡ None → Refuses errors_before errors_written ended → Performs asked input left before written errors_before errors_written ended
+pub refused : (asked : Option Request) (input left before written errors_before errors_written : KnownBytes) (ended : Ended) → asked ≡ None → Refuses errors_before errors_written ended → Performs asked input left before written errors_before errors_written ended
 refused asked input left before written errors_before errors_written ended none h = subst (λ a. Performs a input left before written errors_before errors_written ended) (sym none) h
 
-none_taken : (input : Bytes) → Consumes input input []
+none_taken : (input : KnownBytes) → Consumes input input []
 none_taken None = tt
 none_taken (Some bytes) = refl
 
-module _ {R W E : Type 0} (remaining : R → Bytes) (contents : W → Bytes) (told : E → Bytes) (words : List Text) (old left : R) (before written : W) (errors_before errors_written : E) where
+module _ {R W E : Type 0} (remaining : R → KnownBytes) (contents : W → KnownBytes) (told : E → KnownBytes) (words : List Text) (old left : R) (before written : W) (errors_before errors_written : E) where
   -- what was asked for was done, if that waits for nobody
   pub ran_so : (ran : Ran) (request : Request) → request_of words ≡ Some request
       → IfStatus ran (λ status. EndsWith status (Performs (Some request) (remaining old) (remaining left) (contents before) (contents written) (told errors_before) (told errors_written)))
@@ -60,7 +60,7 @@ module _ {R W E : Type 0} (remaining : R → Bytes) (contents : W → Bytes) (to
   }
   ran_so (Ran.Cluster options) request asked h taken = tt
 
-module _ {R W E : Type 0} (remaining : R → Bytes) (contents : W → Bytes) (told : E → Bytes) (words : List Text) (reader : R) (writer : W) (errors_before errors_written : E) where
+module _ {R W E : Type 0} (remaining : R → KnownBytes) (contents : W → KnownBytes) (told : E → KnownBytes) (words : List Text) (reader : R) (writer : W) (errors_before errors_written : E) where
   -- nothing was read or written
   pub unstarted_run : (ended : Ended) → Performs (request_of words) (remaining reader) (remaining reader) (contents writer) (contents writer) (told errors_before) (told errors_written) ended
       → Runs remaining contents told words reader reader writer writer errors_before errors_written ended.status

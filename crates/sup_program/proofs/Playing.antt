@@ -7,7 +7,7 @@ use Rattle.std.specs.Io.KnownBytes.{Appends}
 use Rattle.std.proofs.KnownBytes.{Appends-kept, Appends-nil, Appends-trans}
 use Rattle.sup_specs.specs.Values.{Bytes}
 use Rattle.sup_placement.specs.Place.{Weigher}
-use Rattle.sup_jobs.specs.Ends.{Bytes as Known}
+use Rattle.sup_jobs.specs.Ends.{KnownBytes}
 use Rattle.sup_jobs.specs.declared.fault.Fault.{Fault}
 use Rattle.sup_jobs.specs.declared.fault.Fault.TheVariants.{BadLine, BadInput, BadImage, Device, OutOfMemory}
 use Rattle.sup_jobs.specs.Tells.{IsCutShort}
@@ -23,7 +23,7 @@ use Rattle.sup_program.proofs.PlayedRuns.{line_run}
 use Rattle.sup_program.proofs.Messages.{run_same}
 
 -- lines that were played and written, and the model world that they reach
-pub record PlaysTo (weigher : Weigher) (peers : List Bytes) (old : Scene) (lines : List Line) (sites : List Seen) (before written : Known) : Type 0 where
+pub record PlaysTo (weigher : Weigher) (peers : List Bytes) (old : Scene) (lines : List Line) (sites : List Seen) (before written : KnownBytes) : Type 0 where
   pub printed : List ℕ
   pub reached : World
   pub plays : Plays weigher peers old lines printed (record { model = reached; sites = sites })
@@ -32,7 +32,7 @@ pub record PlaysTo (weigher : Weigher) (peers : List Bytes) (old : Scene) (lines
   pub writes : Appends before written printed
 
 -- before the first line
-pub begins : (weigher : Weigher) (peers : List Bytes) (old : World) (sites : List Seen) (a : Known) → StandsFor weigher sites old → TellsMessages old.is_message → PlaysTo weigher peers (record { model = old; sites = sites }) [] sites a a
+pub begins : (weigher : Weigher) (peers : List Bytes) (old : World) (sites : List Seen) (a : KnownBytes) → StandsFor weigher sites old → TellsMessages old.is_message → PlaysTo weigher peers (record { model = old; sites = sites }) [] sites a a
 begins weigher peers old sites a h tells = record {
   printed = [];
   reached = old;
@@ -56,7 +56,7 @@ plays_one_more weigher peers old (first ∷ lines) line printed said mid new h p
   ap (λ (front : List ℕ). front ++ said) h.5 ∙ append_assoc h.0 h.2 said,
 )
 
-module _ (weigher : Weigher) (peers : List Bytes) (old : Scene) (lines : List Line) (i : ℕ) (line : Line) (mid new : List Seen) (a b c : Known) (lt : i < length lines) (is : line ≡ get_or lines i line) (h : PlaysTo weigher peers old (take i lines) mid a b) (speaks : Speaks weigher peers (record { model = h.reached; sites = mid }) line new) where
+module _ (weigher : Weigher) (peers : List Bytes) (old : Scene) (lines : List Line) (i : ℕ) (line : Line) (mid new : List Seen) (a b c : KnownBytes) (lt : i < length lines) (is : line ≡ get_or lines i line) (h : PlaysTo weigher peers old (take i lines) mid a b) (speaks : Speaks weigher peers (record { model = h.reached; sites = mid }) line new) where
   all : take (i + 1) lines ≡ take i lines ++ line ∷ []
   all = take_more lines i line lt ∙ ap (λ (l : Line). take i lines ++ l ∷ []) (sym is)
 
@@ -94,7 +94,7 @@ module _ (weigher : Weigher) (peers : List Bytes) (old : Scene) (lines : List Li
   }
 
 -- a line that was cut short, or that there was no memory to print
-pub ended : (weigher : Weigher) (peers : List Bytes) (old : Scene) (lines : List Line) (i : ℕ) (line : Line) (mid new : List Seen) (a b c : Known) (fault : Fault) → i < length lines → line ≡ get_or lines i line → (h : PlaysTo weigher peers old (take i lines) mid a b)
+pub ended : (weigher : Weigher) (peers : List Bytes) (old : Scene) (lines : List Line) (i : ℕ) (line : Line) (mid new : List Seen) (a b c : KnownBytes) (fault : Fault) → i < length lines → line ≡ get_or lines i line → (h : PlaysTo weigher peers old (take i lines) mid a b)
     → PlaysLine {X = Unit {0}} weigher peers (record { model = h.reached; sites = mid }) line new b c (Err fault) → PrintsUntil weigher peers old lines a c fault
 ended weigher peers old lines i line mid new a b c (BadLine number) lt is h last = absurd last
 ended weigher peers old lines i line mid new a b c BadInput lt is h last = absurd last
@@ -115,7 +115,7 @@ of_fault (Ok x) Q P fault err is h = tt
 of_fault (Err f) Q P fault err is h = subst P (sym (is f err)) h
 
 -- what all of the lines print
-pub whole : (weigher : Weigher) (peers : List Bytes) (old : Scene) (lines : List Line) (i : ℕ) (mid : List Seen) (a b : Known) → length lines ≤ i → PlaysTo weigher peers old (take i lines) mid a b → PrintsAllFrom weigher peers old lines a b
+pub whole : (weigher : Weigher) (peers : List Bytes) (old : Scene) (lines : List Line) (i : ℕ) (mid : List Seen) (a b : KnownBytes) → length lines ≤ i → PlaysTo weigher peers old (take i lines) mid a b → PrintsAllFrom weigher peers old lines a b
 whole weigher peers old lines i mid a b end h = record {
   printed = h.printed;
   final = record { model = h.reached; sites = mid };
@@ -125,11 +125,11 @@ whole weigher peers old lines i mid a b end h = record {
 
 module _ {weigher : Weigher} {peers : List Bytes} {s : Scene} {line : Line} {new : List Seen} where
   -- a line whose text was cut short
-  pub said_short : {X : Type 0} (result : Result X Fault) (Q : Fault → Type 0) (a b : Known) (text : List ℕ) → IsErrAnd result Q → ((fault : Fault) → Q fault → fault ≡ Device) → (s' : (speaks : Speaks weigher peers s line new) × (text ≡ speaks.said)) → IsCutShort a b text
+  pub said_short : {X : Type 0} (result : Result X Fault) (Q : Fault → Type 0) (a b : KnownBytes) (text : List ℕ) → IsErrAnd result Q → ((fault : Fault) → Q fault → fault ≡ Device) → (s' : (speaks : Speaks weigher peers s line new) × (text ≡ speaks.said)) → IsCutShort a b text
       → PlaysLine weigher peers s line new a b result
   said_short (Ok x) Q a b text err is s' w = absurd err
   said_short {X} (Err fault) Q a b text err is s' w = subst (λ f. PlaysLine {X = X} weigher peers s line new a b (Err f)) (sym (is fault err)) (s'.0, subst (IsCutShort a b) s'.1 w)
 
   -- a line whose text was written whole
-  pub said_all : (a b : Known) (text : List ℕ) → (s' : (speaks : Speaks weigher peers s line new) × (text ≡ speaks.said)) → Appends a b text → (speaks : Speaks weigher peers s line new) × Appends a b speaks.said
+  pub said_all : (a b : KnownBytes) (text : List ℕ) → (s' : (speaks : Speaks weigher peers s line new) × (text ≡ speaks.said)) → Appends a b text → (speaks : Speaks weigher peers s line new) × Appends a b speaks.said
   said_all a b text s' w = (s'.0, rw s'.1 at w)

@@ -3,7 +3,7 @@ use Rattle.std.specs.Prelude.{Bool, List}
 use Rattle.sup_specs.specs.Values.{Bytes}
 use Rattle.sup_placement.specs.Place.{Weigher}
 use Rattle.sup_replica.specs.Configs.{Config}
-use Rattle.sup_jobs.specs.Ends.{Bytes as Known}
+use Rattle.sup_jobs.specs.Ends.{KnownBytes}
 use Rattle.sup_jobs.specs.Faults.{IsOutside}
 use Rattle.sup_jobs.specs.declared.fault.Fault.{Fault}
 use Rattle.sup_jobs.specs.declared.fault.Fault.TheVariants.{BadLine, BadInput, BadImage, Device, OutOfMemory}
@@ -17,7 +17,7 @@ use Rattle.sup_program.specs.Simulating.{simulation}
 use Rattle.sup_program.proofs.PlayedRuns.{played_worlds_keep}
 
 -- the main theorem holds of the world after all lines
-pub prints_all : (weigher : Weigher) (config : Config) (names peers : List Bytes) (sites : List Seen) (lines : List Line) (before written : Known) → AreInOrder names peers → IsOpening weigher config names sites → ((is_message : Bytes → Bool) → TellsMessages is_message → PrintsAllFrom weigher peers (opening weigher config names is_message sites) lines before written) → PrintsAll weigher config names lines before written
+pub prints_all : (weigher : Weigher) (config : Config) (names peers : List Bytes) (sites : List Seen) (lines : List Line) (before written : KnownBytes) → AreInOrder names peers → IsOpening weigher config names sites → ((is_message : Bytes → Bool) → TellsMessages is_message → PrintsAllFrom weigher peers (opening weigher config names is_message sites) lines before written) → PrintsAll weigher config names lines before written
 prints_all weigher config names peers sites lines before written order opens h = record {
   peers = peers;
   in_order = order;
@@ -28,7 +28,7 @@ prints_all weigher config names peers sites lines before written order opens h =
 }
 
 -- as far as the fault let it
-pub prints_part : (weigher : Weigher) (config : Config) (names peers : List Bytes) (sites : List Seen) (lines : List Line) (fault : Fault) (before written : Known) → AreInOrder names peers → IsOpening weigher config names sites
+pub prints_part : (weigher : Weigher) (config : Config) (names peers : List Bytes) (sites : List Seen) (lines : List Line) (fault : Fault) (before written : KnownBytes) → AreInOrder names peers → IsOpening weigher config names sites
     → ((is_message : Bytes → Bool) → TellsMessages is_message → PrintsUntil weigher peers (opening weigher config names is_message sites) lines before written fault) → PrintsPart weigher config names lines fault before written
 prints_part weigher config names peers sites lines fault before written order opens h = record {
   peers = peers;
@@ -38,7 +38,7 @@ prints_part weigher config names peers sites lines fault before written order op
   prints = h;
 }
 
-pub stops_part : (weigher : Weigher) (config : Config) (names : List Bytes) (lines : List Line) (fault : Fault) (before written : Known) → IsOutside fault → PrintsPart weigher config names lines fault before written → StopsBy (simulation weigher config) (names, lines) before written fault
+pub stops_part : (weigher : Weigher) (config : Config) (names : List Bytes) (lines : List Line) (fault : Fault) (before written : KnownBytes) → IsOutside fault → PrintsPart weigher config names lines fault before written → StopsBy (simulation weigher config) (names, lines) before written fault
 stops_part weigher config names lines (BadLine number) before written out h = absurd out
 stops_part weigher config names lines BadInput before written out h = absurd out
 stops_part weigher config names lines (BadImage reason) before written out h = absurd out

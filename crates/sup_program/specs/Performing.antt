@@ -6,7 +6,7 @@ use Rattle.sup_command_line.specs.declared.request.Request.{Request}
 use Rattle.sup_command_line.specs.declared.request.Request.TheVariants.{Simulate, Cluster, Place, Inspect}
 use Rattle.sup_jobs.specs.declared.fault.Ended.{Ended}
 use Rattle.sup_jobs.specs.declared.fault.Fault.TheVariants.{OutOfMemory}
-use Rattle.sup_jobs.specs.Ends.{Bytes}
+use Rattle.sup_jobs.specs.Ends.{KnownBytes}
 use Rattle.sup_jobs.specs.Faults.{fault_text, status_of}
 use Rattle.sup_jobs.specs.Tells.{Tells}
 use Rattle.sup_placing.specs.Placing.{Places}
@@ -14,21 +14,21 @@ use Rattle.sup_inspecting.specs.Inspecting.{Inspects}
 use Rattle.sup_program.specs.Simulating.{Simulates}
 
 -- Memory was refused before anything was read or written, and that was told.
-abbrev pub WantsMemory : Bytes → Bytes → Ended → Type 0
+abbrev pub WantsMemory : KnownBytes → KnownBytes → Ended → Type 0
 WantsMemory errors_before errors_written ended =
     (ended.status ≡ status_of OutOfMemory) × Tells ended.told errors_before errors_written (fault_text OutOfMemory)
 
 -- The words were refused, and this was told.
-abbrev pub TellsUsage : List ℕ → Bytes → Bytes → Ended → Type 0
+abbrev pub TellsUsage : List ℕ → KnownBytes → KnownBytes → Ended → Type 0
 TellsUsage said errors_before errors_written ended = (ended.status ≡ 2) × Tells ended.told errors_before errors_written said
 
 -- The words are no command: the status and the error writer say so, or that memory was refused.
-abbrev pub Refuses : Bytes → Bytes → Ended → Type 0
+abbrev pub Refuses : KnownBytes → KnownBytes → Ended → Type 0
 Refuses errors_before errors_written ended =
     ((said : List ℕ) × TellsUsage said errors_before errors_written ended) ⊎ WantsMemory errors_before errors_written ended
 
 -- What is asked for is done, and words that ask for nothing are refused. A cluster isn't run here: an end tells that memory was refused before.
-abbrev pub Performs : Option Request → Bytes → Bytes → Bytes → Bytes → Bytes → Bytes → Ended → Type 0
+abbrev pub Performs : Option Request → KnownBytes → KnownBytes → KnownBytes → KnownBytes → KnownBytes → KnownBytes → Ended → Type 0
 Performs (Some (Simulate weighing config)) input left before written errors_before errors_written ended =
     Simulates (weight_of weighing) config input left before written errors_before errors_written ended
 Performs (Some (Cluster weighing config)) input left before written errors_before errors_written ended =

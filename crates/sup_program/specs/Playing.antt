@@ -4,7 +4,7 @@ use Rattle.std.specs.Io.KnownBytes.{Appends, Keeps}
 use Rattle.sup_specs.specs.Values.{Bytes as Name}
 use Rattle.sup_placement.specs.Place.{Weigher}
 use Rattle.sup_keeper.specs.Keeping.{most}
-use Rattle.sup_jobs.specs.Ends.{Bytes}
+use Rattle.sup_jobs.specs.Ends.{KnownBytes}
 use Rattle.sup_jobs.specs.Tells.{IsCutShort}
 use Rattle.sup_jobs.specs.declared.fault.Fault.{Fault}
 use Rattle.sup_jobs.specs.declared.fault.Fault.TheVariants.{BadLine, BadInput, BadImage, Device, OutOfMemory}
@@ -41,7 +41,7 @@ MaySpeak view weigher peers s line new (Ok x) = (speaks : Speaks weigher peers s
 MaySpeak view weigher peers s line new (Err e) = Speaks weigher peers s line new ⊎ (new ≡ s.sites)
 
 -- the writer has got all of that; or, where it failed, a front of it and not all; or, where memory was refused, nothing
-abbrev pub PlaysLine : {X : Type 0} → Weigher → List Name → Scene → Line → List Seen → Bytes → Bytes → Result X Fault → Type 0
+abbrev pub PlaysLine : {X : Type 0} → Weigher → List Name → Scene → Line → List Seen → KnownBytes → KnownBytes → Result X Fault → Type 0
 PlaysLine weigher peers s line new before written (Ok x) = (speaks : Speaks weigher peers s line new) × Appends before written speaks.said
 PlaysLine weigher peers s line new before written (Err (BadLine number)) = ⊥
 PlaysLine weigher peers s line new before written (Err BadInput) = ⊥

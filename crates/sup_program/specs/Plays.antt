@@ -7,7 +7,7 @@ use Rattle.sup_placement.specs.Place.{Weigher}
 use Rattle.sup_replica.specs.ByTables.{by_tables}
 use Rattle.sup_replica.specs.Configs.{Config}
 use Rattle.sup_replica.specs.Stations.{Codec}
-use Rattle.sup_jobs.specs.Ends.{Bytes as Known}
+use Rattle.sup_jobs.specs.Ends.{KnownBytes}
 use Rattle.sup_jobs.specs.Tells.{IsCutShort}
 use Rattle.sup_jobs.specs.declared.fault.Fault.{Fault}
 use Rattle.sup_jobs.specs.declared.fault.Fault.TheVariants.{BadLine, BadInput, BadImage, Device, OutOfMemory}
@@ -28,14 +28,14 @@ module _ (weigher : Weigher) (peers : List Bytes) where
       (said : List ℕ) × (mid : Scene) × (later : List ℕ) × Prints weigher peers s line said mid × Plays mid lines later after × (printed ≡ said ++ later)
 
   -- The writer has got what all of these lines print.
-  pub record PrintsAllFrom (s : Scene) (lines : List Line) (before written : Known) : Type 0 where
+  pub record PrintsAllFrom (s : Scene) (lines : List Line) (before written : KnownBytes) : Type 0 where
     pub printed : List ℕ
     pub final : Scene
     pub plays : Plays s lines printed final
     pub writes : Appends before written printed
 
   -- The device failed: the writer has got a front of what the first of these lines print, and not all.
-  pub record PrintsShortFrom (s : Scene) (lines : List Line) (before written : Known) : Type 0 where
+  pub record PrintsShortFrom (s : Scene) (lines : List Line) (before written : KnownBytes) : Type 0 where
     pub made : ℕ
     pub printed : List ℕ
     pub final : Scene
@@ -43,7 +43,7 @@ module _ (weigher : Weigher) (peers : List Bytes) where
     pub short : IsCutShort before written printed
 
   -- Memory was refused for the text of a line: the writer has got what the lines before it print, and no more.
-  pub record PrintsBeforeFrom (s : Scene) (lines : List Line) (before written : Known) : Type 0 where
+  pub record PrintsBeforeFrom (s : Scene) (lines : List Line) (before written : KnownBytes) : Type 0 where
     pub made : ℕ
     pub left : made < length lines
     pub printed : List ℕ
@@ -52,7 +52,7 @@ module _ (weigher : Weigher) (peers : List Bytes) where
     pub writes : Appends before written printed
 
   -- How far the lines were printed that this fault ended.
-  abbrev pub PrintsUntil : Scene → List Line → Known → Known → Fault → Type 0
+  abbrev pub PrintsUntil : Scene → List Line → KnownBytes → KnownBytes → Fault → Type 0
   PrintsUntil s lines before written (BadLine number) = ⊥
   PrintsUntil s lines before written BadInput = ⊥
   PrintsUntil s lines before written (BadImage fault) = ⊥
@@ -80,7 +80,7 @@ abbrev pub opening : Weigher → Config → List Bytes → (Bytes → Bool) → 
 opening weigher config names is_message sites = record { model = new (setting_in weigher config) is_message names; sites = sites }
 
 -- from a new world of these nodes, which are each other's peers; and the main theorem holds of the world after all lines
-pub record PrintsAll (weigher : Weigher) (config : Config) (names : List Bytes) (lines : List Line) (before written : Known) : Type 0 where
+pub record PrintsAll (weigher : Weigher) (config : Config) (names : List Bytes) (lines : List Line) (before written : KnownBytes) : Type 0 where
   pub peers : List Bytes
   pub in_order : AreInOrder names peers
   pub sites : List Seen
@@ -89,7 +89,7 @@ pub record PrintsAll (weigher : Weigher) (config : Config) (names : List Bytes) 
   pub headline : (is_message : Bytes → Bool) (tells : TellsMessages is_message) → Headline (prints is_message tells).final.model
 
 -- from such a world, as far as the fault let it
-pub record PrintsPart (weigher : Weigher) (config : Config) (names : List Bytes) (lines : List Line) (fault : Fault) (before written : Known) : Type 0 where
+pub record PrintsPart (weigher : Weigher) (config : Config) (names : List Bytes) (lines : List Line) (fault : Fault) (before written : KnownBytes) : Type 0 where
   pub peers : List Bytes
   pub in_order : AreInOrder names peers
   pub sites : List Seen

@@ -3,7 +3,7 @@ use Rattle.std.specs.Prelude.{◌≡◌, ℕ, List, None}
 use Rattle.clap.specs.Words.{Text}
 use Rattle.sup_command_line.specs.Requests.{request_of}
 use Rattle.sup_jobs.specs.declared.fault.Ended.{Ended}
-use Rattle.sup_jobs.specs.Ends.{Bytes, TakesAtMost}
+use Rattle.sup_jobs.specs.Ends.{KnownBytes, TakesAtMost}
 use Rattle.sup_program.specs.Performing.{Performs}
 use Rattle.sup_program.specs.declared.run.Ran.{Ran}
 use Rattle.sup_program.specs.declared.run.Ran.TheVariants.{Status, Cluster}
@@ -23,7 +23,7 @@ IfCluster (Cluster options) Is = Is options
 abbrev pub EndsWith : ℕ → (Ended → Type 0) → Type 0
 EndsWith status Is = (ended : Ended) × (ended.status ≡ status) × Is ended
 
-module _ {R W E : Type 0} (remaining : R → Bytes) (contents : W → Bytes) (told : E → Bytes) where
+module _ {R W E : Type 0} (remaining : R → KnownBytes) (contents : W → KnownBytes) (told : E → KnownBytes) where
   -- What a run does that was started with these words.
   pub record Runs (words : List Text) (old left : R) (before written : W) (errors_before errors_written : E) (status : ℕ) : Type 0 where
     pub performs : EndsWith status (Performs (request_of words) (remaining old) (remaining left) (contents before) (contents written) (told errors_before) (told errors_written))

@@ -4,7 +4,7 @@ use Rattle.sup_placement.specs.Place.{Weigher}
 use Rattle.sup_lines.specs.Script.{ScriptText, script_of}
 use Rattle.sup_jobs.specs.declared.fault.Ended.{Ended}
 use Rattle.sup_jobs.specs.declared.fault.Fault.TheVariants.{Device, OutOfMemory}
-use Rattle.sup_jobs.specs.Ends.{Bytes, Job, Does}
+use Rattle.sup_jobs.specs.Ends.{KnownBytes, Job, Does}
 use Rattle.sup_program.specs.Plays.{PrintsAll, PrintsPart}
 
 abbrev pub simulation : Weigher → Config → Job ScriptText
@@ -16,6 +16,6 @@ simulation weigher config = record {
 }
 
 -- The status tells how the run ended, and the error writer was told of that end.
-abbrev pub Simulates : Weigher → Config → Bytes → Bytes → Bytes → Bytes → Bytes → Bytes → Ended → Type 0
+abbrev pub Simulates : Weigher → Config → KnownBytes → KnownBytes → KnownBytes → KnownBytes → KnownBytes → KnownBytes → Ended → Type 0
 Simulates weigher config input left before written errors_before errors_written ended =
     Does (simulation weigher config) input left before written errors_before errors_written ended

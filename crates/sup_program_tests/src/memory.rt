@@ -21,7 +21,7 @@ const PLACED: &[u8] = b"members b a\nweb\n";
 
 /// What a run has written into these bytes, and its status.
 #[derive(Clone, Copy)]
-struct Outcome {
+struct LeanRun {
     status: u8,
     written: usize,
     told: usize,
@@ -34,7 +34,7 @@ fn run_lean(
     input: &[u8],
     printed: &mut [u8],
     errors: &mut [u8],
-) -> Outcome {
+) -> LeanRun {
     let room = printed.len();
     let errors_room = errors.len();
     let mut reader = input;
@@ -48,7 +48,7 @@ fn run_lean(
         &mut writer,
         &mut error_writer,
     );
-    Outcome {
+    LeanRun {
         status,
         written: room.saturating_sub(writer.len()),
         told: errors_room.saturating_sub(error_writer.len()),
@@ -56,7 +56,7 @@ fn run_lean(
 }
 
 // A run that ends for want of memory says so, and has written a front of what it should; one that doesn't has written all.
-fn expect_front(rt: &impl Abort, ended: Outcome, printed: &[u8], errors: &[u8], wanted: &[u8]) {
+fn expect_front(rt: &impl Abort, ended: LeanRun, printed: &[u8], errors: &[u8], wanted: &[u8]) {
     if ended.status == 0 {
         assert!(rt; ended.told == 0 && ended.written == wanted.len());
     } else {

@@ -1,5 +1,5 @@
 -- The operation that each command issues, or its refusal (this project). Read from the live rows and the greatest own counter alone.
-use Rattle.std.specs.Prelude.{ℕ, ◌+◌, not, Bool, List, length, nat_le, Result, Ok}
+use Rattle.std.specs.Prelude.{ℕ, not, Bool, List, length, nat_le, Result, Ok}
 use Rattle.sup_specs.specs.declared.child.ChildSpec.{ChildSpec}
 use Rattle.sup_specs.specs.Values.{Bytes}
 use Rattle.sup_causal.specs.declared.dot.Dot.{Dot}
@@ -8,7 +8,7 @@ use Rattle.sup_tables.specs.declared.row.Row.{Row}
 use Rattle.sup_tables.specs.Rows.{members, children, names}
 use Rattle.sup_tables.specs.Operations.{Operation}
 use Rattle.sup_tables.specs.Readers.{is_present}
-use Rattle.sup_tables.specs.Makers.{put_member, drop_member, put_child, replace_child, drop_child, put_name, drop_name}
+use Rattle.sup_tables.specs.Makers.{dot_after, put_member, drop_member, put_child, replace_child, drop_child, put_name, drop_name}
 use Rattle.sup_replica.specs.declared.refusal.Refusal.{Refusal}
 use Rattle.sup_replica.specs.declared.refusal.Refusal.TheVariants.{AlreadyPresent, NotFound, AlreadyMember, NotMember, NameTaken, NoSuchChild, NameUnknown, DotsSpent, TableFull}
 use Rattle.sup_replica.specs.Checks.{row_limit, refused_if}
@@ -19,8 +19,9 @@ pub record Reading : Type 0 where
   pub rows : List Row
   pub counter : ℕ
 
+-- the dot of what a command adds
 abbrev pub next : Reading → Dot
-next r = record { node = r.me; counter = r.counter + 1 }
+next r = dot_after r.counter r.me
 
 abbrev pub is_full : Reading → Bool
 is_full r = nat_le row_limit (length r.rows)

@@ -36,7 +36,7 @@ use Rattle.sup_node.specs.NodeSteps.{Fits, IsPlanOf, IsRefused, IsRestart, IsRes
 use Rattle.sup_node.specs.Texts.{IsImageText}
 use Rattle.sup_station.specs.Boots.{is_booted}
 use Rattle.sup_station.specs.Opening.{IsWritten, IsWrittenOf}
-use Rattle.sup_station.specs.Stills.{Still, IsKept, IsOwnImage, IsNoOwnImage, stop_done}
+use Rattle.sup_station.specs.Stills.{Still, KeepsImage, IsOwnImage, IsNoOwnImage, stop_done}
 use Rattle.sup_station.specs.Plans.{IsPreparedFor, IsPlanFor, Prepares, has_text, kept_after, node_after}
 use Rattle.sup_station.specs.declared.prepared.Prepared.{Prepared}
 use Rattle.sup_station.specs.declared.prepared.Next.{Next}
@@ -71,16 +71,16 @@ learned_text n l text b p e w =
 -- what is kept after an event
 keeps_text : (n : Station State) (change : Change) (step : Result (Move State) Refusal) (move : Move State) (kept : Bytes) (text : Option (Vec ℕ))
     → step ≡ (if saves change then Err KeepFailed else Ok move) → station_after n change ≡ move.station → Fits n change → IsWrittenOf (image_in change) text → 1 ≤ n.node.supervisor.boot
-    → IsKept step kept (kept_after kept text) (image_of move.station.node)
-keeps_text n Nothing step move kept None e a f w b = subst (λ (r : Result (Move State) Refusal). IsKept r kept kept (image_of move.station.node)) (sym e) refl
+    → KeepsImage step kept (kept_after kept text) (image_of move.station.node)
+keeps_text n Nothing step move kept None e a f w b = subst (λ (r : Result (Move State) Refusal). KeepsImage r kept kept (image_of move.station.node)) (sym e) refl
 keeps_text n Nothing step move kept (Some text) e a f w b = absurd w
-keeps_text n (Begins id now) step move kept None e a f w b = subst (λ (r : Result (Move State) Refusal). IsKept r kept kept (image_of move.station.node)) (sym e) refl
+keeps_text n (Begins id now) step move kept None e a f w b = subst (λ (r : Result (Move State) Refusal). KeepsImage r kept kept (image_of move.station.node)) (sym e) refl
 keeps_text n (Begins id now) step move kept (Some text) e a f w b = absurd w
-keeps_text n (Acknowledges from m) step move kept None e a f w b = subst (λ (r : Result (Move State) Refusal). IsKept r kept kept (image_of move.station.node)) (sym e) refl
+keeps_text n (Acknowledges from m) step move kept None e a f w b = subst (λ (r : Result (Move State) Refusal). KeepsImage r kept kept (image_of move.station.node)) (sym e) refl
 keeps_text n (Acknowledges from m) step move kept (Some text) e a f w b = absurd w
 keeps_text n (Learns l) step move kept None e a f w b = absurd w
 keeps_text n (Learns l) step move kept (Some text) e a f w b =
-    subst (λ (r : Result (Move State) Refusal). IsKept r kept text.items (image_of move.station.node)) (sym e)
+    subst (λ (r : Result (Move State) Refusal). KeepsImage r kept text.items (image_of move.station.node)) (sym e)
     (subst (λ (s : Station State). IsImageText text.items (image_of s.node)) a (learned_text n.node l text.items b f.0 f.1 w))
 
 has_written : (change : Change) (text : Option (Vec ℕ)) → IsWrittenOf (image_in change) text → saves change ≡ has_text text

@@ -12,31 +12,31 @@ use Rattle.sup_command_line.specs.declared.request.Request.TheVariants.{Simulate
 use Rattle.sup_command_line.specs.declared.request.Weighing.{Weighing}
 use Rattle.sup_jobs.specs.declared.fault.Ended.{Ended}
 use Rattle.sup_jobs.specs.declared.fault.Fault.TheVariants as job
-use Rattle.sup_jobs.specs.Ends.{Bytes, TakesAtMost}
+use Rattle.sup_jobs.specs.Ends.{KnownBytes, TakesAtMost}
 use Rattle.sup_clustering.specs.Clustering.{Clusters}
 use Rattle.sup_cluster_texts.specs.declared.fault.ClusterFault.TheVariants.{Job}
 use Rattle.sup_program.specs.Performing.{Performs, WantsMemory}
 use Rattle.sup_program.specs.Runs.{EndsWith, Runs}
 use Rattle.sup_supctl.specs.Runs.{PerformsAll, RunsAll}
 
-none_taken : (input left : Bytes) → Keeps input left → Consumes input left []
+none_taken : (input left : KnownBytes) → Keeps input left → Consumes input left []
 none_taken None left h = tt
 none_taken (Some bytes) None h = h
 none_taken (Some bytes) (Some rest) h = sym h
 
 -- a cluster for which memory was refused before it began
-unbegun : (weigher : Weigher) (config : Config) (input left before written errors_before errors_written : Bytes) (ended : Ended) → WantsMemory errors_before errors_written ended → Keeps input left → Keeps before written → Clusters weigher config input left before written errors_before errors_written ended
+unbegun : (weigher : Weigher) (config : Config) (input left before written errors_before errors_written : KnownBytes) (ended : Ended) → WantsMemory errors_before errors_written ended → Keeps input left → Keeps before written → Clusters weigher config input left before written errors_before errors_written ended
 unbegun weigher config None left before written errors_before errors_written ended h read kept = (Err (Job job.OutOfMemory), h.0, h.1, ([], omega arith, none_taken None left read), tt)
 unbegun weigher config (Some bytes) left before written errors_before errors_written ended h read kept = (Err (Job job.OutOfMemory), h.0, h.1, ([], omega arith, none_taken (Some bytes) left read), kept)
 
-performed : (asked : Option Request) (input left before written errors_before errors_written : Bytes) (ended : Ended) → Performs asked input left before written errors_before errors_written ended → PerformsAll asked input left before written errors_before errors_written ended
+performed : (asked : Option Request) (input left before written errors_before errors_written : KnownBytes) (ended : Ended) → Performs asked input left before written errors_before errors_written ended → PerformsAll asked input left before written errors_before errors_written ended
 performed None input left before written errors_before errors_written ended h = h
 performed (Some (Simulate weighing config)) input left before written errors_before errors_written ended h = h
 performed (Some (Cluster weighing config)) input left before written errors_before errors_written ended h = unbegun (weight_of weighing) config input left before written errors_before errors_written ended h.0 h.1 h.2
 performed (Some (Place weighing)) input left before written errors_before errors_written ended h = h
 performed (Some (Inspect weighing)) input left before written errors_before errors_written ended h = h
 
-module _ {R W E : Type 0} (remaining : R → Bytes) (contents : W → Bytes) (told : E → Bytes) (words : List Text) (old left : R) (before written : W) (errors_before errors_written : E) where
+module _ {R W E : Type 0} (remaining : R → KnownBytes) (contents : W → KnownBytes) (told : E → KnownBytes) (words : List Text) (old left : R) (before written : W) (errors_before errors_written : E) where
   pub all : (status : ℕ) → Runs remaining contents told words old left before written errors_before errors_written status → RunsAll remaining contents told words old left before written errors_before errors_written status
   all status h = record {
     performs = (h.performs.0, h.performs.1, performed (request_of words) (remaining old) (remaining left) (contents before) (contents written) (told errors_before) (told errors_written) h.performs.0 h.performs.2);

@@ -9,13 +9,13 @@ use Rattle.sup_command_line.specs.Weighings.{weight_of}
 use Rattle.sup_command_line.specs.declared.request.Request.{Request}
 use Rattle.sup_command_line.specs.declared.request.Request.TheVariants.{Simulate, Cluster, Place, Inspect}
 use Rattle.sup_jobs.specs.declared.fault.Ended.{Ended}
-use Rattle.sup_jobs.specs.Ends.{Bytes, TakesAtMost}
+use Rattle.sup_jobs.specs.Ends.{KnownBytes, TakesAtMost}
 use Rattle.sup_clustering.specs.Clustering.{Clusters}
 use Rattle.sup_program.specs.Performing.{Performs, TellsUsage, WantsMemory}
 use Rattle.sup_program.specs.Runs.{EndsWith}
 
 -- A cluster is run by threads. All else is done as the commands do it that wait for nobody.
-abbrev pub PerformsAll : Option Request → Bytes → Bytes → Bytes → Bytes → Bytes → Bytes → Ended → Type 0
+abbrev pub PerformsAll : Option Request → KnownBytes → KnownBytes → KnownBytes → KnownBytes → KnownBytes → KnownBytes → Ended → Type 0
 PerformsAll (Some (Cluster weighing config)) input left before written errors_before errors_written ended =
     Clusters (weight_of weighing) config input left before written errors_before errors_written ended
 PerformsAll (Some (Simulate weighing config)) input left before written errors_before errors_written ended =
@@ -31,7 +31,7 @@ PerformsAll None input left before written errors_before errors_written ended =
 abbrev pub no_text_line : List ℕ
 no_text_line = codes "error: invalid UTF-8 was detected in one or more arguments\n"
 
-module _ {R W E : Type 0} (remaining : R → Bytes) (contents : W → Bytes) (told : E → Bytes) where
+module _ {R W E : Type 0} (remaining : R → KnownBytes) (contents : W → KnownBytes) (told : E → KnownBytes) where
   -- What a run does that was started with these words.
   pub record RunsAll (words : List Text) (old left : R) (before written : W) (errors_before errors_written : E) (status : ℕ) : Type 0 where
     pub performs : EndsWith status (PerformsAll (request_of words) (remaining old) (remaining left) (contents before) (contents written) (told errors_before) (told errors_written))

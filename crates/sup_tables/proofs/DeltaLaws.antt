@@ -15,7 +15,8 @@ use Rattle.sup_dot_store.specs.Places.{optional_held}
 use Rattle.sup_tables.specs.declared.row.Row.{Row}
 use Rattle.sup_tables.specs.Rows.{row_cmp}
 use Rattle.sup_tables.specs.States.{StandsFor}
-use Rattle.sup_tables.specs.Stored.{Values, Stored, rows_in, value_in, stored_rows, state_of, IsOneRow}
+use Rattle.sup_dot_store.specs.RowLists.{rows_in}
+use Rattle.sup_tables.specs.Stored.{Values, Stored, value_in, stored_rows, state_of, IsOneRow}
 use Rattle.sup_dot_store.specs.Index.{count_in}
 use Rattle.sup_tables.proofs.AddLaws.{same_dot, dot_itself}
 

@@ -28,7 +28,8 @@ use Rattle.std.proofs.lemmas.List.Elements.{All-from_recursion}
 use Rattle.sup_tables.specs.States.{State, IsKept}
 use Rattle.sup_tables.proofs.AddLaws.{or-left, or-right, row_itself, same_dot}
 use Rattle.sup_tables.specs.Readers.{entries, live_dots}
-use Rattle.sup_tables.specs.Stored.{Values, Stored, rows_in, member_row, child_row, name_row, state_of, values_under}
+use Rattle.sup_dot_store.specs.RowLists.{rows_in}
+use Rattle.sup_tables.specs.Stored.{Values, Stored, member_row, child_row, name_row, state_of, values_under}
 use Rattle.sup_tables.proofs.StoredLaws.{IsOrderedStored}
 use Rattle.sup_tables.proofs.PointLaws.{same_text}
 use Rattle.sup_tables.proofs.OrderedRows.{all_rows, stored_is}

@@ -21,7 +21,8 @@ use Rattle.sup_tables.specs.Rows.{children, names, is_at, is_in, target_of}
 use Rattle.sup_tables.specs.Readers.{live_dots}
 use Rattle.sup_tables.specs.Makers.{names_of, child_and_names}
 use Rattle.sup_tables.specs.States.{State, IsKept}
-use Rattle.sup_tables.specs.Stored.{Values, Stored, rows_in, member_row, child_row, name_row, state_of, dots_to, dots_to_in}
+use Rattle.sup_dot_store.specs.RowLists.{rows_in}
+use Rattle.sup_tables.specs.Stored.{Values, Stored, member_row, child_row, name_row, state_of, dots_to, dots_to_in}
 use Rattle.sup_tables.proofs.StoredLaws.{IsOrderedStored}
 use Rattle.sup_tables.proofs.OperationLaws.{both_ways}
 use Rattle.sup_tables.proofs.PointLaws.{same_text, text_itself}

@@ -26,7 +26,8 @@ use Rattle.sup_tables.specs.declared.row.Entry.{Entry}
 use Rattle.sup_tables.specs.declared.row.Entry.TheVariants.{Member, Child, Name}
 use Rattle.sup_tables.specs.Rows.{Table, members, children, names, table_place, table_of, key_of, row_cmp}
 use Rattle.sup_tables.specs.States.{is_point}
-use Rattle.sup_tables.specs.Stored.{Values, Stored, rows_in, value_in, member_row, child_row, name_row, stored_rows}
+use Rattle.sup_dot_store.specs.RowLists.{rows_in}
+use Rattle.sup_tables.specs.Stored.{Values, Stored, value_in, member_row, child_row, name_row, stored_rows}
 use Rattle.sup_tables.proofs.OperationLaws.{is_row_of}
 use Rattle.sup_tables.proofs.AddLaws.{same_row, same_dot, dot_itself}
 use Rattle.sup_tables.proofs.PointLaws.{text_itself, same_text}

@@ -23,7 +23,8 @@ use Rattle.sup_dot_store.specs.declared.dot_fun.DotFun.{DotFun}
 use Rattle.sup_tables.specs.declared.row.Row.{Row}
 use Rattle.sup_tables.specs.Rows.{Table, members, children, names, is_in, key_of}
 use Rattle.sup_tables.specs.Readers.{winner, winners}
-use Rattle.sup_tables.specs.Stored.{Values, Stored, rows_in, member_row, child_row, name_row, state_of, firsts_in, triple, values_under}
+use Rattle.sup_dot_store.specs.RowLists.{rows_in}
+use Rattle.sup_tables.specs.Stored.{Values, Stored, member_row, child_row, name_row, state_of, firsts_in, triple, values_under}
 use Rattle.sup_tables.proofs.StoredLaws.{IsOrderedStored}
 use Rattle.sup_tables.proofs.OrderedRows.{all_rows, stored_is, rising_already}
 use Rattle.sup_tables.proofs.EntryLaws.{key_rows, filter_all, filter_none, filter_append, nothing_after, member_entries, child_entries, name_entries, first_under}

@@ -14,9 +14,13 @@ use Rattle.sup_tables.specs.Rows.{members, children, names, is_in, target_of}
 use Rattle.sup_tables.specs.Operations.{Operation, greatest}
 use Rattle.sup_tables.specs.Readers.{live_dots}
 
+-- the dot of a node's add, where this is the greatest of its counters before
+abbrev pub dot_after : ℕ → Bytes → Dot
+dot_after counter node = record { counter = counter + 1; node = node }
+
 -- the dot of a node's next add
 abbrev pub next_dot : List Operation → Bytes → Dot
-next_dot ops node = record { counter = greatest ops node + 1; node = node }
+next_dot ops node = dot_after (greatest ops node) node
 
 abbrev pub adding : Dot → Entry → List Dot → Operation
 adding dot entry removes = record { add = Some (record { dot = dot; entry = entry }); removes = removes }

@@ -3,7 +3,7 @@ ghost use Rattle.std.specs.Prelude.{◌≡◌, ◌++◌, IfOk, OnOk, map};
 ghost use Rattle.sup_indexed.specs.Contents.{functions_of};
 ghost use Rattle.sup_tables.specs.Rows.{row_of, AreInOrder};
 ghost use Rattle.sup_tables.specs.States.{HasDotsOf};
-ghost use Rattle.sup_tables.specs.Stored.{rows_in};
+ghost use Rattle.sup_dot_store.specs.RowLists.{rows_in};
 ghost use Rattle.sup_tables.specs.Lent.{rows_lent};
 
 use crate::row::Entered;
