@@ -9,7 +9,8 @@ use Rattle.std.proofs.lemmas.Bool.{or_left, or_right, and_parts, leb-true, false
 use Rattle.std.proofs.lemmas.Bool.Decides.{nat_tests}
 use Rattle.std.proofs.lemmas.List.{length-append}
 use mathlib.Core.Bool.{false≢true}
-use Rattle.sup_specs.specs.Rising.{IsRising, put_in, rising}
+use Rattle.std.specs.List.Sorted.{IsStrictlySortedBy}
+use Rattle.sup_specs.specs.Rising.{put_in, rising}
 use Rattle.sup_specs.proofs.RisingLaws.{among-rising}
 use Rattle.sup_specs.specs.Values.{text_cmp}
 use Rattle.sup_specs.specs.declared.limits.TheConstants.{MAX}
@@ -66,7 +67,8 @@ once_run : (node : List ℕ) (n : ℕ) → Once (run_dots node n)
 once_run node zero = tt
 once_run node (suc n) = (has_run node n (record { counter = suc n; node = node }) ∙ past_run (eq_by_cmp text_cmp node node) n, once_run node n)
 
-once_runs : (v : List (List ℕ × ℕ)) → IsRising (λ (a b : List ℕ × ℕ). text_cmp a.0 b.0) v → Once (runs_dots v)
+once_runs : (v : List (List ℕ × ℕ)) → IsStrictlySortedBy (λ (a b : List ℕ × ℕ). text_cmp a.0 b.0) v → Once (runs_dots v)
+unfolding IsStrictlySortedBy
 once_runs [] s = tt
 once_runs (e ∷ es) s = once_append (run_dots e.0 e.1) (runs_dots es) (once_run e.0 e.1) (once_runs es s.1) (λ d there.
     let own = and_parts (eq_by_cmp text_cmp d.node e.0) (leb 1 d.counter && leb d.counter e.1) (sym (has_run e.0 e.1 d) ∙ there) in
@@ -79,7 +81,8 @@ once_runs (e ∷ es) s = once_append (run_dots e.0 e.1) (runs_dots es) (once_run
 none_above : (x : Dot) (ys : List Dot) → AllByRecursion (λ y. dot_cmp x y ≡ Less) ys → list_has ys x ≡ false
 none_above x ys all = has_none ys x (each_weaker (λ y. dot_cmp x y ≡ Less) (λ y. is_eq (dot_cmp y x) ≡ false) (λ y h. ap is_eq (greater_from_less dot_total x y h)) ys all)
 
-once_rising : (c : List Dot) → IsRising dot_cmp c → Once c
+once_rising : (c : List Dot) → IsStrictlySortedBy dot_cmp c → Once c
+unfolding IsStrictlySortedBy
 once_rising [] s = tt
 once_rising (x ∷ xs) s = (none_above x xs s.0, once_rising xs s.1)
 

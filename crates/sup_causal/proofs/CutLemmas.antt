@@ -14,7 +14,7 @@ use Rattle.std.proofs.lemmas.List.Elements.{All-from_recursion}
 use Rattle.std.proofs.lemmas.Map.Lookups.{exact_bytes}
 use Rattle.std.proofs.Math.Bool.{or-false}
 use mathlib.Core.Bool.{false≢true}
-use Rattle.sup_specs.specs.Rising.{IsRising}
+use Rattle.std.specs.List.Sorted.{IsStrictlySortedBy}
 use Rattle.sup_causal.specs.declared.dot.Dot.{Dot}
 use Rattle.sup_causal.specs.Dots.{dot_eq, list_has}
 use Rattle.sup_specs.specs.Values.{text_cmp}
@@ -43,12 +43,14 @@ entry_head e es node h = ap (λ b. unwrap_or (cond b (Some e.1) (lookup (eq_by_c
 entry_tail : (e : List ℕ × ℕ) (es : List (List ℕ × ℕ)) (node : List ℕ) → is_eq (text_cmp node e.0) ≡ false → entry (e ∷ es) node ≡ entry es node
 entry_tail e es node h = ap (λ b. unwrap_or (cond b (Some e.1) (lookup (eq_by_cmp text_cmp node) es)) 0) h
 
-below_place : (e : List ℕ × ℕ) (es : List (List ℕ × ℕ)) → IsRising (λ (a b : List ℕ × ℕ). text_cmp a.0 b.0) (e ∷ es) → (i : ℕ) (node : List ℕ) (d : List ℕ × ℕ) → i < length es → text_cmp (get_or es i d).0 node ≡ Equal → text_cmp e.0 node ≡ Less
+below_place : (e : List ℕ × ℕ) (es : List (List ℕ × ℕ)) → IsStrictlySortedBy (λ (a b : List ℕ × ℕ). text_cmp a.0 b.0) (e ∷ es) → (i : ℕ) (node : List ℕ) (d : List ℕ × ℕ) → i < length es → text_cmp (get_or es i d).0 node ≡ Equal → text_cmp e.0 node ≡ Less
+unfolding IsStrictlySortedBy
 below_place e es s i node d within tie =
     subst (λ m. text_cmp e.0 m ≡ Less) (exact_bytes (get_or es i d).0 node tie) (All-from_recursion (λ (y : List ℕ × ℕ). text_cmp e.0 y.0 ≡ Less) es s.0 i d within)
 
 -- the entry at a place
-pub entry_found : (es : List (List ℕ × ℕ)) → IsRising (λ (a b : List ℕ × ℕ). text_cmp a.0 b.0) es → (i : ℕ) (node : List ℕ) (d : List ℕ × ℕ) → i < length es → text_cmp (get_or es i d).0 node ≡ Equal → entry es node ≡ (get_or es i d).1
+pub entry_found : (es : List (List ℕ × ℕ)) → IsStrictlySortedBy (λ (a b : List ℕ × ℕ). text_cmp a.0 b.0) es → (i : ℕ) (node : List ℕ) (d : List ℕ × ℕ) → i < length es → text_cmp (get_or es i d).0 node ≡ Equal → entry es node ≡ (get_or es i d).1
+unfolding IsStrictlySortedBy
 entry_found [] s i node d within tie = absurd (omega (arith, within))
 entry_found (e ∷ es) s zero node d within tie = entry_head e es node (ap is_eq (tied_back nat_list_cmp_total e.0 node tie))
 entry_found (e ∷ es) s (suc i) node d within tie =
@@ -63,7 +65,8 @@ entry_missed (e ∷ es) node none =
 
 -- the runs that the entries give
 -- a node that the first entry is of has none behind it
-pub entry_later : (e : List ℕ × ℕ) (es : List (List ℕ × ℕ)) → IsRising (λ (a b : List ℕ × ℕ). text_cmp a.0 b.0) (e ∷ es) → (node : List ℕ) → text_cmp node e.0 ≡ Equal → entry es node ≡ 0
+pub entry_later : (e : List ℕ × ℕ) (es : List (List ℕ × ℕ)) → IsStrictlySortedBy (λ (a b : List ℕ × ℕ). text_cmp a.0 b.0) (e ∷ es) → (node : List ℕ) → text_cmp node e.0 ≡ Equal → entry es node ≡ 0
+unfolding IsStrictlySortedBy
 entry_later e es s node tie = entry_missed es node (λ k q within.
     let above : text_cmp e.0 (get_or es k q).0 ≡ Less = All-from_recursion (λ (y : List ℕ × ℕ). text_cmp e.0 y.0 ≡ Less) es s.0 k q within in
     let above_node : text_cmp node (get_or es k q).0 ≡ Less = subst (λ m. text_cmp m (get_or es k q).0 ≡ Less) (sym (exact_bytes node e.0 tie)) above in
@@ -73,7 +76,8 @@ pub uncounted : (c : ℕ) → (leb 1 c && leb c 0) ≡ false
 uncounted zero = refl
 uncounted (suc c) = grind arith
 
-pub in_runs_is : (es : List (List ℕ × ℕ)) → IsRising (λ (a b : List ℕ × ℕ). text_cmp a.0 b.0) es → (d : Dot) → in_runs es d ≡ (leb 1 d.counter && leb d.counter (entry es d.node))
+pub in_runs_is : (es : List (List ℕ × ℕ)) → IsStrictlySortedBy (λ (a b : List ℕ × ℕ). text_cmp a.0 b.0) es → (d : Dot) → in_runs es d ≡ (leb 1 d.counter && leb d.counter (entry es d.node))
+unfolding IsStrictlySortedBy
 in_runs_is [] s d = sym (uncounted d.counter)
 in_runs_is (e ∷ es) s d = turn (eq_by_cmp text_cmp d.node e.0) refl (in_runs_is es s.1 d)
   where

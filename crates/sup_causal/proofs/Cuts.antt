@@ -10,7 +10,8 @@ use Rattle.std.proofs.lemmas.List.{take_more, get_or_read, get_or-take}
 use Rattle.std.proofs.lemmas.Map.Lookups.{exact_bytes}
 use Rattle.std.proofs.Math.Bool.{or-false}
 use mathlib.Core.Bool.{false≢true}
-use Rattle.sup_specs.specs.Rising.{IsRising, among}
+use Rattle.std.specs.List.Sorted.{IsStrictlySortedBy}
+use Rattle.sup_specs.specs.Rising.{among}
 use Rattle.sup_specs.specs.Values.{text_cmp}
 use Rattle.sup_specs.specs.declared.limits.TheConstants.{MAX}
 use Rattle.sup_causal.specs.declared.dot.Dot.{Dot}
@@ -123,7 +124,8 @@ module _ (v : List (List ℕ × ℕ)) (c e : List Dot) (x : Dot) (more : (d : Do
       ap (λ b. in_vector v d || b) (sym (among_is e d) ∙ more d ∙ ap (λ b. b || dot_eq x d) (among_is c d))
       ∙ sym (or_assoc (in_vector v d) (among dot_cmp c d) (dot_eq x d))
 
-  pub cloud_canonical : IsCanonical v c → IsRising dot_cmp e → entry v x.node + 2 ≤ x.counter → x.counter ≤ MAX → IsCanonical v e
+  pub cloud_canonical : IsCanonical v c → IsStrictlySortedBy dot_cmp e → entry v x.node + 2 ≤ x.counter → x.counter ≤ MAX → IsCanonical v e
+  unfolding IsStrictlySortedBy
   cloud_canonical canonical rises far high = record {
     by_name = canonical.by_name;
     entries = canonical.entries;
@@ -136,7 +138,8 @@ module _ (v : List (List ℕ × ℕ)) (c e : List Dot) (x : Dot) (more : (d : Do
       at d false other there = each_has (λ y. (entry v y.node + 2 ≤ y.counter) × (y.counter ≤ MAX)) c canonical.apart d (sym (or-false (list_has c d)) ∙ there)
 
 -- ---- the last of rising dots
-pub rising_push : (xs : List Dot) (x : Dot) → IsRising dot_cmp xs → AllByRecursion (λ y. dot_cmp y x ≡ Less) xs → IsRising dot_cmp (xs ++ x ∷ [])
+pub rising_push : (xs : List Dot) (x : Dot) → IsStrictlySortedBy dot_cmp xs → AllByRecursion (λ y. dot_cmp y x ≡ Less) xs → IsStrictlySortedBy dot_cmp (xs ++ x ∷ [])
+unfolding IsStrictlySortedBy
 rising_push [] x rises below = (tt, tt)
 rising_push (y ∷ ys) x rises below = (each_push (λ z. dot_cmp y z ≡ Less) ys x rises.0 below.0, rising_push ys x rises.1 below.1)
 
@@ -148,7 +151,8 @@ module _ (xs : List Dot) (i : ℕ) (x : Dot) (within : i < length xs) (at : x �
   has_more d = ap (λ ys. list_has ys d) (take_more xs i x within ∙ ap (λ y. take i xs ++ y ∷ []) (sym at)) ∙ has_push (take i xs) x d
 
   -- all before it are below it
-  pub before_less : IsRising dot_cmp xs → (d : Dot) → list_has (take i xs) d ≡ true → dot_cmp d x ≡ Less
+  pub before_less : IsStrictlySortedBy dot_cmp xs → (d : Dot) → list_has (take i xs) d ≡ true → dot_cmp d x ≡ Less
+  unfolding IsStrictlySortedBy
   before_less rises d there =
       let place : (k : ℕ) × (k < length (take i xs)) × (get_or (take i xs) k d ≡ d) = place_of (take i xs) d there in
       let before : place.0 < i = omega (arith, place.1, length-take i xs) in

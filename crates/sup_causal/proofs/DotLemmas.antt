@@ -9,9 +9,9 @@ use Rattle.std.proofs.lemmas.Bool.{or_right, or_left}
 use Rattle.std.proofs.lemmas.List.{get_or_default}
 use Rattle.std.proofs.lemmas.List.Elements.{recursion_from_All}
 use Rattle.std.proofs.Common.{subst, Result, Ok, Err, inl, inr, is_ok}
-use Rattle.std.specs.List.Sorted.{IsSearchInRange, IsBinarySearchResult}
+use Rattle.std.specs.List.Sorted.{IsSearchInRange, IsBinarySearchResult, IsStrictlySortedBy}
 use Rattle.std.proofs.lemmas.Bool.{cases_lt, cases_order}
-use Rattle.sup_specs.specs.Rising.{IsRising, among}
+use Rattle.sup_specs.specs.Rising.{among}
 use Rattle.sup_causal.proofs.Rising.{searched, rising_at}
 use Rattle.sup_causal.proofs.Union.{union, any_union}
 use Rattle.sup_causal.specs.DotLaws.{dot_total, dot_exact}
@@ -78,7 +78,8 @@ has_none [] d all = refl
 has_none (x ∷ xs) d all = or_none _ _ (dot_ties x d ∙ all.0) (has_none xs d all.1)
 
 -- what a search for a dot answers, by the test
-pub search_has : (xs : List Dot) → IsRising dot_cmp xs → (d : Dot) (r : Result ℕ ℕ) → IsSearchInRange r (length xs) → IsBinarySearchResult (λ y. dot_cmp y d) xs r → is_ok r ≡ list_has xs d
+pub search_has : (xs : List Dot) → IsStrictlySortedBy dot_cmp xs → (d : Dot) (r : Result ℕ ℕ) → IsSearchInRange r (length xs) → IsBinarySearchResult (λ y. dot_cmp y d) xs r → is_ok r ≡ list_has xs d
+unfolding IsStrictlySortedBy
 search_has xs s d (Ok i) within equal = sym (has_at xs i d within (equal d))
 search_has xs s d (Err i) within parted =
     let gap = searched dot_total xs s d (Err i) within parted in
@@ -164,7 +165,7 @@ counter_from_less x y h = by_ranked (x.counter < y.counter) (x.counter ≡ y.cou
     (λ e above. let wrong : Greater ≡ Less = ap (λ o. ordering_then o (slice_cmp nat_cmp x.node y.node)) (sym e) ∙ h in cc)
 
 -- the last dot of the node has its greatest counter
-pub greatest_at : (xs : List Dot) → IsRising dot_cmp xs → (i : ℕ) (node : List ℕ) → i < length xs → (d e : Dot) → (get_or xs i d).node ≡ node
+pub greatest_at : (xs : List Dot) → IsStrictlySortedBy dot_cmp xs → (i : ℕ) (node : List ℕ) → i < length xs → (d e : Dot) → (get_or xs i d).node ≡ node
     → ((k : ℕ) (d : Dot) → i < k → k < length xs → (get_or xs k d).node ≡ node → ⊥) → IsGreatest (list_has xs) node (get_or xs i e).counter
 greatest_at xs rises i node within d e same none = record { bound = bound; reached = λ lt. has_at xs i (record { counter = (get_or xs i e).counter; node = node }) within (tied_from (get_or xs i (record { counter = (get_or xs i e).counter; node = node })) (record { counter = (get_or xs i e).counter; node = node }) (get_or_default xs i (record { counter = (get_or xs i e).counter; node = node }) e within ∙ dot_is)) }
   where

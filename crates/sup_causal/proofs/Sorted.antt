@@ -14,23 +14,11 @@ use Rattle.std.proofs.lemmas.Map.Keys.{sorted_from_all_adjacent}
 use Rattle.std.proofs.lemmas.List.Sorted.{list_any-IsPermutation}
 use Rattle.std.proofs.lemmas.List.Kept.{IsStrictlySortedBy-dedup}
 use mathlib.Core.Bool.{false≢true}
-use Rattle.sup_specs.specs.Rising.{IsRising}
 use Rattle.sup_causal.specs.declared.dot.Dot.{Dot}
 use Rattle.sup_causal.specs.Dots.{dot_cmp, dot_eq, list_has, IsCounted, IsKept}
 use Rattle.sup_causal.specs.DotLaws.{dot_total, dot_exact}
 use Rattle.sup_causal.proofs.Rising.{rising_at}
 use Rattle.sup_causal.proofs.DotLemmas.{list_has_any, each_has, each_from_has, equal_from_is_eq}
-
--- the word of std's
-pub rising_from_sorted : {K : Type 0} (R : K → K → Ordering) (xs : List K) → IsStrictlySortedBy R xs → IsRising R xs
-unfolding IsStrictlySortedBy
-rising_from_sorted R [] s = tt
-rising_from_sorted R (x ∷ xs) s = (s.0, rising_from_sorted R xs s.1)
-
-pub sorted_from_rising : {K : Type 0} (R : K → K → Ordering) (xs : List K) → IsRising R xs → IsStrictlySortedBy R xs
-unfolding IsStrictlySortedBy
-sorted_from_rising R [] s = tt
-sorted_from_rising R (x ∷ xs) s = (s.0, sorted_from_rising R xs s.1)
 
 -- a list of pairs whose keys rise
 each_key : {K X : Type 0} (P : K → Type 0) (es : List (K × X)) → AllByRecursion P (keys_of es) → AllByRecursion (λ e. P e.0) es
@@ -41,11 +29,13 @@ key_each : {K X : Type 0} (P : K → Type 0) (es : List (K × X)) → AllByRecur
 key_each P [] all = tt
 key_each P (e ∷ es) all = (all.0, key_each P es all.1)
 
-pub pairs_rise : {K X : Type 0} (R : K → K → Ordering) (es : List (K × X)) → IsRising R (keys_of es) → IsRising (λ (a b : K × X). R a.0 b.0) es
+pub pairs_rise : {K X : Type 0} (R : K → K → Ordering) (es : List (K × X)) → IsStrictlySortedBy R (keys_of es) → IsStrictlySortedBy (λ (a b : K × X). R a.0 b.0) es
+unfolding IsStrictlySortedBy
 pairs_rise R [] s = tt
 pairs_rise R (e ∷ es) s = (each_key (λ k. R e.0 k ≡ Less) es s.0, pairs_rise R es s.1)
 
-pub keys_rise_from_pairs : {K X : Type 0} (R : K → K → Ordering) (es : List (K × X)) → IsRising (λ (a b : K × X). R a.0 b.0) es → IsRising R (keys_of es)
+pub keys_rise_from_pairs : {K X : Type 0} (R : K → K → Ordering) (es : List (K × X)) → IsStrictlySortedBy (λ (a b : K × X). R a.0 b.0) es → IsStrictlySortedBy R (keys_of es)
+unfolding IsStrictlySortedBy
 keys_rise_from_pairs R [] s = tt
 keys_rise_from_pairs R (e ∷ es) s = (key_each (λ k. R e.0 k ≡ Less) es s.0, keys_rise_from_pairs R es s.1)
 
@@ -56,15 +46,18 @@ less_from_is_lt Greater e = absurd (false≢true e)
 
 -- neighbours that rise
 module _ {K : Type 0} {R : K → K → Ordering} (total : IsTotalOrder R) where
-  rising_from_adjacent : (xs : List K) → ((k : ℕ) (d : K) → k + 1 < length xs → true ≡ is_lt (R (get_or xs k d) (get_or xs (k + 1) d))) → IsRising R xs
+  rising_from_adjacent : (xs : List K) → ((k : ℕ) (d : K) → k + 1 < length xs → true ≡ is_lt (R (get_or xs k d) (get_or xs (k + 1) d))) → IsStrictlySortedBy R xs
+  unfolding IsStrictlySortedBy
   rising_from_adjacent [] h = tt
-  rising_from_adjacent (x ∷ xs) h = rising_from_sorted R (x ∷ xs) (sorted_from_all_adjacent total (x ∷ xs) x (λ k within. less_from_is_lt _ (sym (h k x within))))
+  rising_from_adjacent (x ∷ xs) h = sorted_from_all_adjacent total (x ∷ xs) x (λ k within. less_from_is_lt _ (sym (h k x within)))
 
-  adjacent_falls : (xs : List K) → IsRising R xs → (k : ℕ) → k + 1 < length xs → ((d : K) → false ≡ is_lt (R (get_or xs k d) (get_or xs (k + 1) d))) → ⊥
+  adjacent_falls : (xs : List K) → IsStrictlySortedBy R xs → (k : ℕ) → k + 1 < length xs → ((d : K) → false ≡ is_lt (R (get_or xs k d) (get_or xs (k + 1) d))) → ⊥
+  unfolding IsStrictlySortedBy
   adjacent_falls [] s k within h = absurd (omega (arith, within))
   adjacent_falls (x ∷ xs) s k within h = false≢true (h x ∙ ap is_lt (rising_at total (x ∷ xs) s k (k + 1) x (omega arith) within))
 
-  pub rising_answer : (xs : List K) (r : Bool) → IsAllAdjacentAnswer (λ x y b. b ≡ is_lt (R x y)) xs r → (r ≡ true) ↔ IsRising R xs
+  pub rising_answer : (xs : List K) (r : Bool) → IsAllAdjacentAnswer (λ x y b. b ≡ is_lt (R x y)) xs r → (r ≡ true) ↔ IsStrictlySortedBy R xs
+  unfolding IsStrictlySortedBy
   rising_answer xs true answer = (λ _. rising_from_adjacent xs answer, λ _. refl)
   rising_answer xs false answer = (λ wrong. absurd (false≢true wrong), λ s. absurd (adjacent_falls xs s answer.0 answer.1 answer.2))
 
@@ -108,6 +101,6 @@ sorted_has xs ys moved d =
 
 pub sorted_kept : (xs ys : List Dot) → IsPermutation xs ys → IsSorted dot_cmp ys → AllByRecursion IsCounted xs → IsKept (dedup same_dot ys)
 sorted_kept xs ys moved sorted counted = record {
-  rising = rising_from_sorted dot_cmp (dedup same_dot ys) (IsStrictlySortedBy-dedup dot_total dots_tie ys sorted);
+  rising = IsStrictlySortedBy-dedup dot_total dots_tie ys sorted;
   counted = each_from_has IsCounted (dedup same_dot ys) (λ d there. each_has IsCounted xs counted d (sym (sorted_has xs ys moved d) ∙ there));
 }

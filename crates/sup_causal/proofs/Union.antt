@@ -7,7 +7,7 @@ use Rattle.std.specs.FinMap.Entries.{by_order}
 use Rattle.std.specs.Cmp.{IsTotalOrder}
 use Rattle.std.specs.List.{AllByRecursion, list_any}
 use Rattle.sup_specs.specs.Exact.{IsExact}
-use Rattle.sup_specs.specs.Rising.{IsRising}
+use Rattle.std.specs.List.Sorted.{IsStrictlySortedBy}
 use Rattle.sup_causal.proofs.Rising.{less_from_greater}
 
 pub each_weaker : {K : Type 0} (P Q : K → Type 0) → ((x : K) → P x → Q x) → (xs : List K) → AllByRecursion P xs → AllByRecursion Q xs
@@ -106,19 +106,21 @@ module _ {K : Type 0} (R : K → K → Ordering) where
 
     rising_put_before : (x : K) (rest : List K → List K)
         → ((P : K → Type 0) (ys : List K) → P x → ((z : K) → R x z ≡ Less → P z) → AllByRecursion P ys → AllByRecursion P (rest ys))
-        → ((ys : List K) → IsRising R ys → AllByRecursion (λ z. R x z ≡ Less) ys → IsRising R (x ∷ rest ys))
-        → (ys : List K) → IsRising R ys → IsRising R (put_before x rest ys)
+        → ((ys : List K) → IsStrictlySortedBy R ys → AllByRecursion (λ z. R x z ≡ Less) ys → IsStrictlySortedBy R (x ∷ rest ys))
+        → (ys : List K) → IsStrictlySortedBy R ys → IsStrictlySortedBy R (put_before x rest ys)
+    unfolding IsStrictlySortedBy
     rising_put_before x rest each later [] s = later [] tt tt
     rising_put_before x rest each later (y ∷ ys) s = at (R x y) refl (rising_put_before x rest each later ys s.1)
       where
-        at : (o : Ordering) → R x y ≡ o → IsRising R (put_before x rest ys) → IsRising R (by_order o (x ∷ rest (y ∷ ys)) (x ∷ rest ys) (y ∷ put_before x rest ys))
+        at : (o : Ordering) → R x y ≡ o → IsStrictlySortedBy R (put_before x rest ys) → IsStrictlySortedBy R (by_order o (x ∷ rest (y ∷ ys)) (x ∷ rest ys) (y ∷ put_before x rest ys))
         at Less e further = later (y ∷ ys) s (e, above x y e ys s.0)
         at Equal e further = later ys s.1 (subst (λ q. AllByRecursion (λ z. R q z ≡ Less) ys) (sym (exact x y e)) s.0)
         at Greater e further =
             let below : R y x ≡ Less = less_from_greater total x y e in
             (each_put_before (λ z. R y z ≡ Less) x rest below (λ zs all. each (λ z. R y z ≡ Less) zs below (λ z h. total.trans y x z below h) all) ys s.0, further)
 
-    pub rising_union : (xs ys : List K) → IsRising R xs → IsRising R ys → IsRising R (union xs ys)
+    pub rising_union : (xs ys : List K) → IsStrictlySortedBy R xs → IsStrictlySortedBy R ys → IsStrictlySortedBy R (union xs ys)
+    unfolding IsStrictlySortedBy
     rising_union [] ys s t = t
     rising_union (x ∷ xs) ys s t =
         rising_put_before x (union xs)

@@ -10,7 +10,7 @@ use Rattle.std.proofs.lemmas.Map.{lookup-insert, NonePasses}
 use Rattle.std.proofs.lemmas.Map.Lookups.{exact_bytes}
 use Rattle.std.proofs.lemmas.List.Elements.{All-from_recursion, recursion_from_All}
 use Rattle.std.proofs.lemmas.Bool.{cases_lt}
-use Rattle.sup_specs.specs.Rising.{IsRising}
+use Rattle.std.specs.List.Sorted.{IsStrictlySortedBy}
 use Rattle.sup_specs.specs.Values.{text_cmp}
 use Rattle.sup_specs.specs.declared.limits.TheConstants.{MAX}
 use Rattle.sup_causal.specs.declared.dot.Dot.{Dot}
@@ -31,7 +31,8 @@ turned : (a b : List ℕ) → eq_by_cmp text_cmp a b ≡ eq_by_cmp text_cmp b a
 turned a b = (eq_by_cmp_equiv nat_list_cmp_total).symm a b
 
 -- ---- an entry written at its place
-later_node : (e : List ℕ × ℕ) (es : List (List ℕ × ℕ)) → IsRising (λ (a b : List ℕ × ℕ). text_cmp a.0 b.0) (e ∷ es) → (i : ℕ) (node : List ℕ) (d : List ℕ × ℕ) → i < length es → text_cmp (get_or es i d).0 node ≡ Equal → text_cmp e.0 node ≡ Less
+later_node : (e : List ℕ × ℕ) (es : List (List ℕ × ℕ)) → IsStrictlySortedBy (λ (a b : List ℕ × ℕ). text_cmp a.0 b.0) (e ∷ es) → (i : ℕ) (node : List ℕ) (d : List ℕ × ℕ) → i < length es → text_cmp (get_or es i d).0 node ≡ Equal → text_cmp e.0 node ≡ Less
+unfolding IsStrictlySortedBy
 later_node e es s i node d within tie =
     subst (λ m. text_cmp e.0 m ≡ Less) (exact_bytes (get_or es i d).0 node tie) (All-from_recursion (λ (y : List ℕ × ℕ). text_cmp e.0 y.0 ≡ Less) es s.0 i d within)
 
@@ -57,8 +58,9 @@ set_later e es fs node q n less further = at (eq_by_cmp text_cmp q e.0) refl
         entry_of e fs q ∙ ap (λ b. cond b e.1 (entry fs q)) h ∙ further
         ∙ ap (λ m. cond (eq_by_cmp text_cmp node q) n m) (sym (entry_of e es q ∙ ap (λ b. cond b e.1 (entry es q)) h))
 
-pub entry_set : (es : List (List ℕ × ℕ)) → IsRising (λ (a b : List ℕ × ℕ). text_cmp a.0 b.0) es → (i : ℕ) (node : List ℕ) (n : ℕ) (d : List ℕ × ℕ) → i < length es → text_cmp (get_or es i d).0 node ≡ Equal
+pub entry_set : (es : List (List ℕ × ℕ)) → IsStrictlySortedBy (λ (a b : List ℕ × ℕ). text_cmp a.0 b.0) es → (i : ℕ) (node : List ℕ) (n : ℕ) (d : List ℕ × ℕ) → i < length es → text_cmp (get_or es i d).0 node ≡ Equal
     → (q : List ℕ) → entry (set es i (node, n)) q ≡ cond (eq_by_cmp text_cmp node q) n (entry es q)
+unfolding IsStrictlySortedBy
 entry_set [] s i node n d within tie q = absurd (omega (arith, within))
 entry_set (e ∷ es) s zero node n d within tie q = set_first e es node q n (exact_bytes e.0 node tie)
 entry_set (e ∷ es) s (suc i) node n d within tie q =
@@ -76,7 +78,7 @@ each_set P (x ∷ xs) (suc i) y all this = (all.0, each_set P xs i y all.1 this)
 
 pub versions_set : (es : List (List ℕ × ℕ)) → IsVersions es → (i : ℕ) (node : List ℕ) (n : ℕ) (d : List ℕ × ℕ) → i < length es → text_cmp (get_or es i d).0 node ≡ Equal → 1 ≤ n → n ≤ MAX → IsVersions (set es i (node, n))
 versions_set es versions i node n d within tie low high = record {
-  by_name = subst (IsRising text_cmp) (sym (keys_set es i node n d within tie)) versions.by_name;
+  by_name = subst (IsStrictlySortedBy text_cmp) (sym (keys_set es i node n d within tie)) versions.by_name;
   entries = each_set (λ (e : List ℕ × ℕ). (1 ≤ e.1) × (e.1 ≤ MAX)) es i (node, n) versions.entries (low, high);
 }
 

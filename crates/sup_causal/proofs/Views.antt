@@ -9,7 +9,8 @@ use Rattle.std.specs.List.{AllByRecursion}
 use Rattle.std.proofs.lemmas.Bool.{or_cases, and_parts, leb-true}
 use Rattle.std.proofs.lemmas.Bool.Decides.{nat_tests}
 use Rattle.std.proofs.lemmas.Cmp.{eq_by_cmp_equiv, nat_list_cmp_total}
-use Rattle.sup_specs.specs.Rising.{IsRising, among, put_in, rising}
+use Rattle.std.specs.List.Sorted.{IsStrictlySortedBy}
+use Rattle.sup_specs.specs.Rising.{among, put_in, rising}
 use Rattle.sup_specs.proofs.RisingLaws.{among-rising}
 use Rattle.sup_specs.specs.Values.{text_cmp}
 use Rattle.sup_specs.specs.declared.limits.TheConstants.{MAX}
@@ -38,20 +39,22 @@ module _ {K : Type 0} {R : K → K → Ordering} (total : IsTotalOrder R) where
         | Greater ↦ (all.0, later)
       ]
 
-  rising_put_in : (x : K) (ys : List K) → IsRising R ys → IsRising R (put_in R x ys)
+  rising_put_in : (x : K) (ys : List K) → IsStrictlySortedBy R ys → IsStrictlySortedBy R (put_in R x ys)
+  unfolding IsStrictlySortedBy
   rising_put_in x [] s = (tt, tt)
   rising_put_in x (y ∷ ys) s = at (R x y) refl (rising_put_in x ys s.1)
     where
-      at : (o : Ordering) → R x y ≡ o → IsRising R (put_in R x ys) → IsRising R (by_order o (x ∷ y ∷ ys) (y ∷ ys) (y ∷ put_in R x ys))
+      at : (o : Ordering) → R x y ≡ o → IsStrictlySortedBy R (put_in R x ys) → IsStrictlySortedBy R (by_order o (x ∷ y ∷ ys) (y ∷ ys) (y ∷ put_in R x ys))
       at Less e later = ((e, each_weaker (λ z. R y z ≡ Less) (λ z. R x z ≡ Less) (λ z h. total.trans x y z e h) ys s.0), s)
       at Equal e later = s
       at Greater e later = (each_put_in (λ z. R y z ≡ Less) x ys (less_from_greater total x y e) s.0, later)
 
-  rising_rises : (xs : List K) → IsRising R (rising R xs)
+  rising_rises : (xs : List K) → IsStrictlySortedBy R (rising R xs)
+  unfolding IsStrictlySortedBy
   rising_rises [] = tt
   rising_rises (x ∷ xs) = rising_put_in x (rising R xs) (rising_rises xs)
 
-pub dots_rise : (v : List (List ℕ × ℕ)) (c : List Dot) → IsRising dot_cmp (dots_of v c)
+pub dots_rise : (v : List (List ℕ × ℕ)) (c : List Dot) → IsStrictlySortedBy dot_cmp (dots_of v c)
 unfolding dots_of
 dots_rise v c = rising_rises dot_total (runs_dots v ++ c)
 

@@ -4,7 +4,8 @@ use Rattle.std.specs.List.{AllByRecursion, list_any}
 use Rattle.std.specs.Map.{lookup, keys_of}
 use Rattle.std.specs.Ordering.{eq_by_cmp}
 use Rattle.sup_specs.specs.Values.{text_cmp}
-use Rattle.sup_specs.specs.Rising.{IsRising, among}
+use Rattle.std.specs.List.Sorted.{IsStrictlySortedBy}
+use Rattle.sup_specs.specs.Rising.{among}
 use Rattle.sup_causal.specs.Dots.{dot_cmp}
 use Rattle.sup_causal.specs.declared.dot.Dot.{Dot}
 use Rattle.sup_specs.specs.declared.limits.TheConstants.{MAX}
@@ -20,20 +21,20 @@ pub record IsRun (holds : Dot → Bool) (node : List ℕ) (n : ℕ) : Type 0 whe
 
 -- by name, the run of each node, left out where 0
 pub record IsVector (holds : Dot → Bool) (vector : List (List ℕ × ℕ)) : Type 0 where
-  pub by_name : IsRising text_cmp (keys_of vector)
+  pub by_name : IsStrictlySortedBy text_cmp (keys_of vector)
   pub runs : (node : List ℕ) → IsRun holds node (entry vector node)
   pub left_out : AllByRecursion (λ e. 1 ≤ e.1) vector
 
 -- in dot order, the dots beyond the run of their node
 pub record IsCloud (holds : Dot → Bool) (cloud : List Dot) : Type 0 where
-  pub in_order : IsRising dot_cmp cloud
+  pub in_order : IsStrictlySortedBy dot_cmp cloud
   pub beyond : (d : Dot) → (among dot_cmp cloud d ≡ true) ↔ ((holds d ≡ true) × ((n : ℕ) → IsRun holds d.node n → n < d.counter))
 
 -- what makes a vector and a cloud canonical
 pub record IsCanonical (vector : List (List ℕ × ℕ)) (cloud : List Dot) : Type 0 where
-  pub by_name : IsRising text_cmp (keys_of vector)
+  pub by_name : IsStrictlySortedBy text_cmp (keys_of vector)
   pub entries : AllByRecursion (λ e. (1 ≤ e.1) × (e.1 ≤ MAX)) vector
-  pub in_order : IsRising dot_cmp cloud
+  pub in_order : IsStrictlySortedBy dot_cmp cloud
   pub apart : AllByRecursion (λ d. (entry vector d.node + 2 ≤ d.counter) × (d.counter ≤ MAX)) cloud
 
 -- whether a dot is one of the node's first n

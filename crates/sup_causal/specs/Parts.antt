@@ -3,7 +3,8 @@ use Rattle.std.specs.Prelude.{ℕ, zero, suc, ◌+◌, ◌≤◌, Bool, ◌&&◌
 use Rattle.std.specs.List.{AllByRecursion}
 use Rattle.std.specs.Map.{keys_of}
 use Rattle.sup_specs.specs.Values.{text_cmp}
-use Rattle.sup_specs.specs.Rising.{IsRising, rising}
+use Rattle.std.specs.List.Sorted.{IsStrictlySortedBy}
+use Rattle.sup_specs.specs.Rising.{rising}
 use Rattle.sup_specs.specs.declared.limits.TheConstants.{MAX}
 use Rattle.sup_causal.specs.declared.dot.Dot.{Dot}
 use Rattle.sup_causal.specs.Dots.{dot_cmp, Context}
@@ -11,7 +12,7 @@ use Rattle.sup_causal.specs.Cut.{entry}
 
 -- by name, an entry from 1 to MAX for each node that has one
 pub record IsVersions (vector : List (List ℕ × ℕ)) : Type 0 where
-  pub by_name : IsRising text_cmp (keys_of vector)
+  pub by_name : IsStrictlySortedBy text_cmp (keys_of vector)
   pub entries : AllByRecursion (λ e. (1 ≤ e.1) × (e.1 ≤ MAX)) vector
 
 -- whether a vector has a dot

@@ -2,7 +2,8 @@
 
 ghost use Rattle.std.specs.Prelude.{◌≡◌, ◌≤◌, ◌+◌, ◌||◌, ◌↔◌, length, Bool, false, true, IsTrue, Err, IfOk, IfErr, OnOk, OnErr, IfSome, IsNone};
 ghost use Rattle.std.specs.Prelude.{All};
-ghost use Rattle.sup_specs.specs.Rising.{among, IsRising};
+ghost use Rattle.std.specs.List.Sorted.{IsStrictlySortedBy};
+ghost use Rattle.sup_specs.specs.Rising.{among};
 ghost use Rattle.sup_causal.specs.Cut.{in_parts, IsVector, IsCloud, IsCanonical};
 ghost use Rattle.sup_causal.specs.declared.parts.PartsFault.TheVariants.{NotCanonical};
 ghost use Rattle.sup_causal.specs.Dots.{has, list_has, dot_cmp, dot_eq, IsCounted, IsGreatest, IsKept, IsNext};
@@ -101,7 +102,7 @@ impl CausalContext {
 
     /// A contract sees a context's dots as their rising list, so two contexts with the same dots are equal.
     pub fn in_order(&self)
-        ensures { IsRising dot_cmp self.now }
+        ensures { IsStrictlySortedBy dot_cmp self.now }
     {
         // The read alone shows the prover how the dots are kept.
         let _vector = &self.vector;

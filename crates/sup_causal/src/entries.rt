@@ -3,7 +3,7 @@
 ghost use Rattle.std.specs.Prelude.{◌≡◌, ℕ, ◌≤◌, ◌||◌, List, [], cond, IfOk, OnOk, OnErr};
 ghost use Rattle.std.specs.Map.{keys_of};
 ghost use Rattle.std.specs.Ordering.{eq_by_cmp};
-ghost use Rattle.sup_specs.specs.Rising.{IsRising};
+ghost use Rattle.std.specs.List.Sorted.{IsStrictlySortedBy};
 ghost use Rattle.sup_specs.specs.Values.{text_cmp};
 ghost use Rattle.sup_causal.specs.Cut.{entry, in_runs};
 ghost use Rattle.sup_causal.specs.Parts.{IsVersions, in_vector};
@@ -14,7 +14,7 @@ use sup_specs::{MAX, NodeName};
 
 // A node's entry, 0 where it has none.
 pub(crate) fn entry_in(vector: &[(NodeName, u64)], node: &NodeName) -> u64
-    requires { IsRising text_cmp (keys_of vector.now) }
+    requires { IsStrictlySortedBy text_cmp (keys_of vector.now) }
     ensures { result ≡ entry vector.now node.now }
 {
     match vector.binary_search_by(|entry| entry.0.cmp(node)) {

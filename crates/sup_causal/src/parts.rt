@@ -2,7 +2,7 @@
 
 ghost use Rattle.std.specs.Prelude.{◌+◌, ◌≤◌, ◌↔◌, All, IsTrue};
 ghost use Rattle.std.specs.Map.{keys_of};
-ghost use Rattle.sup_specs.specs.Rising.{IsRising};
+ghost use Rattle.std.specs.List.Sorted.{IsStrictlySortedBy};
 ghost use Rattle.sup_specs.specs.Values.{text_cmp};
 ghost use Rattle.sup_causal.specs.Cut.{entry, IsCanonical};
 ghost use Rattle.sup_causal.specs.Dots.{dot_cmp};
@@ -41,13 +41,13 @@ pub(crate) fn is_canonical(vector: &[(NodeName, u64)], cloud: &[Dot]) -> bool
 }
 
 fn names_rise(vector: &[(NodeName, u64)]) -> bool
-    ensures { IsTrue result ↔ IsRising text_cmp (keys_of vector.now) }
+    ensures { IsTrue result ↔ IsStrictlySortedBy text_cmp (keys_of vector.now) }
 {
     vector.is_sorted_by(|left, right| left.0 < right.0)
 }
 
 fn dots_rise(dots: &[Dot]) -> bool
-    ensures { IsTrue result ↔ IsRising dot_cmp dots.now }
+    ensures { IsTrue result ↔ IsStrictlySortedBy dot_cmp dots.now }
 {
     dots.is_sorted_by(|left, right| left < right)
 }
@@ -59,7 +59,7 @@ fn all_counted(vector: &[(NodeName, u64)]) -> bool
 }
 
 fn all_apart(vector: &[(NodeName, u64)], cloud: &[Dot]) -> bool
-    requires { IsRising text_cmp (keys_of vector.now) }
+    requires { IsStrictlySortedBy text_cmp (keys_of vector.now) }
     ensures { IsTrue result ↔ All (λ d. (entry vector.now d.node + 2 ≤ d.counter) × (d.counter ≤ MAX)) cloud.now }
 {
     for dot in cloud {
@@ -72,7 +72,7 @@ fn all_apart(vector: &[(NodeName, u64)], cloud: &[Dot]) -> bool
 
 // Whether the dot's counter is in its limits and at least 2 above its node's entry.
 fn is_apart(vector: &[(NodeName, u64)], dot: &Dot) -> bool
-    requires { IsRising text_cmp (keys_of vector.now) }
+    requires { IsStrictlySortedBy text_cmp (keys_of vector.now) }
     ensures { IsTrue result ↔ (entry vector.now dot.now.node + 2 ≤ dot.now.counter) × (dot.now.counter ≤ MAX) }
 {
     dot.counter <= MAX && entry_in(vector, &dot.node).saturating_add(2) <= dot.counter

@@ -2,7 +2,7 @@
 
 ghost use Rattle.std.specs.Prelude.{◌≡◌, ◌+◌, ◌≤◌, ◌||◌, false, length, IfOk, OnOk, OnErr};
 ghost use Rattle.std.specs.List.{AllByRecursion};
-ghost use Rattle.sup_specs.specs.Rising.{IsRising};
+ghost use Rattle.std.specs.List.Sorted.{IsStrictlySortedBy};
 ghost use Rattle.sup_causal.specs.Dots.{dot_cmp, dot_eq, list_has, IsCounted, IsGreatest, IsKept};
 
 use crate::dot::Dot;
@@ -56,7 +56,7 @@ pub(crate) fn union(alloc: Global, left: &[Dot], right: &[Dot]) -> Result<Vec<Do
 
 // Whether the list has the dot, by binary search.
 pub(crate) fn is_in(dot: &Dot, dots: &[Dot]) -> bool
-    requires { IsRising dot_cmp dots.now }
+    requires { IsStrictlySortedBy dot_cmp dots.now }
     ensures { result ≡ list_has dots.now dot.now }
 {
     dots.binary_search(dot).is_ok()
@@ -64,7 +64,7 @@ pub(crate) fn is_in(dot: &Dot, dots: &[Dot]) -> bool
 
 // The greatest counter of the node's dots, from the back: counters rise, so the first that is met is the greatest.
 pub(crate) fn greatest_of(dots: &[Dot], node: &NodeName) -> u64
-    requires { IsRising dot_cmp dots.now }
+    requires { IsStrictlySortedBy dot_cmp dots.now }
     ensures { IsGreatest (list_has dots.now) node.now result }
 {
     let mut i = dots.len();
@@ -80,8 +80,8 @@ pub(crate) fn greatest_of(dots: &[Dot], node: &NodeName) -> u64
 // Puts a dot in at its place, where it is not there. Where memory is refused the list stays as it was, and the dot is
 // not there.
 pub(crate) fn put(dots: &mut Vec<Dot>, dot: Dot) -> Result<(), AllocError>
-    requires { IsRising dot_cmp dots.old.items }
-    ensures rising { IsRising dot_cmp dots.new.items }
+    requires { IsStrictlySortedBy dot_cmp dots.old.items }
+    ensures rising { IsStrictlySortedBy dot_cmp dots.new.items }
     ensures ok { OnOk result ((d : Dot) → list_has dots.new.items d ≡ (list_has dots.old.items d || dot_eq dot d)) }
     ensures err { OnErr result (dots.new.items ≡ dots.old.items) }
     ensures fresh { OnErr result (list_has dots.old.items dot ≡ false) }

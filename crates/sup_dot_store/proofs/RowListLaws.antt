@@ -9,7 +9,6 @@ use Rattle.std.proofs.lemmas.Cmp.{tied_itself}
 use Rattle.std.specs.List.{AllByRecursion}
 use Rattle.std.specs.List.Sorted.{IsStrictlySortedBy}
 use Rattle.std.specs.Map.{keys_of}
-use Rattle.sup_specs.specs.Rising.{IsRising}
 use Rattle.sup_causal.specs.declared.dot.Dot.{Dot}
 use Rattle.sup_causal.specs.Dots.{dot_cmp}
 use Rattle.sup_dot_store.specs.declared.dot_fun.DotFun.{DotFun}
@@ -19,7 +18,8 @@ all_append : {X : Type 0} (P : X → Type 0) (xs ys : List X) → AllByRecursion
 all_append P [] ys a b = b
 all_append P (x ∷ xs) ys a b = (a.0, all_append P xs ys a.1 b)
 
-rising_append : {X : Type 0} (cmp : X → X → Ordering) (xs ys : List X) → IsRising cmp xs → IsRising cmp ys → AllByRecursion (λ x. AllByRecursion (λ y. cmp x y ≡ Less) ys) xs → IsRising cmp (xs ++ ys)
+rising_append : {X : Type 0} (cmp : X → X → Ordering) (xs ys : List X) → IsStrictlySortedBy cmp xs → IsStrictlySortedBy cmp ys → AllByRecursion (λ x. AllByRecursion (λ y. cmp x y ≡ Less) ys) xs → IsStrictlySortedBy cmp (xs ++ ys)
+unfolding IsStrictlySortedBy
 rising_append cmp [] ys a b below = b
 rising_append cmp (x ∷ xs) ys a b below = (all_append (λ y. cmp x y ≡ Less) xs ys a.0 below.0, rising_append cmp xs ys a.1 b below.1)
 
@@ -34,7 +34,7 @@ module _ {K V : Type 0} {cmp : K → K → Ordering} (total : IsTotalOrder cmp) 
   below_values k e [] all = tt
   below_values k e (f ∷ fs) all = (past (cmp k k) (dot_cmp e.0 f.0) (tied_itself total k) all.0, below_values k e fs all.1)
 
-  values_rise : (k : K) (es : List (Dot × V)) → IsStrictlySortedBy dot_cmp (keys_of es) → IsRising (row_cmp cmp) (rows_under k es)
+  values_rise : (k : K) (es : List (Dot × V)) → IsStrictlySortedBy dot_cmp (keys_of es) → IsStrictlySortedBy (row_cmp cmp) (rows_under k es)
   unfolding IsStrictlySortedBy
   values_rise k [] s = tt
   values_rise k (e ∷ es) s = (below_values k e es s.0, values_rise k es s.1)
@@ -52,7 +52,7 @@ module _ {K V : Type 0} {cmp : K → K → Ordering} (total : IsTotalOrder cmp) 
   each_above k [] es all = tt
   each_above k (f ∷ fs) es all = (above_keys k f.0 f.1 es all, each_above k fs es all)
 
-  pub rows_rise : (es : List (K × DotFun V)) → IsStrictlySortedBy cmp (keys_of es) → IsRising (row_cmp cmp) (rows_of es)
+  pub rows_rise : (es : List (K × DotFun V)) → IsStrictlySortedBy cmp (keys_of es) → IsStrictlySortedBy (row_cmp cmp) (rows_of es)
   unfolding IsStrictlySortedBy
   rows_rise [] s = tt
   rows_rise (e ∷ es) s =

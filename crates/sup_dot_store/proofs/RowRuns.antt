@@ -16,8 +16,6 @@ use Rattle.std.specs.List.{AllByRecursion}
 use Rattle.std.specs.List.Sorted.{IsStrictlySortedBy}
 use Rattle.std.specs.Map.{keys_of, lookup}
 use Rattle.std.specs.BTreeMap.{insert_entry}
-use Rattle.sup_specs.specs.Rising.{IsRising}
-use Rattle.sup_causal.proofs.Sorted.{sorted_from_rising}
 use Rattle.sup_causal.specs.declared.dot.Dot.{Dot}
 use Rattle.sup_causal.specs.Dots.{dot_cmp}
 use Rattle.sup_causal.specs.DotLaws.{dot_total}
@@ -43,11 +41,13 @@ all_of : {X : Type 0} (P : X → Type 0) (xs : List X) → ((x : X) → P x) →
 all_of P [] h = tt
 all_of P (x ∷ xs) h = (h x, all_of P xs h)
 
-rising_front : {X : Type 0} (cmp : X → X → Ordering) (xs ys : List X) → IsRising cmp (xs ++ ys) → IsRising cmp xs
+rising_front : {X : Type 0} (cmp : X → X → Ordering) (xs ys : List X) → IsStrictlySortedBy cmp (xs ++ ys) → IsStrictlySortedBy cmp xs
+unfolding IsStrictlySortedBy
 rising_front cmp [] ys s = tt
 rising_front cmp (x ∷ xs) ys s = (all_front (λ y. cmp x y ≡ Less) xs ys s.0, rising_front cmp xs ys s.1)
 
-rising_back : {X : Type 0} (cmp : X → X → Ordering) (xs ys : List X) → IsRising cmp (xs ++ ys) → IsRising cmp ys
+rising_back : {X : Type 0} (cmp : X → X → Ordering) (xs ys : List X) → IsStrictlySortedBy cmp (xs ++ ys) → IsStrictlySortedBy cmp ys
+unfolding IsStrictlySortedBy
 rising_back cmp [] ys s = s
 rising_back cmp (x ∷ xs) ys s = rising_back cmp xs ys s.1
 
@@ -79,7 +79,7 @@ below_key total key k l (inr same) below = total.congr k l key same ∙ below
 -- some rows are still in the list, the others under their keys
 pub record IsCut {K V : Type 0} (cmp : K → K → Ordering) (all rows : List (K × Dot × V)) (es : List (K × DotFun V)) : Type 0 where
   pub cut : rows ++ rows_of es ≡ all
-  pub rising : IsRising (row_cmp cmp) rows
+  pub rising : IsStrictlySortedBy (row_cmp cmp) rows
   pub below : AllByRecursion (λ r. AllByRecursion (λ k. cmp r.0 k ≡ Less) (keys_of es)) rows
   pub some : AllByRecursion HasValue es
 
@@ -89,14 +89,15 @@ module _ {K V : Type 0} {cmp : K → K → Ordering} (total : IsTotalOrder cmp) 
   dots_above key d v [] all = tt
   dots_above key d v (e ∷ es) all = (past_equal _ _ (tied_itself total key) all.0, dots_above key d v es all.1)
 
-  dots_rising : (key : K) (es : List (Dot × V)) → IsRising (row_cmp cmp) (rows_under key es) → IsRising dot_cmp (keys_of es)
+  dots_rising : (key : K) (es : List (Dot × V)) → IsStrictlySortedBy (row_cmp cmp) (rows_under key es) → IsStrictlySortedBy dot_cmp (keys_of es)
+  unfolding IsStrictlySortedBy
   dots_rising key [] s = tt
   dots_rising key (e ∷ es) s = (dots_above key e.0 e.1 es s.0, dots_rising key es s.1)
 
   -- the dots of a run rise
-  pub run_rises : (key : K) (all rest : List (K × Dot × V)) (es : List (Dot × V)) → IsRising (row_cmp cmp) all → rest ++ rows_under key es ≡ all → IsStrictlySortedBy dot_cmp (keys_of es)
+  pub run_rises : (key : K) (all rest : List (K × Dot × V)) (es : List (Dot × V)) → IsStrictlySortedBy (row_cmp cmp) all → rest ++ rows_under key es ≡ all → IsStrictlySortedBy dot_cmp (keys_of es)
   run_rises key all rest es rising cut =
-      sorted_from_rising dot_cmp (keys_of es) (dots_rising key es (rising_back (row_cmp cmp) rest (rows_under key es) (subst (IsRising (row_cmp cmp)) (sym cut) rising)))
+      dots_rising key es (rising_back (row_cmp cmp) rest (rows_under key es) (subst (IsStrictlySortedBy (row_cmp cmp)) (sym cut) rising))
 
   -- the values of a run are met from the last
   pub row_more : (key : K) (d : Dot) (v : V) (all old new : List (K × Dot × V)) (met more : List (Dot × V))
@@ -110,26 +111,29 @@ module _ {K V : Type 0} {cmp : K → K → Ordering} (total : IsTotalOrder cmp) 
 
   -- rows before a run of the key that don't end in one of the key have lower keys
   all_below_key : (key : K) (rest : List (K × Dot × V)) (d : Dot) (v : V) (more : List (K × Dot × V))
-      → IsRising (row_cmp cmp) (rest ++ (key, d, v) ∷ more) → EndsOff cmp key rest → AllByRecursion (λ r. cmp r.0 key ≡ Less) rest
+      → IsStrictlySortedBy (row_cmp cmp) (rest ++ (key, d, v) ∷ more) → EndsOff cmp key rest → AllByRecursion (λ r. cmp r.0 key ≡ Less) rest
+  unfolding IsStrictlySortedBy
   all_below_key key [] d v more s off = tt
   all_below_key key (r ∷ []) d v more s off = (first_less _ _ (off [] r refl) s.0.0, tt)
   all_below_key key (r ∷ q ∷ rs) d v more s off =
       let rest = all_below_key key (q ∷ rs) d v more s.1 (λ front row e. off (r ∷ front) row (ap (λ rows. r ∷ rows) e)) in
       (below_key total key r.0 q.0 (first_at_most _ _ s.0.0) rest.0, rest)
 
-  all_below_run : (key : K) (rest : List (K × Dot × V)) (es : List (Dot × V)) → (es ≡ [] → ⊥) → IsRising (row_cmp cmp) (rest ++ rows_under key es) → EndsOff cmp key rest → AllByRecursion (λ r. cmp r.0 key ≡ Less) rest
+  all_below_run : (key : K) (rest : List (K × Dot × V)) (es : List (Dot × V)) → (es ≡ [] → ⊥) → IsStrictlySortedBy (row_cmp cmp) (rest ++ rows_under key es) → EndsOff cmp key rest → AllByRecursion (λ r. cmp r.0 key ≡ Less) rest
+  unfolding IsStrictlySortedBy
   all_below_run key rest [] some s off = absurd (some refl)
   all_below_run key rest (e ∷ es) some s off = all_below_key key rest e.0 e.1 (rows_under key es) s off
 
   pub run_is : (key : K) (all rest : List (K × Dot × V)) (function : DotFun V) (es : List (Dot × V)) → function.values.entries ≡ es
-      → IsRising (row_cmp cmp) all → rest ++ rows_under key es ≡ all → (es ≡ [] → ⊥) → EndsOff cmp key rest → IsLastRun cmp all rest key function
+      → IsStrictlySortedBy (row_cmp cmp) all → rest ++ rows_under key es ≡ all → (es ≡ [] → ⊥) → EndsOff cmp key rest → IsLastRun cmp all rest key function
   run_is key all rest function es same rising cut some off = record {
     cut = ap (λ fs. rest ++ rows_under key fs) same ∙ cut;
-    above = all_below_run key rest es some (subst (IsRising (row_cmp cmp)) (sym cut) rising) off;
+    above = all_below_run key rest es some (subst (IsStrictlySortedBy (row_cmp cmp)) (sym cut) rising) off;
     some = λ none. some (sym same ∙ none);
   }
 
-  pub uncut : (all : List (K × Dot × V)) → IsRising (row_cmp cmp) all → IsCut cmp all all []
+  pub uncut : (all : List (K × Dot × V)) → IsStrictlySortedBy (row_cmp cmp) all → IsCut cmp all all []
+  unfolding IsStrictlySortedBy
   uncut all rising = record { cut = append-nil all; rising = rising; below = all_of _ all (λ r. tt); some = tt }
 
   key_below : (key : K) (fs : List (Dot × V)) (es : List (K × DotFun V)) → (fs ≡ [] → ⊥) → AllByRecursion (λ r. AllByRecursion (λ k. cmp r.0 k ≡ Less) (keys_of es)) (rows_under key fs)
@@ -141,7 +145,7 @@ module _ {K V : Type 0} {cmp : K → K → Ordering} (total : IsTotalOrder cmp) 
       → IsCut cmp all rows es → IsLastRun cmp rows rest key function → more ≡ insert_entry cmp es key function → IsCut cmp all rest more
   cut_more all rows rest es more key function done run put =
       let under = rows_under key function.values.entries in
-      let rising : IsRising (row_cmp cmp) (rest ++ under) = subst (IsRising (row_cmp cmp)) (sym run.cut) done.rising in
+      let rising : IsStrictlySortedBy (row_cmp cmp) (rest ++ under) = subst (IsStrictlySortedBy (row_cmp cmp)) (sym run.cut) done.rising in
       let Below : K × Dot × V → Type 0 = λ r. AllByRecursion (λ k. cmp r.0 k ≡ Less) (keys_of es) in
       let below : AllByRecursion Below (rest ++ under) = subst (AllByRecursion Below) (sym run.cut) done.below in
       let first = put_before cmp es key function (key_below key function.values.entries es run.some (all_back Below rest under below)) in

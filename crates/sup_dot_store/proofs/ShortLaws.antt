@@ -18,12 +18,11 @@ use Rattle.std.proofs.lemmas.Option.{slice_get-get_or, get_or_from_slice_get, sl
 use Rattle.std.proofs.lemmas.Map.{lookup-insert, lookup-remove_entry, none_passes_from_lookup}
 use Rattle.std.proofs.lemmas.Map.Entries.{lookup_from_place, lookup_at_gap}
 use Rattle.std.proofs.lemmas.Map.Keys.{IsDistinct-from_sorted}
-use Rattle.sup_specs.specs.Rising.{IsRising}
 use Rattle.sup_causal.specs.declared.dot.Dot.{Dot}
 use Rattle.sup_causal.specs.Dots.{dot_cmp, dot_eq}
 use Rattle.sup_causal.specs.DotLaws.{dot_total, dot_exact}
 use Rattle.sup_causal.proofs.Rising.{greater_from_less, less_from_greater, rising_at, rising_insert}
-use Rattle.sup_causal.proofs.Sorted.{rising_from_sorted, sorted_from_rising, pairs_rise, keys_rise_from_pairs}
+use Rattle.sup_causal.proofs.Sorted.{pairs_rise, keys_rise_from_pairs}
 use Rattle.sup_dot_store.proofs.IndexLaws.{same}
 
 pub not_there : {V : Type 0} {o : Option V} {v : V} → o ≡ None → o ≡ Some v → ⊥
@@ -57,29 +56,34 @@ module _ {V : Type 0} where
   abbrev pub taken_from : List (Dot × V) → Dot → Dot → Option V
   taken_from es q d = cond (dot_eq q d) None (found_at es d)
 
-  rising : (es : List (Dot × V)) → Rises es → IsRising entry_cmp es
-  rising es s = pairs_rise dot_cmp es (rising_from_sorted dot_cmp (keys_of es) s)
+  rising : (es : List (Dot × V)) → Rises es → IsStrictlySortedBy entry_cmp es
+  rising es s = pairs_rise dot_cmp es s
 
-  pub rises_from : (es : List (Dot × V)) → IsRising entry_cmp es → Rises es
-  rises_from es s = sorted_from_rising dot_cmp (keys_of es) (keys_rise_from_pairs dot_cmp es s)
+  pub rises_from : (es : List (Dot × V)) → IsStrictlySortedBy entry_cmp es → Rises es
+  rises_from es s = keys_rise_from_pairs dot_cmp es s
 
   pub none_rise : (es : List (Dot × V)) → es ≡ [] → Rises es
-  none_rise es e = rises_from es (subst (IsRising entry_cmp) (sym e) tt)
+  unfolding IsStrictlySortedBy
+  none_rise es e = rises_from es (subst (IsStrictlySortedBy entry_cmp) (sym e) tt)
 
   pub one_rises : (es : List (Dot × V)) (e : Dot × V) → es ≡ e ∷ [] → Rises es
-  one_rises es e is = rises_from es (subst (IsRising entry_cmp) (sym is) (tt, tt))
+  unfolding IsStrictlySortedBy
+  one_rises es e is = rises_from es (subst (IsStrictlySortedBy entry_cmp) (sym is) (tt, tt))
 
   searchable : (es : List (Dot × V)) → Rises es → (q : Dot) → IsNonDecreasingBy (λ e. ordering_index (dot_cmp e.0 q)) es
+  unfolding IsStrictlySortedBy
   searchable es s q = searchable_from_sorted dot_total (λ (e : Dot × V). e.0) es q (λ k d low within. ap is_lt (greater_from_less entry_total (get_or es k d) (get_or es (k + 1) d) (rising_at entry_total es (rising es s) k (k + 1) d (omega arith) within)))
 
   -- what a search found
   pub found : (es : List (Dot × V)) → Rises es → (q : Dot) (i : ℕ) (d : Dot × V) → i < length es → dot_cmp (get_or es i d).0 q ≡ Equal → found_at es q ≡ Some (get_or es i d).1
+  unfolding IsStrictlySortedBy
   found es s q i d within tie =
       let e = get_or es i d in
       subst (λ x. found_at es x ≡ Some e.1) (dot_exact e.0 q tie) (lookup_from_place (eq_by_cmp_equiv dot_total) es i e.0 e.1 (IsDistinct-from_sorted dot_cmp (keys_of es) s) (slice_get-get_or es i d within))
 
   -- what it did not find
   pub missed : (es : List (Dot × V)) → Rises es → (q : Dot) (i : ℕ) → IsBinarySearchResult (λ e. dot_cmp e.0 q) es (Err i) → found_at es q ≡ None
+  unfolding IsStrictlySortedBy
   missed es s q i parted =
       let sides = parted (searchable es s q) in
       lookup_at_gap dot_total q es i s
@@ -88,6 +92,7 @@ module _ {V : Type 0} where
 
   -- one value more, at its gap
   pub put_rises : (es : List (Dot × V)) → Rises es → (q : Dot) (v : V) (i : ℕ) → IsBinarySearchResult (λ e. dot_cmp e.0 q) es (Err i) → Rises (insert es i (q, v))
+  unfolding IsStrictlySortedBy
   put_rises es s q v i parted =
       let sides = parted (searchable es s q) in
       rises_from (insert es i (q, v)) (rising_insert entry_total es i (q, v) (rising es s) (λ k d lt. sides.0 k d (omega arith) lt) (λ k d le lt. sides.1 k d le lt))
@@ -102,7 +107,8 @@ module _ {V : Type 0} where
   each_removed P (e ∷ es) zero all = all.1
   each_removed P (e ∷ es) (suc i) all = (all.0, each_removed P es i all.1)
 
-  rising_removed : (es : List (Dot × V)) (i : ℕ) → IsRising entry_cmp es → IsRising entry_cmp (remove es i)
+  rising_removed : (es : List (Dot × V)) (i : ℕ) → IsStrictlySortedBy entry_cmp es → IsStrictlySortedBy entry_cmp (remove es i)
+  unfolding IsStrictlySortedBy
   rising_removed [] zero s = tt
   rising_removed [] (suc i) s = tt
   rising_removed (e ∷ es) zero s = s.1
@@ -111,7 +117,8 @@ module _ {V : Type 0} where
   pub take_rises : (es : List (Dot × V)) → Rises es → (i : ℕ) → Rises (remove es i)
   take_rises es s i = rises_from (remove es i) (rising_removed es i (rising es s))
 
-  removed : (es : List (Dot × V)) → IsRising entry_cmp es → (i : ℕ) (d : Dot × V) → i < length es → remove es i ≡ remove_entry (is_at (dot_cmp (get_or es i d).0)) es
+  removed : (es : List (Dot × V)) → IsStrictlySortedBy entry_cmp es → (i : ℕ) (d : Dot × V) → i < length es → remove es i ≡ remove_entry (is_at (dot_cmp (get_or es i d).0)) es
+  unfolding IsStrictlySortedBy
   removed [] s i d within = absurd (omega arith)
   removed (e ∷ es) s zero d within = sym (ap (λ o. cond (is_eq o) es (e ∷ remove_entry (is_at (dot_cmp e.0)) es)) (tied_itself dot_total e.0))
   removed (e ∷ es) s (suc i) d within =
@@ -120,6 +127,7 @@ module _ {V : Type 0} where
       ap (λ xs. e ∷ xs) (removed es s.1 i d (omega arith)) ∙ sym (ap (λ o. cond (is_eq o) es (e ∷ remove_entry (is_at (dot_cmp x.0)) es)) above)
 
   pub take_at : (es : List (Dot × V)) → Rises es → (q : Dot) (i : ℕ) (e : Dot × V) → i < length es → dot_cmp (get_or es i e).0 q ≡ Equal → (d : Dot) → found_at (remove es i) d ≡ cond (dot_eq q d) None (found_at es d)
+  unfolding IsStrictlySortedBy
   take_at es s q i e within tie d =
       let own : (get_or es i e).0 ≡ q = dot_exact _ q tie in
       ap (λ xs. found_at xs d) (removed es (rising es s) i e within ∙ ap (λ x. remove_entry (is_at (dot_cmp x)) es) own)

@@ -88,7 +88,7 @@ impl<K: Plain, S: DotStore> DotMap<K, S> {
 
 impl<K: Plain, V: Plain> DotMap<K, DotFun<V>> {
     ghost use Rattle.std.specs.Prelude.{◌^◌, ◌-◌, min, length};
-    ghost use Rattle.sup_specs.specs.Rising.{IsRising};
+    ghost use Rattle.std.specs.List.Sorted.{IsStrictlySortedBy};
     ghost use Rattle.sup_dot_store.specs.Contents.{stores_of};
     ghost use Rattle.sup_dot_store.specs.RowLists.{rows_of, row_cmp};
     ghost use Rattle.sup_dot_store.specs.Index.{row_value, value_under};
@@ -96,7 +96,7 @@ impl<K: Plain, V: Plain> DotMap<K, DotFun<V>> {
     /// The map with these rows, each a key, a dot and a value, which rise by key and under one key by dot.
     /// An `Err` is want of memory.
     pub fn of_rows(alloc: Global, rows: Vec<(K, Dot, V)>) -> Result<Self, AllocError>
-        requires { IsRising (row_cmp K.cmp) rows.items }
+        requires { IsStrictlySortedBy (row_cmp K.cmp) rows.items }
         ensures { IfOk result (λ m. rows_of (stores_of m).entries ≡ rows.items) }
     {
         let stores = functions_of(alloc, rows)?;
@@ -109,7 +109,7 @@ impl<K: Plain, V: Plain> DotMap<K, DotFun<V>> {
     /// An `Err` is want of memory.
     pub fn rows(&self) -> Result<Vec<(K, Dot, V)>, AllocError>
         ensures rows { IfOk result (λ rows. rows.items ≡ rows_of (stores_of self.now).entries) }
-        ensures rising { IfOk result (λ rows. IsRising (row_cmp K.cmp) rows.items) }
+        ensures rising { IfOk result (λ rows. IsStrictlySortedBy (row_cmp K.cmp) rows.items) }
         ensures values { IfOk result (λ rows. (k : K) (d : DotValue) → row_value K.cmp rows.items k d ≡ value_under K.cmp (stores_of self.now) k d) }
     {
         let rows = copied_rows(self.alloc, &self.stores)?;

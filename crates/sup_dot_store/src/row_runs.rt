@@ -2,7 +2,7 @@
 
 ghost use Rattle.std.specs.Prelude.{◌≡◌, [], ◌∷◌, ◌++◌, IfOk, IfSome, IfNone};
 ghost use Rattle.std.specs.List.{AllByRecursion};
-ghost use Rattle.sup_specs.specs.Rising.{IsRising};
+ghost use Rattle.std.specs.List.Sorted.{IsStrictlySortedBy};
 ghost use Rattle.sup_dot_store.specs.RowLists.{rows_of, row_cmp, EndsOff, IsLastRun, HasValue};
 
 use crate::dot_fun::DotFun;
@@ -17,7 +17,7 @@ pub fn functions_of<K: Plain, V: Plain>(
     alloc: Global,
     mut rows: Vec<(K, Dot, V)>,
 ) -> Result<BTreeMap<K, DotFun<V>>, AllocError>
-    requires { IsRising (row_cmp K.cmp) rows.items }
+    requires { IsStrictlySortedBy (row_cmp K.cmp) rows.items }
     ensures rows { IfOk result (λ stores. rows_of stores.entries ≡ rows.items) }
     ensures some { IfOk result (λ stores. AllByRecursion HasValue stores.entries) }
 {
@@ -33,7 +33,7 @@ fn last_run<K: Plain, V: Plain>(
     alloc: Global,
     rows: &mut Vec<(K, Dot, V)>,
 ) -> Result<Option<(K, DotFun<V>)>, AllocError>
-    requires { IsRising (row_cmp K.cmp) rows.old.items }
+    requires { IsStrictlySortedBy (row_cmp K.cmp) rows.old.items }
     ensures some { IfOk result (λ run. IfSome run (λ r. IsLastRun K.cmp rows.old.items rows.new.items r.0 r.1)) }
     ensures none { IfOk result (λ run. IfNone run (rows.old.items ≡ [])) }
 {

@@ -14,7 +14,6 @@ use Rattle.std.proofs.lemmas.Cmp.{eq_by_cmp_equiv}
 use Rattle.std.proofs.lemmas.List.{length-map}
 use Rattle.std.proofs.lemmas.Map.Made.{length-from_same_keys}
 use Rattle.std.proofs.lemmas.Map.Keys.{IsDistinct-from_sorted}
-use Rattle.sup_specs.specs.Rising.{IsRising}
 use Rattle.sup_causal.specs.declared.dot.Dot.{Dot}
 use Rattle.sup_causal.specs.Dots.{dot_eq, dot_cmp}
 use Rattle.sup_dot_store.specs.declared.dot_fun.DotFun.{DotFun}
@@ -51,7 +50,7 @@ module _ {K V : Type 0} (cmp : K → K → Ordering) where
   apart_from r [] all = tt
   apart_from r (q ∷ qs) all = (same_place cmp r.0 q.0 r.1 q.1 ∙ less_apart (cmp r.0 q.0) (dot_cmp r.1 q.1) all.0, apart_from r qs all.1)
 
-  places_distinct : (rs : List (K × Dot × V)) → IsRising (row_cmp cmp) rs → IsDistinct (eq_by_cmp (place_cmp cmp)) (places rs)
+  places_distinct : (rs : List (K × Dot × V)) → IsStrictlySortedBy (row_cmp cmp) rs → IsDistinct (eq_by_cmp (place_cmp cmp)) (places rs)
   unfolding IsDistinct
   places_distinct [] rise = tt
   places_distinct (r ∷ rs) rise = (apart_from r rs rise.0, places_distinct rs rise.1)
@@ -64,6 +63,7 @@ module _ {K V : Type 0} (cmp : K → K → Ordering) where
 -- the places that an index has are as many as the values
 pub index_count : {K V : Type 0} {cmp : K → K → Ordering} → IsTotalOrder cmp → (stores : BTreeMap K (DotFun V)) (index : BTreeSet (Place K)) → IsStrictlySortedBy cmp (keys_of stores.entries) → IsStrictlySortedBy (place_cmp cmp) index.keys
     → ListsAll cmp index stores → length index.keys ≡ count_in (all_values stores.entries)
+unfolding IsStrictlySortedBy
 index_count {K} {V} {cmp} total stores index sorted rises lists =
     let rs : List (K × Dot × V) = rows_of stores.entries in
     let place : K × Dot × V → Place K = λ r. place_at r.0 r.1 in

@@ -9,7 +9,8 @@ use Rattle.std.proofs.lemmas.Bool.{or_cases}
 use Rattle.std.proofs.lemmas.Cmp.{tied_itself}
 use Rattle.std.proofs.lemmas.List.Elements.{recursion_from_All}
 use Rattle.sup_specs.specs.Values.{text_cmp}
-use Rattle.sup_specs.specs.Rising.{IsRising, among}
+use Rattle.std.specs.List.Sorted.{IsStrictlySortedBy}
+use Rattle.sup_specs.specs.Rising.{among}
 use Rattle.sup_causal.specs.Dots.{Context, has, dot_cmp}
 use Rattle.sup_tables.specs.declared.row.Row.{Row}
 use Rattle.sup_tables.specs.Rows.{table_place, table_of, key_of, place_cmp, value_cmp, row_cmp, AreInOrder}
@@ -31,6 +32,7 @@ each_among P (x ∷ xs) all r there = elim (or_cases (eq_by_cmp row_cmp r x) (am
 
 -- no two rows that rise stand at one place
 one_at_place : (rows : List Row) → AreInOrder rows → (q r : Row) → among row_cmp rows q ≡ true → among row_cmp rows r ≡ true → place_cmp q r ≡ Equal → place_cmp r q ≡ Equal → q ≡ r
+unfolding IsStrictlySortedBy
 one_at_place [] rises q r has_q has_r e f = absurd (true≢false (sym has_q))
 one_at_place (x ∷ xs) rises q r has_q has_r e f = elim (or_cases (eq_by_cmp row_cmp q x) (among row_cmp xs q) has_q) [
   | inl q_first ↦ elim (or_cases (eq_by_cmp row_cmp r x) (among row_cmp xs r) has_r) [
@@ -47,11 +49,13 @@ all_rise_by_row : (q : Row) (rows : List Row) → AllByRecursion (λ r. place_cm
 all_rise_by_row q [] all = tt
 all_rise_by_row q (r ∷ rs) all = (ap (λ o. ordering_then o (value_cmp q.entry r.entry)) all.0, all_rise_by_row q rs all.1)
 
-rise_by_row : (rows : List Row) → AreInOrder rows → IsRising row_cmp rows
+rise_by_row : (rows : List Row) → AreInOrder rows → IsStrictlySortedBy row_cmp rows
+unfolding IsStrictlySortedBy
 rise_by_row [] rises = tt
 rise_by_row (r ∷ rs) rises = (all_rise_by_row r rs rises.0, rise_by_row rs rises.1)
 
 single : (rows : List Row) → AreInOrder rows → (r : Row) → among row_cmp rows r ≡ true → row_at rows r.dot (table_of r.entry) (key_of r.entry) ≡ Some r
+unfolding IsStrictlySortedBy
 single rows rises r there = found (row_at rows r.dot (table_of r.entry) (key_of r.entry)) refl
   where
     found : (o : Option Row) → row_at rows r.dot (table_of r.entry) (key_of r.entry) ≡ o → o ≡ Some r

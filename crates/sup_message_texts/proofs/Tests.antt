@@ -7,7 +7,7 @@ use Rattle.std.specs.Ordering.{is_lt}
 use Rattle.std.proofs.lemmas.Bool.{and_parts, and_from, le-leb, leb-true}
 use Rattle.std.proofs.lemmas.List.Elements.{All-from_recursion, recursion_from_All}
 use Rattle.sup_specs.specs.Values.{Bytes, text_cmp}
-use Rattle.sup_specs.specs.Rising.{IsRising}
+use Rattle.std.specs.List.Sorted.{IsStrictlySortedBy}
 use Rattle.sup_specs.specs.declared.limits.TheConstants.{MAX}
 use Rattle.sup_causal.specs.declared.dot.Dot.{Dot}
 use Rattle.sup_causal.specs.Dots.{dot_cmp}
@@ -32,13 +32,15 @@ module _ {X : Type 0} (test : X → Bool) (P : X → Type 0) where
   if_each one (x ∷ xs) all = and_from (test x) (list_all test xs) (one x all.0) (if_each one xs all.1)
 
 module _ {X : Type 0} (cmp : X → X → Ordering) where
-  rising_if : (xs : List X) → rises cmp xs ≡ true → IsRising cmp xs
+  rising_if : (xs : List X) → rises cmp xs ≡ true → IsStrictlySortedBy cmp xs
+  unfolding IsStrictlySortedBy
   rising_if [] e = tt
   rising_if (x ∷ xs) e =
       let b = and_parts (list_all (λ y. is_lt (cmp x y)) xs) (rises cmp xs) e in
       (each_if (λ y. is_lt (cmp x y)) (λ y. cmp x y ≡ Less) (λ y. less_if (cmp x y)) xs b.0, rising_if xs b.1)
 
-  if_rising : (xs : List X) → IsRising cmp xs → rises cmp xs ≡ true
+  if_rising : (xs : List X) → IsStrictlySortedBy cmp xs → rises cmp xs ≡ true
+  unfolding IsStrictlySortedBy
   if_rising [] all = refl
   if_rising (x ∷ xs) all =
       and_from (list_all (λ y. is_lt (cmp x y)) xs) (rises cmp xs)

@@ -11,7 +11,8 @@ use Rattle.std.proofs.Common.{sym, ap, ◌∙◌, subst}
 use mathlib.Core.Bool.{true≢false}
 use Rattle.sup_specs.specs.Values.{Bytes, text_cmp}
 use Rattle.sup_specs.specs.OrderLaws.{text_total, text_tie}
-use Rattle.sup_specs.specs.Rising.{IsRising, rising, put_in}
+use Rattle.std.specs.List.Sorted.{IsStrictlySortedBy}
+use Rattle.sup_specs.specs.Rising.{rising, put_in}
 use Rattle.sup_causal.proofs.Rising.{less_from_greater}
 use Rattle.sup_causal.specs.Dots.{IsCounted}
 use Rattle.sup_tables.specs.declared.row.Row.{Row}
@@ -39,16 +40,18 @@ below_put cmp y x e (z ∷ zs) a =
       | Greater ↦ (a.0, below_put cmp y x e zs a.1)
     ]
 
-put_rises : {X : Type 0} (cmp : X → X → Ordering) → IsTotalOrder cmp → (x : X) (xs : List X) → IsRising cmp xs → IsRising cmp (put_in cmp x xs)
+put_rises : {X : Type 0} (cmp : X → X → Ordering) → IsTotalOrder cmp → (x : X) (xs : List X) → IsStrictlySortedBy cmp xs → IsStrictlySortedBy cmp (put_in cmp x xs)
+unfolding IsStrictlySortedBy
 put_rises cmp total x [] s = (tt, tt)
 put_rises cmp total x (y ∷ ys) s =
-    elim (cmp x y) as (λ o. cmp x y ≡ o → IsRising cmp (by_order o (x ∷ y ∷ ys) (y ∷ ys) (y ∷ put_in cmp x ys))) [
+    elim (cmp x y) as (λ o. cmp x y ≡ o → IsStrictlySortedBy cmp (by_order o (x ∷ y ∷ ys) (y ∷ ys) (y ∷ put_in cmp x ys))) [
       | Less ↦ λ e. ((e, below_all cmp total x y e ys s.0), s)
       | Equal ↦ λ e. s
       | Greater ↦ λ e. (below_put cmp y x (less_from_greater total x y e) ys s.0, put_rises cmp total x ys s.1)
     ] refl
 
-pub rising_rises : {X : Type 0} (cmp : X → X → Ordering) → IsTotalOrder cmp → (xs : List X) → IsRising cmp (rising cmp xs)
+pub rising_rises : {X : Type 0} (cmp : X → X → Ordering) → IsTotalOrder cmp → (xs : List X) → IsStrictlySortedBy cmp (rising cmp xs)
+unfolding IsStrictlySortedBy
 rising_rises cmp total [] = tt
 rising_rises cmp total (x ∷ xs) = put_rises cmp total x (rising cmp xs) (rising_rises cmp total xs)
 
@@ -82,6 +85,7 @@ module _ (rows : List Row) (weigher : Weigher) (me : Bytes) (hosts : List Bytes)
   wanted_above w k is (l ∷ ls) a = above_one w k l is a.0 ls (wanted_above w k is ls a.1) (winner rows children l) refl
 
   rise_row : (r : Row) (rest : List Wanted) → Below by_id (wanted_of r) rest → IdsRise rest → (b : Bool) → IdsRise (cond b (wanted_of r ∷ []) [] ++ rest)
+  unfolding IsStrictlySortedBy
   rise_row r rest a h true = (a, h)
   rise_row r rest a h false = h
 
@@ -90,7 +94,8 @@ module _ (rows : List Row) (weigher : Weigher) (me : Bytes) (hosts : List Bytes)
   rise_one l ls a h None e = h
   rise_one l ls a h (Some r) e = rise_row r _ (wanted_above (wanted_of r) l (first_of rows children l r e) ls a) h (is_placed_on me (place weigher hosts (key_of r.entry)))
 
-  ids_rise : (ks : List Bytes) → IsRising text_cmp ks → IdsRise (flat_map (wanted_row weigher me hosts) (filter_map (winner rows children) ks))
+  ids_rise : (ks : List Bytes) → IsStrictlySortedBy text_cmp ks → IdsRise (flat_map (wanted_row weigher me hosts) (filter_map (winner rows children) ks))
+  unfolding IsStrictlySortedBy
   ids_rise [] s = tt
   ids_rise (l ∷ ls) s = rise_one l ls s.0 (ids_rise ls s.1) (winner rows children l) refl
 

@@ -9,7 +9,8 @@ use Rattle.std.proofs.lemmas.List.{append-nil}
 use Rattle.std.proofs.lemmas.List.Elements.{filter_map-append}
 use mathlib.Core.Bool.{true≢false}
 use Rattle.sup_specs.specs.Values.{Bytes, text_cmp}
-use Rattle.sup_specs.specs.Rising.{IsRising, among, rising}
+use Rattle.std.specs.List.Sorted.{IsStrictlySortedBy}
+use Rattle.sup_specs.specs.Rising.{among, rising}
 use Rattle.sup_specs.specs.declared.child.ChildSpec.{ChildSpec}
 use Rattle.sup_specs.specs.declared.child.MemberInfo.{MemberInfo}
 use Rattle.sup_causal.specs.declared.dot.Dot.{Dot}
@@ -73,7 +74,8 @@ one_more d (Name name id) rows all rest =
     (λ i. member_rows (none i) ++ (child_rows (neither i) ++ (name_row name d id ∷ tail)))
     ∙ ap (λ rs. name_row name d id ∷ rs) (sym (λ i. member_rows (none i) ++ (child_rows (neither i) ++ tail)) ∙ rest)
 
-pub by_table_is : (rows : List Row) → IsRising place_cmp rows → by_table rows ≡ rows
+pub by_table_is : (rows : List Row) → IsStrictlySortedBy place_cmp rows → by_table rows ≡ rows
+unfolding IsStrictlySortedBy
 by_table_is [] s = refl
 by_table_is (r ∷ rs) s = one_more r.dot r.entry rs s.0 (by_table_is rs s.1)
 
@@ -90,12 +92,13 @@ module _ {V : Type 0} (pick : Dot → Entry → Option (Bytes × Dot × V)) (mak
   below_picks x [] all = tt
   below_picks x (y ∷ ys) all = below_one x y (filter_map (λ r. pick r.dot r.entry) ys) (below_picks x ys all.1) all.0 (pick y.dot y.entry) refl
 
-  one_rises : (y : Row) (ys : List Row) → AllByRecursion (λ z. place_cmp y z ≡ Less) ys → IsRising (part_cmp text_cmp) (filter_map (λ r. pick r.dot r.entry) ys)
-      → (o : Option (Bytes × Dot × V)) → pick y.dot y.entry ≡ o → IsRising (part_cmp text_cmp) (cons_option o (filter_map (λ r. pick r.dot r.entry) ys))
+  one_rises : (y : Row) (ys : List Row) → AllByRecursion (λ z. place_cmp y z ≡ Less) ys → IsStrictlySortedBy (part_cmp text_cmp) (filter_map (λ r. pick r.dot r.entry) ys)
+      → (o : Option (Bytes × Dot × V)) → pick y.dot y.entry ≡ o → IsStrictlySortedBy (part_cmp text_cmp) (cons_option o (filter_map (λ r. pick r.dot r.entry) ys))
   one_rises y ys all rest None e = rest
   one_rises y ys all rest (Some r) e = (below_picks r ys (subst (λ (w : Row). AllByRecursion (λ z. place_cmp w z ≡ Less) ys) (picked y.dot y.entry r e) all), rest)
 
-  picks_rise : (rows : List Row) → IsRising place_cmp rows → IsRising (part_cmp text_cmp) (filter_map (λ r. pick r.dot r.entry) rows)
+  picks_rise : (rows : List Row) → IsStrictlySortedBy place_cmp rows → IsStrictlySortedBy (part_cmp text_cmp) (filter_map (λ r. pick r.dot r.entry) rows)
+  unfolding IsStrictlySortedBy
   picks_rise [] s = tt
   picks_rise (y ∷ ys) s = one_rises y ys s.0 (picks_rise ys s.1) (pick y.dot y.entry) refl
 
@@ -114,17 +117,17 @@ name_picked d (Member m info) r e = absurd cc
 name_picked d (Child id spec) r e = absurd cc
 name_picked d (Name name id) r e = let same : (name, d, id) ≡ r = cc in ap (λ (q : Bytes × Dot × Bytes). name_row q.0 q.1 q.2) same
 
-pub members_rise : (rows : List Row) → IsRising place_cmp rows → IsRising (part_cmp text_cmp) (filter_map as_member rows)
+pub members_rise : (rows : List Row) → IsStrictlySortedBy place_cmp rows → IsStrictlySortedBy (part_cmp text_cmp) (filter_map as_member rows)
 members_rise = picks_rise member_of member_row member_picked (λ x y. refl)
 
-pub children_rise : (rows : List Row) → IsRising place_cmp rows → IsRising (part_cmp text_cmp) (filter_map as_child rows)
+pub children_rise : (rows : List Row) → IsStrictlySortedBy place_cmp rows → IsStrictlySortedBy (part_cmp text_cmp) (filter_map as_child rows)
 children_rise = picks_rise child_of child_row child_picked (λ x y. refl)
 
-pub names_rise : (rows : List Row) → IsRising place_cmp rows → IsRising (part_cmp text_cmp) (filter_map as_name rows)
+pub names_rise : (rows : List Row) → IsStrictlySortedBy place_cmp rows → IsStrictlySortedBy (part_cmp text_cmp) (filter_map as_name rows)
 names_rise = picks_rise name_of name_row name_picked (λ x y. refl)
 
 -- stores whose lists are the rows of each table have the rows
-pub stored_again : (s : Stored) (rows : List Row) → IsRising place_cmp rows → rows_of s.member_values ≡ filter_map as_member rows → rows_of s.child_values ≡ filter_map as_child rows → rows_of s.name_values ≡ filter_map as_name rows
+pub stored_again : (s : Stored) (rows : List Row) → IsStrictlySortedBy place_cmp rows → rows_of s.member_values ≡ filter_map as_member rows → rows_of s.child_values ≡ filter_map as_child rows → rows_of s.name_values ≡ filter_map as_name rows
     → stored_rows s ≡ rows
 stored_again s rows rising ms cs ns =
     (λ i. listed member_row s.member_values i ++ (listed child_row s.child_values i ++ listed name_row s.name_values i))

@@ -3,7 +3,6 @@ use Rattle.std.specs.Prelude.{◌≡◌, Bool, true, false, ◌||◌, ◌&&◌, 
 use Rattle.std.specs.declared.cmp.Ordering.TheVariants.{Less, Equal, Greater}
 use Rattle.std.specs.Ordering.{eq_by_cmp}
 use Rattle.std.specs.List.{AllByRecursion}
-use Rattle.std.specs.List.Sorted.{IsStrictlySortedBy}
 use Rattle.std.specs.Map.{keys_of, values_of}
 use Rattle.std.specs.FinMap.Entries.{by_order}
 use Rattle.std.proofs.Common.{sym, ap, ◌∙◌, append_assoc}
@@ -12,7 +11,7 @@ use Rattle.std.proofs.lemmas.List.{map-append}
 use Rattle.std.proofs.lemmas.List.Elements.{All-from_recursion}
 use Rattle.std.proofs.lemmas.Slice.Eq.{bytes_eq-Decides}
 use Rattle.sup_specs.specs.Values.{Bytes, text_cmp}
-use Rattle.sup_specs.specs.Rising.{rising, put_in, IsRising}
+use Rattle.sup_specs.specs.Rising.{rising, put_in}
 use Rattle.sup_causal.specs.declared.dot.Dot.{Dot}
 use Rattle.sup_causal.specs.Dots.{Context, has, dot_cmp}
 use Rattle.sup_causal.specs.DotLaws.{dot_total}
@@ -26,17 +25,8 @@ use Rattle.sup_tables.specs.Stored.{Values, Stored, member_row, child_row, name_
 use Rattle.sup_tables.proofs.StoredLaws.{IsOrderedStored}
 use Rattle.sup_tables.proofs.OperationLaws.{both_ways}
 use Rattle.sup_tables.proofs.PointLaws.{same_text, text_itself}
-use Rattle.sup_tables.proofs.OrderedRows.{all_rows, stored_is, rising_already}
+use Rattle.sup_tables.proofs.OrderedRows.{all_rows, stored_is}
 use Rattle.sup_tables.proofs.EntryLaws.{each_filtered, filter_none, filter_append}
-
--- the keys of a set rise
-is_rising : (ds : List Dot) → IsStrictlySortedBy dot_cmp ds → IsRising dot_cmp ds
-unfolding IsStrictlySortedBy
-is_rising [] s = tt
-is_rising (d ∷ ds) s = (s.0, is_rising ds s.1)
-
-pub sorted_already : (ds : List Dot) → IsStrictlySortedBy dot_cmp ds → rising dot_cmp ds ≡ ds
-sorted_already ds s = rising_already dot_cmp ds (is_rising ds s)
 
 or-true : (b : Bool) → (b || true) ≡ true
 or-true true = refl

@@ -15,7 +15,7 @@ use Rattle.std.proofs.lemmas.List.{map-append, drop-map}
 use Rattle.std.proofs.lemmas.List.Folds.{list_any-append}
 use Rattle.sup_specs.specs.Values.{Bytes, text_cmp}
 use Rattle.sup_specs.specs.OrderLaws.{text_total, text_tie}
-use Rattle.sup_specs.specs.Rising.{rising, among, IsRising}
+use Rattle.sup_specs.specs.Rising.{rising, among}
 use Rattle.sup_specs.proofs.RisingLaws.{rising_same}
 use Rattle.sup_causal.specs.declared.dot.Dot.{Dot}
 use Rattle.sup_causal.specs.Dots.{Context}
@@ -28,11 +28,6 @@ use Rattle.sup_tables.specs.Stored.{Values, Stored, member_row, child_row, name_
 use Rattle.sup_tables.proofs.StoredLaws.{IsOrderedStored}
 use Rattle.sup_tables.proofs.OrderedRows.{all_rows, stored_is, rising_already}
 use Rattle.sup_tables.proofs.EntryLaws.{key_rows, filter_all, filter_none, filter_append, nothing_after, member_entries, child_entries, name_entries, first_under}
-
-keys_rise : (ks : List Bytes) → IsStrictlySortedBy text_cmp ks → IsRising text_cmp ks
-unfolding IsStrictlySortedBy
-keys_rise [] s = tt
-keys_rise (k ∷ ks) s = (s.0, keys_rise ks s.1)
 
 -- each value is found at its key
 module _ {V : Type 0} where
@@ -90,7 +85,7 @@ module _ {V : Type 0} (make : Bytes → Dot → V → Row) (made_key : (k : Byte
   keys_in : (es : Values V) → IsStrictlySortedBy text_cmp (keys_of es) → ((k : Bytes) (f : DotFun V) → lookup (is_key (text_cmp k)) es ≡ Some f → f.values.entries ≡ [] → ⊥)
       → rising text_cmp (map (λ r. key_of r.entry) (rows_in make es)) ≡ keys_of es
   keys_in es s full =
-      rising_same text_cmp text_total text_tie _ (keys_of es) (same_keys es (all_full es es full (all_found es s))) ∙ rising_already text_cmp (keys_of es) (keys_rise (keys_of es) s)
+      rising_same text_cmp text_total text_tie _ (keys_of es) (same_keys es (all_full es es full (all_found es s))) ∙ rising_already text_cmp (keys_of es) s
 
   firsts_at : (h : Bytes → Option Row) (all es : Values V) → ((k : Bytes) → h k ≡ slice_get (key_rows make k (lookup (is_key (text_cmp k)) all)) 0) → AllByRecursion (λ e. lookup (is_key (text_cmp e.0)) all ≡ Some e.1) es
       → filter_map h (keys_of es) ≡ firsts_in make es

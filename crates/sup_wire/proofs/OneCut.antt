@@ -8,7 +8,7 @@ use Rattle.std.proofs.lemmas.Cmp.{tied_itself}
 use Rattle.std.proofs.lemmas.Map.Lookups.{exact_bytes}
 use Rattle.sup_specs.specs.Values.{Bytes, text_cmp}
 use Rattle.sup_specs.specs.OrderLaws.{text_total}
-use Rattle.sup_specs.specs.Rising.{IsRising}
+use Rattle.std.specs.List.Sorted.{IsStrictlySortedBy}
 use Rattle.sup_specs.proofs.RisingLaws.{rising_same}
 use Rattle.sup_causal.specs.declared.dot.Dot.{Dot}
 use Rattle.sup_causal.specs.Dots.{has, dot_cmp}
@@ -60,7 +60,8 @@ rest_of e es all k = at (text_cmp k e.0) refl
     at Equal is = ap (entry es) (exact_bytes k e.0 is) ∙ entry_below es e.0 all
     at Greater is = refl
 
-pub one_vector : (a b : List (Bytes × ℕ)) → IsRising text_cmp (keys_of a) → IsRising text_cmp (keys_of b) → AllByRecursion (λ e. 1 ≤ e.1) a → AllByRecursion (λ e. 1 ≤ e.1) b → ((k : Bytes) → entry a k ≡ entry b k) → a ≡ b
+pub one_vector : (a b : List (Bytes × ℕ)) → IsStrictlySortedBy text_cmp (keys_of a) → IsStrictlySortedBy text_cmp (keys_of b) → AllByRecursion (λ e. 1 ≤ e.1) a → AllByRecursion (λ e. 1 ≤ e.1) b → ((k : Bytes) → entry a k ≡ entry b k) → a ≡ b
+unfolding IsStrictlySortedBy
 one_vector [] [] ra rb la lb same = refl
 one_vector [] (b ∷ ys) ra rb la lb same = absurd (let zero : 0 ≡ b.1 = same b.0 ∙ entry_first b ys in let low = lb.0 in omega (arith, zero, low))
 one_vector (a ∷ xs) [] ra rb la lb same = absurd (let zero : a.1 ≡ 0 = sym (entry_first a xs) ∙ same a.0 in let low = la.0 in omega (arith, zero, low))

@@ -3,7 +3,7 @@ use Rattle.std.proofs.Common.{◌≡◌, ℕ, ◌<◌, ◌≤◌, ◌^◌, max, 
 use Rattle.std.specs.List.{AllByRecursion}
 use Rattle.std.specs.Map.{keys_of}
 use Rattle.sup_specs.specs.Values.{Bytes, text_cmp}
-use Rattle.sup_specs.specs.Rising.{IsRising}
+use Rattle.std.specs.List.Sorted.{IsStrictlySortedBy}
 use Rattle.sup_specs.specs.declared.child.Restart.{Restart}
 use Rattle.sup_specs.specs.declared.child.Restart.TheVariants.{Permanent, Transient, Temporary}
 use Rattle.sup_specs.specs.declared.child.Shutdown.{Shutdown}
@@ -40,7 +40,7 @@ RowFits r = Fits r.dot.counter × EntryFits r.entry
 
 -- what parts need so that their value reads back
 pub record PartsFit (p : Parts) : Type 0 where
-  pub by_name : IsRising text_cmp (keys_of p.vector)
+  pub by_name : IsStrictlySortedBy text_cmp (keys_of p.vector)
   pub vector : AllByRecursion (λ e. Fits e.1) p.vector
   pub cloud : AllByRecursion (λ d. Fits d.counter) p.cloud
   pub rows : AllByRecursion RowFits p.rows
@@ -61,7 +61,8 @@ all_above : (k : Bytes) (es : List (Bytes × ℕ)) → AllByRecursion (λ l. tex
 all_above k [] all = tt
 all_above k (e ∷ es) all = (all.0, all_above k es all.1)
 
-vector_readable : (es : List (Bytes × ℕ)) → IsRising text_cmp (keys_of es) → AllByRecursion (λ e. Fits e.1) es → AreMembers (vector_members es)
+vector_readable : (es : List (Bytes × ℕ)) → IsStrictlySortedBy text_cmp (keys_of es) → AllByRecursion (λ e. Fits e.1) es → AreMembers (vector_members es)
+unfolding IsStrictlySortedBy
 vector_readable [] rises fits = tt
 vector_readable (e ∷ es) rises fits = (fits.0, all_above e.0 es rises.0, vector_readable es rises.1 fits.1)
 

@@ -1,7 +1,7 @@
 use Rattle.std.proofs.Common.{sym, ap, ◌∙◌, subst}
 use Rattle.std.specs.BTreeMap.{keys}
 use Rattle.std.proofs.lemmas.Map.Keys.{IsDistinct-from_sorted}
-use Rattle.sup_specs.specs.Rising.{IsRising}
+use Rattle.std.specs.List.Sorted.{IsStrictlySortedBy}
 use Rattle.sup_dot_store.specs.Index.{row_value}
 use Rattle.sup_dot_store.specs.RowLists.{row_cmp}
 use Rattle.sup_dot_store.proofs.RowListLaws.{rows_rise}
@@ -9,7 +9,7 @@ use Rattle.sup_dot_store.proofs.RowValues.{row_value_is}
 use Rattle.sup_dot_store.proofs.dot_map.DotMap+K+DotFun+V.rows.Goals as goal
 
 pub returns-clause-rising : goal.returns-clause-rising
-returns-clause-rising g c = subst (IsRising (row_cmp g.K.Ord.cmp)) (sym c.in_ok-rows.ensures) (rows_rise g.met.K.Ord.total c.args.self.now.stores.entries c.args.self.now.ordered)
+returns-clause-rising g c = subst (IsStrictlySortedBy (row_cmp g.K.Ord.cmp)) (sym c.in_ok-rows.ensures) (rows_rise g.met.K.Ord.total c.args.self.now.stores.entries c.args.self.now.ordered)
 
 pub returns-clause-values : goal.returns-clause-values
 returns-clause-values g c k d =
