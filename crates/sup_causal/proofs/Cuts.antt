@@ -117,6 +117,15 @@ module _ (v w : List (List ℕ × ℕ)) (c : List Dot) (x : Dot) (next : x.count
           let kept : entry w d.node ≡ entry v d.node = puts d.node ∙ ap (λ b. cond b x.counter (entry v d.node)) h in
           omega (arith, kept, far)
 
+-- ---- no dot yet
+pub no_versions : IsVersions []
+unfolding IsStrictlySortedBy
+no_versions = record { by_name = tt; entries = tt }
+
+pub without_cloud : (v : List (List ℕ × ℕ)) → IsVersions v → IsCanonical v []
+unfolding IsStrictlySortedBy
+without_cloud v versions = record { by_name = versions.by_name; entries = versions.entries; in_order = tt; apart = tt }
+
 -- ---- a dot that joins the cloud
 module _ (v : List (List ℕ × ℕ)) (c e : List Dot) (x : Dot) (more : (d : Dot) → list_has e d ≡ (list_has c d || dot_eq x d)) where
   pub cloud_parts : (d : Dot) → in_parts v e d ≡ (in_parts v c d || dot_eq x d)

@@ -13,6 +13,7 @@ use sup_specs::NodeName;
 
 // Takes rising dots into the vector, and gives back those that are left over: the cloud. Counters rise along the list,
 // so no later dot goes on with a run that an earlier one is apart from. Where memory is refused some may be in.
+#[tactic(auto, using(crate::proofs::Cuts::without_cloud))]
 pub(crate) fn absorb(
     alloc: Global,
     vector: &mut Vec<(NodeName, u64)>,

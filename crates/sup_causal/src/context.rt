@@ -58,6 +58,7 @@ impl CausalContext {
 
     /// The context with the dots of a list, in whatever order they stand and however often. Each passes
     /// [`Dot::is_counted`]. Refused only for memory.
+    #[tactic(auto, using(crate::proofs::Cuts::no_versions))]
     pub fn of_dots(alloc: Global, dots: &[Dot]) -> Result<CausalContext, AllocError>
         requires { All IsCounted dots.now }
         ensures { IfOk result (λ context. (d : Dot) → has context d ≡ among dot_cmp dots.now d) }
