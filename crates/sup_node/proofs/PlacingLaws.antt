@@ -91,6 +91,7 @@ module _ (rows : List Row) (weigher : Weigher) (me : Bytes) (hosts : List Bytes)
 
   rise_one : (l : Bytes) (ls : List Bytes) → Below text_cmp l ls → IdsRise (flat_map (wanted_row weigher me hosts) (filter_map (winner rows children) ls)) → (o : Option Row) → winner rows children l ≡ o
       → IdsRise (flat_map (wanted_row weigher me hosts) (cons_option o (filter_map (winner rows children) ls)))
+  unfolding IsStrictlySortedBy
   rise_one l ls a h None e = h
   rise_one l ls a h (Some r) e = rise_row r _ (wanted_above (wanted_of r) l (first_of rows children l r e) ls a) h (is_placed_on me (place weigher hosts (key_of r.entry)))
 
