@@ -1,5 +1,5 @@
 -- How many dots parts have: each stands once among those of the runs and of the cloud.
-use Rattle.std.proofs.Common.{◌≡◌, ℕ, suc, zero, ◌+◌, ◌≤◌, Bool, true, false, ◌||◌, ◌&&◌, leb, List, [], ◌∷◌, ◌++◌, length, refl, sym, ap, ◌∙◌, subst, arith}
+use Rattle.std.proofs.Common.{◌≡◌, ℕ, suc, zero, ◌+◌, ◌≤◌, Bool, true, false, ◌||◌, ◌&&◌, leb, List, [], ◌∷◌, ◌++◌, length, refl, sym, ap, ◌∙◌, arith}
 use Rattle.std.specs.declared.cmp.Ordering.{Ordering}
 use Rattle.std.specs.declared.cmp.Ordering.TheVariants.{Less, Equal, Greater}
 use Rattle.std.specs.Ordering.{is_eq, eq_by_cmp}
@@ -8,55 +8,56 @@ use Rattle.std.specs.List.{AllByRecursion}
 use Rattle.std.proofs.lemmas.Bool.{or_left, or_right, and_parts, leb-true, false_from_ne_true}
 use Rattle.std.proofs.lemmas.Bool.Decides.{nat_tests}
 use Rattle.std.proofs.lemmas.List.{length-append}
+use Rattle.std.proofs.lemmas.List.Folds.{list_any-append}
 use mathlib.Core.Bool.{false≢true}
 use Rattle.std.specs.List.Sorted.{IsStrictlySortedBy}
-use Rattle.sup_specs.specs.Rising.{put_in, rising}
+use Rattle.sup_specs.specs.Rising.{among, put_in, rising}
 use Rattle.sup_specs.proofs.RisingLaws.{among-rising}
 use Rattle.sup_specs.specs.Values.{text_cmp}
 use Rattle.sup_specs.specs.declared.limits.TheConstants.{MAX}
 use Rattle.sup_causal.specs.declared.dot.Dot.{Dot}
-use Rattle.sup_causal.specs.Dots.{dot_cmp, dot_eq, list_has}
-use Rattle.sup_causal.specs.DotLaws.{dot_total, dot_exact}
+use Rattle.sup_causal.specs.Dots.{dot_cmp, dot_eq}
+use Rattle.sup_causal.specs.DotLaws.{dot_total}
 use Rattle.sup_causal.specs.Cut.{entry, IsCanonical}
 use Rattle.sup_causal.specs.Parts.{run_dots, runs_dots, dots_of, total_of}
 use Rattle.sup_causal.proofs.Sorted.{pairs_rise}
 use Rattle.sup_causal.proofs.Rising.{greater_from_less}
 use Rattle.sup_causal.proofs.Union.{each_weaker}
 use Rattle.sup_causal.proofs.CutLemmas.{entry_later, in_runs_is, uncounted}
-use Rattle.sup_causal.proofs.DotLemmas.{list_has-append, among_is, each_has, has_none, dot_eq-refl, equal_from_is_eq}
+use Rattle.sup_causal.proofs.DotLemmas.{each_has, has_none, dot_eq-refl, equal_from_is_eq}
 use Rattle.sup_causal.proofs.Views.{has_run, has_runs}
 
 -- each dot of a list stands in it once
 abbrev Once : List Dot → Type 0
 Once [] = Unit {0}
-Once (x ∷ xs) = (list_has xs x ≡ false) × Once xs
+Once (x ∷ xs) = (among dot_cmp xs x ≡ false) × Once xs
 
 -- ---- a list of which each dot stands once is as long when it is put in order
 later_none : (a b : Bool) → (a || b) ≡ false → b ≡ false
 later_none true b none = absurd (false≢true (sym none))
 later_none false b none = none
 
-length_put_in : (x : Dot) (ys : List Dot) → list_has ys x ≡ false → length (put_in dot_cmp x ys) ≡ suc (length ys)
+length_put_in : (x : Dot) (ys : List Dot) → among dot_cmp ys x ≡ false → length (put_in dot_cmp x ys) ≡ suc (length ys)
 length_put_in x [] none = refl
-length_put_in x (y ∷ ys) none = at (dot_cmp x y) refl (length_put_in x ys (later_none (dot_eq y x) (list_has ys x) none))
+length_put_in x (y ∷ ys) none = at (dot_cmp x y) refl (length_put_in x ys (later_none (dot_eq x y) (among dot_cmp ys x) none))
   where
     at : (o : Ordering) → dot_cmp x y ≡ o → length (put_in dot_cmp x ys) ≡ suc (length ys) → length (by_order o (x ∷ y ∷ ys) (y ∷ ys) (y ∷ put_in dot_cmp x ys)) ≡ suc (suc (length ys))
     at Less e later = refl
-    at Equal e later = absurd (false≢true (sym none ∙ or_left (dot_eq y x) (list_has ys x) (subst (λ z. dot_eq z x ≡ true) (dot_exact x y e) (dot_eq-refl x))))
+    at Equal e later = absurd (false≢true (sym none ∙ or_left (dot_eq x y) (among dot_cmp ys x) (ap is_eq e)))
     at Greater e later = ap suc later
 
 length_rising : (xs : List Dot) → Once xs → length (rising dot_cmp xs) ≡ length xs
 length_rising [] once = refl
 length_rising (x ∷ xs) once =
-    length_put_in x (rising dot_cmp xs) (among_is (rising dot_cmp xs) x ∙ among-rising dot_cmp dot_total xs x ∙ sym (among_is xs x) ∙ once.0)
+    length_put_in x (rising dot_cmp xs) (among-rising dot_cmp dot_total xs x ∙ once.0)
     ∙ ap suc (length_rising xs once.1)
 
 -- ---- each dot of canonical parts stands once
-once_append : (xs ys : List Dot) → Once xs → Once ys → ((d : Dot) → list_has xs d ≡ true → list_has ys d ≡ false) → Once (xs ++ ys)
+once_append : (xs ys : List Dot) → Once xs → Once ys → ((d : Dot) → among dot_cmp xs d ≡ true → among dot_cmp ys d ≡ false) → Once (xs ++ ys)
 once_append [] ys first second apart = second
 once_append (x ∷ xs) ys first second apart = (
-  list_has-append xs ys x ∙ (λ k. first.0 k || apart x (or_left (dot_eq x x) (list_has xs x) (dot_eq-refl x)) k),
-  once_append xs ys first.1 second (λ d there. apart d (or_right (dot_eq x d) (list_has xs d) there)),
+  list_any-append (dot_eq x) xs ys ∙ (λ k. first.0 k || apart x (or_left (dot_eq x x) (among dot_cmp xs x) (dot_eq-refl x)) k),
+  once_append xs ys first.1 second (λ d there. apart d (or_right (dot_eq d x) (among dot_cmp xs d) there)),
 )
 
 past_run : (b : Bool) (n : ℕ) → (b && (leb 1 (suc n) && leb (suc n) n)) ≡ false
@@ -78,7 +79,7 @@ once_runs (e ∷ es) s = once_append (run_dots e.0 e.1) (runs_dots es) (once_run
     ∙ uncounted d.counter)
 
 -- a dot below each of a list is not in it
-none_above : (x : Dot) (ys : List Dot) → AllByRecursion (λ y. dot_cmp x y ≡ Less) ys → list_has ys x ≡ false
+none_above : (x : Dot) (ys : List Dot) → AllByRecursion (λ y. dot_cmp x y ≡ Less) ys → among dot_cmp ys x ≡ false
 none_above x ys all = has_none ys x (each_weaker (λ y. dot_cmp x y ≡ Less) (λ y. is_eq (dot_cmp y x) ≡ false) (λ y h. ap is_eq (greater_from_less dot_total x y h)) ys all)
 
 once_rising : (c : List Dot) → IsStrictlySortedBy dot_cmp c → Once c
@@ -86,7 +87,7 @@ unfolding IsStrictlySortedBy
 once_rising [] s = tt
 once_rising (x ∷ xs) s = (none_above x xs s.0, once_rising xs s.1)
 
-apart : (v : List (List ℕ × ℕ)) (c : List Dot) → IsCanonical v c → (d : Dot) → list_has (runs_dots v) d ≡ true → list_has c d ≡ false
+apart : (v : List (List ℕ × ℕ)) (c : List Dot) → IsCanonical v c → (d : Dot) → among dot_cmp (runs_dots v) d ≡ true → among dot_cmp c d ≡ false
 apart v c canonical d there = false_from_ne_true _ (λ beyond.
     let far = each_has (λ e. (entry v e.node + 2 ≤ e.counter) × (e.counter ≤ MAX)) c canonical.apart d beyond in
     let run = and_parts (leb 1 d.counter) (leb d.counter (entry v d.node)) (sym (has_runs v d ∙ in_runs_is v (pairs_rise text_cmp v canonical.by_name) d) ∙ there) in

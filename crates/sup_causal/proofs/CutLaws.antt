@@ -1,5 +1,5 @@
 -- That runs and the rest are a set's cut, and that canonical parts are just the cuts.
-use Rattle.std.proofs.Common.{◌≡◌, ℕ, ◌+◌, ◌<◌, ◌≤◌, Bool, true, false, ◌||◌, ◌&&◌, cond, leb, List, [], ◌∷◌, get_or, refl, sym, ap, ◌∙◌, subst, arith, inl, inr}
+use Rattle.std.proofs.Common.{◌≡◌, ℕ, ◌+◌, ◌<◌, ◌≤◌, Bool, true, false, ◌&&◌, leb, List, [], ◌∷◌, get_or, refl, sym, ap, ◌∙◌, subst, arith, inl, inr}
 use Rattle.std.specs.List.{AllByRecursion}
 use Rattle.std.proofs.lemmas.Bool.{both_ways, or_left, or_right, or_cases, or_from, and_from, cases_order, false_from_ne_true, le-leb, lt-leb}
 use Rattle.std.proofs.lemmas.Cmp.{nat_list_cmp_total, tied_itself}
@@ -7,17 +7,17 @@ use Rattle.std.proofs.lemmas.List.Elements.{recursion_from_All, All-from_recursi
 use Rattle.sup_specs.specs.Rising.{among}
 use Rattle.sup_causal.specs.declared.dot.Dot.{Dot}
 use Rattle.sup_specs.specs.declared.limits.TheConstants.{MAX}
-use Rattle.sup_causal.specs.Dots.{dot_cmp, dot_eq, list_has, IsCounted}
+use Rattle.sup_causal.specs.Dots.{dot_cmp, IsCounted}
 use Rattle.sup_specs.specs.Values.{text_cmp}
 use Rattle.sup_causal.specs.Cut.{entry, IsRun, IsVector, IsCloud, IsCanonical, in_parts}
-use Rattle.sup_causal.proofs.DotLemmas.{dot_eq-true, among_is, each_has, each_from_has}
+use Rattle.sup_causal.proofs.DotLemmas.{each_has, each_from_has}
 use Rattle.sup_causal.proofs.Sorted.{pairs_rise}
 use Rattle.sup_causal.proofs.CutLemmas.{run_is_one, entry_found}
 
 -- ---- canonical parts are the cut of what they have
 module _ (holds : Dot → Bool) (vector : List (List ℕ × ℕ)) (cloud : List Dot) (canonical : IsCanonical vector cloud) (same : (d : Dot) → holds d ≡ in_parts vector cloud d) where
   in_cloud : (d : Dot) → among dot_cmp cloud d ≡ true → (entry vector d.node + 2 ≤ d.counter) × (d.counter ≤ MAX)
-  in_cloud d there = each_has (λ e. (entry vector e.node + 2 ≤ e.counter) × (e.counter ≤ MAX)) cloud canonical.apart d (among_is cloud d ∙ there)
+  in_cloud d there = each_has (λ e. (entry vector e.node + 2 ≤ e.counter) × (e.counter ≤ MAX)) cloud canonical.apart d there
 
   past_run : (d : Dot) → entry vector d.node < d.counter → (leb 1 d.counter && leb d.counter (entry vector d.node)) ≡ false
   past_run d above = ap (λ b. leb 1 d.counter && b) (lt-leb _ _ above) ∙ and-false (leb 1 d.counter)
@@ -66,9 +66,9 @@ module _ (holds : Dot → Bool) (counted : (d : Dot) → holds d ≡ true → Is
     apart = each_from_has (λ d. (entry vector d.node + 2 ≤ d.counter) × (d.counter ≤ MAX)) cloud far;
   }
     where
-      far : (d : Dot) → list_has cloud d ≡ true → (entry vector d.node + 2 ≤ d.counter) × (d.counter ≤ MAX)
+      far : (d : Dot) → among dot_cmp cloud d ≡ true → (entry vector d.node + 2 ≤ d.counter) × (d.counter ≤ MAX)
       far d there =
-          let rest = (is_cloud.beyond d).0 (sym (among_is cloud d) ∙ there) in
+          let rest = (is_cloud.beyond d).0 there in
           let above : entry vector d.node < d.counter = rest.1 (entry vector d.node) (is_vector.runs d.node) in
           let limit : IsCounted d = counted d rest.0 in
           elim (cases_order (entry vector d.node + 1) d.counter) [

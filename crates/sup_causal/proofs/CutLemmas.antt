@@ -11,16 +11,18 @@ use Rattle.std.specs.List.{AllByRecursion}
 use Rattle.std.proofs.lemmas.Bool.{cases_order}
 use Rattle.std.proofs.lemmas.Cmp.{nat_list_cmp_total, tied_back, eq_by_cmp_equiv}
 use Rattle.std.proofs.lemmas.List.Elements.{All-from_recursion}
+use Rattle.std.proofs.lemmas.List.Folds.{list_any-append}
 use Rattle.std.proofs.lemmas.Map.Lookups.{exact_bytes}
 use Rattle.std.proofs.Math.Bool.{or-false}
 use mathlib.Core.Bool.{false≢true}
 use Rattle.std.specs.List.Sorted.{IsStrictlySortedBy}
+use Rattle.sup_specs.specs.Rising.{among}
 use Rattle.sup_causal.specs.declared.dot.Dot.{Dot}
-use Rattle.sup_causal.specs.Dots.{dot_eq, list_has}
+use Rattle.sup_causal.specs.Dots.{dot_cmp, dot_eq}
 use Rattle.sup_specs.specs.Values.{text_cmp}
 use Rattle.sup_causal.specs.Cut.{entry, IsRun, in_run, in_runs}
 use Rattle.sup_causal.proofs.Rising.{greater_from_less}
-use Rattle.sup_causal.proofs.DotLemmas.{or_assoc, list_has-append, equal_from_is_eq}
+use Rattle.sup_causal.proofs.DotLemmas.{among_first, or_assoc, equal_from_is_eq}
 
 -- one run
 pub run_is_one : (holds : Dot → Bool) (node : List ℕ) (n m : ℕ) → IsRun holds node n → IsRun holds node m → n ≡ m
@@ -102,13 +104,13 @@ and_or true p false = refl
 and_or false p true = refl
 and_or false p false = refl
 
-pub run_push : (items olds : List Dot) (node : List ℕ) (n : ℕ) (d : Dot) → list_has items d ≡ (list_has olds d || in_run node n d)
-    → list_has (items ++ record { counter = n + 1; node = node } ∷ []) d ≡ (list_has olds d || in_run node (n + 1) d)
+pub run_push : (items olds : List Dot) (node : List ℕ) (n : ℕ) (d : Dot) → among dot_cmp items d ≡ (among dot_cmp olds d || in_run node n d)
+    → among dot_cmp (items ++ record { counter = n + 1; node = node } ∷ []) d ≡ (among dot_cmp olds d || in_run node (n + 1) d)
 run_push items olds node n d so_far =
-    list_has-append items (record { counter = n + 1; node = node } ∷ []) d
-    ∙ (λ k. so_far k || (or-false (dot_eq (record { counter = n + 1; node = node }) d) ∙ sym (dots_tie (record { counter = n + 1; node = node }) d)) k)
-    ∙ or_assoc (list_has olds d) (in_run node n d) (eqb (n + 1) d.counter && bytes_eq node d.node)
-    ∙ ap (λ b. list_has olds d || b) (
+    list_any-append (dot_eq d) items (record { counter = n + 1; node = node } ∷ [])
+    ∙ (λ k. so_far k || (among_first (record { counter = n + 1; node = node }) [] d ∙ or-false (dot_eq (record { counter = n + 1; node = node }) d) ∙ sym (dots_tie (record { counter = n + 1; node = node }) d)) k)
+    ∙ or_assoc (among dot_cmp olds d) (in_run node n d) (eqb (n + 1) d.counter && bytes_eq node d.node)
+    ∙ ap (λ b. among dot_cmp olds d || b) (
     ap (λ b. in_run node n d || (eqb (n + 1) d.counter && b)) (texts_ties node d.node ∙ (eq_by_cmp_equiv nat_list_cmp_total).symm node d.node)
     ∙ and_or (eq_by_cmp text_cmp d.node node) (leb 1 d.counter && leb d.counter n) (eqb (n + 1) d.counter)
     ∙ ap (λ b. eq_by_cmp text_cmp d.node node && b) (more_counted n d.counter))

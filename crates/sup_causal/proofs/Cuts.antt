@@ -7,6 +7,7 @@ use Rattle.std.specs.List.{AllByRecursion}
 use Rattle.std.proofs.lemmas.Bool.{or_left, or_right, and_from, le-leb, lt-leb, cases_order}
 use Rattle.std.proofs.lemmas.Bool.Decides.{nat_tests}
 use Rattle.std.proofs.lemmas.List.{take_more, get_or_read, get_or-take}
+use Rattle.std.proofs.lemmas.List.Folds.{list_any-append}
 use Rattle.std.proofs.lemmas.Map.Lookups.{exact_bytes}
 use Rattle.std.proofs.Math.Bool.{or-false}
 use mathlib.Core.Bool.{false≢true}
@@ -15,13 +16,13 @@ use Rattle.sup_specs.specs.Rising.{among}
 use Rattle.sup_specs.specs.Values.{text_cmp}
 use Rattle.sup_specs.specs.declared.limits.TheConstants.{MAX}
 use Rattle.sup_causal.specs.declared.dot.Dot.{Dot}
-use Rattle.sup_causal.specs.Dots.{dot_cmp, dot_eq, list_has}
+use Rattle.sup_causal.specs.Dots.{dot_cmp, dot_eq}
 use Rattle.sup_causal.specs.DotLaws.{dot_total}
 use Rattle.sup_causal.specs.Cut.{entry, IsCanonical, in_parts}
 use Rattle.sup_causal.proofs.Rising.{rising_at}
 use Rattle.sup_causal.proofs.Sorted.{dots_tie}
 use Rattle.sup_causal.proofs.CutLemmas.{each_push}
-use Rattle.sup_causal.proofs.DotLemmas.{dot_eq-true, or_assoc, list_has-append, among_is, place_of, each_has, each_from_has, equal_from_is_eq}
+use Rattle.sup_causal.proofs.DotLemmas.{dot_eq-true, among_first, or_assoc, place_of, each_has, each_from_has, equal_from_is_eq}
 use Rattle.sup_causal.specs.Parts.{IsVersions, in_vector}
 
 -- ---- a dot that is there
@@ -51,18 +52,17 @@ and-false true = refl
 and-false false = refl
 
 -- ---- a dot that is not there
-pub beyond_its_run : (v : List (List ℕ × ℕ)) (c : List Dot) (x : Dot) → entry v x.node < x.counter → list_has c x ≡ false → in_parts v c x ≡ false
+pub beyond_its_run : (v : List (List ℕ × ℕ)) (c : List Dot) (x : Dot) → entry v x.node < x.counter → among dot_cmp c x ≡ false → in_parts v c x ≡ false
 beyond_its_run v c x above none =
     ap (λ b. (leb 1 x.counter && b) || among dot_cmp c x) (lt-leb x.counter (entry v x.node) above)
     ∙ ap (λ b. b || among dot_cmp c x) (and-false (leb 1 x.counter))
-    ∙ sym (among_is c x)
     ∙ none
 
 -- the cloud lacks what goes on with its run
-pub cloud_lacks : (v : List (List ℕ × ℕ)) (c : List Dot) (x : Dot) → IsCanonical v c → x.counter < entry v x.node + 2 → list_has c x ≡ false
-cloud_lacks v c x canonical near = at (list_has c x) refl
+pub cloud_lacks : (v : List (List ℕ × ℕ)) (c : List Dot) (x : Dot) → IsCanonical v c → x.counter < entry v x.node + 2 → among dot_cmp c x ≡ false
+cloud_lacks v c x canonical near = at (among dot_cmp c x) refl
   where
-    at : (b : Bool) → list_has c x ≡ b → b ≡ false
+    at : (b : Bool) → among dot_cmp c x ≡ b → b ≡ false
     at true there = let far = each_has (λ d. (entry v d.node + 2 ≤ d.counter) × (d.counter ≤ MAX)) c canonical.apart x there in absurd (omega (arith, far.0, near))
     at false none = refl
 
@@ -94,7 +94,7 @@ module _ (v w : List (List ℕ × ℕ)) (c : List Dot) (x : Dot) (next : x.count
   raised_parts d = ap (λ b. b || among dot_cmp c d) (raised_vector d) ∙ or_between (in_vector v d) (among dot_cmp c d) (dot_eq x d)
 
   -- where the cloud lacks the dot after it
-  pub raised_canonical : IsCanonical v c → IsVersions w → list_has c (record { counter = x.counter + 1; node = x.node }) ≡ false → IsCanonical w c
+  pub raised_canonical : IsCanonical v c → IsVersions w → among dot_cmp c (record { counter = x.counter + 1; node = x.node }) ≡ false → IsCanonical w c
   raised_canonical canonical versions none = record {
     by_name = versions.by_name;
     entries = versions.entries;
@@ -104,13 +104,13 @@ module _ (v w : List (List ℕ × ℕ)) (c : List Dot) (x : Dot) (next : x.count
         (at d there far.0 (eq_by_cmp text_cmp x.node d.node) refl, far.1));
   }
     where
-      at : (d : Dot) → list_has c d ≡ true → entry v d.node + 2 ≤ d.counter → (b : Bool) → eq_by_cmp text_cmp x.node d.node ≡ b → entry w d.node + 2 ≤ d.counter
+      at : (d : Dot) → among dot_cmp c d ≡ true → entry v d.node + 2 ≤ d.counter → (b : Bool) → eq_by_cmp text_cmp x.node d.node ≡ b → entry w d.node + 2 ≤ d.counter
       at d there far true h =
           let is : x.node ≡ d.node = exact_bytes x.node d.node (equal_from_is_eq _ h) in
           let raised : entry w d.node ≡ x.counter = puts d.node ∙ ap (λ b. cond b x.counter (entry v d.node)) h in
           let old : x.counter ≡ entry v d.node + 1 = next ∙ ap (λ m. entry v m + 1) is in
           elim (cases_order (x.counter + 1) d.counter) [
-            | inl same ↦ absurd (false≢true (sym none ∙ ap (list_has c) (λ k. record { counter = same k; node = is k }) ∙ there))
+            | inl same ↦ absurd (false≢true (sym none ∙ ap (among dot_cmp c) (λ k. record { counter = same k; node = is k }) ∙ there))
             | inr apart ↦ elim apart [ inl below ↦ omega (arith, below, raised) | inr above ↦ absurd (omega (arith, above, far, old)) ]
           ]
       at d there far false h =
@@ -127,10 +127,10 @@ unfolding IsStrictlySortedBy
 without_cloud v versions = record { by_name = versions.by_name; entries = versions.entries; in_order = tt; apart = tt }
 
 -- ---- a dot that joins the cloud
-module _ (v : List (List ℕ × ℕ)) (c e : List Dot) (x : Dot) (more : (d : Dot) → list_has e d ≡ (list_has c d || dot_eq x d)) where
+module _ (v : List (List ℕ × ℕ)) (c e : List Dot) (x : Dot) (more : (d : Dot) → among dot_cmp e d ≡ (among dot_cmp c d || dot_eq x d)) where
   pub cloud_parts : (d : Dot) → in_parts v e d ≡ (in_parts v c d || dot_eq x d)
   cloud_parts d =
-      ap (λ b. in_vector v d || b) (sym (among_is e d) ∙ more d ∙ ap (λ b. b || dot_eq x d) (among_is c d))
+      ap (λ b. in_vector v d || b) (more d)
       ∙ sym (or_assoc (in_vector v d) (among dot_cmp c d) (dot_eq x d))
 
   pub cloud_canonical : IsCanonical v c → IsStrictlySortedBy dot_cmp e → entry v x.node + 2 ≤ x.counter → x.counter ≤ MAX → IsCanonical v e
@@ -142,9 +142,9 @@ module _ (v : List (List ℕ × ℕ)) (c e : List Dot) (x : Dot) (more : (d : Do
     apart = each_from_has (λ d. (entry v d.node + 2 ≤ d.counter) × (d.counter ≤ MAX)) e (λ d there. at d (dot_eq x d) refl (sym (more d) ∙ there));
   }
     where
-      at : (d : Dot) (b : Bool) → dot_eq x d ≡ b → (list_has c d || b) ≡ true → (entry v d.node + 2 ≤ d.counter) × (d.counter ≤ MAX)
+      at : (d : Dot) (b : Bool) → dot_eq x d ≡ b → (among dot_cmp c d || b) ≡ true → (entry v d.node + 2 ≤ d.counter) × (d.counter ≤ MAX)
       at d true same there = subst (λ (y : Dot). (entry v y.node + 2 ≤ y.counter) × (y.counter ≤ MAX)) (dot_eq-true x d same) (far, high)
-      at d false other there = each_has (λ y. (entry v y.node + 2 ≤ y.counter) × (y.counter ≤ MAX)) c canonical.apart d (sym (or-false (list_has c d)) ∙ there)
+      at d false other there = each_has (λ y. (entry v y.node + 2 ≤ y.counter) × (y.counter ≤ MAX)) c canonical.apart d (sym (or-false (among dot_cmp c d)) ∙ there)
 
 -- ---- the last of rising dots
 pub rising_push : (xs : List Dot) (x : Dot) → IsStrictlySortedBy dot_cmp xs → AllByRecursion (λ y. dot_cmp y x ≡ Less) xs → IsStrictlySortedBy dot_cmp (xs ++ x ∷ [])
@@ -152,15 +152,15 @@ unfolding IsStrictlySortedBy
 rising_push [] x rises below = (tt, tt)
 rising_push (y ∷ ys) x rises below = (each_push (λ z. dot_cmp y z ≡ Less) ys x rises.0 below.0, rising_push ys x rises.1 below.1)
 
-pub has_push : (xs : List Dot) (x d : Dot) → list_has (xs ++ x ∷ []) d ≡ (list_has xs d || dot_eq x d)
-has_push xs x d = list_has-append xs (x ∷ []) d ∙ ap (λ b. list_has xs d || b) (or-false (dot_eq x d))
+pub has_push : (xs : List Dot) (x d : Dot) → among dot_cmp (xs ++ x ∷ []) d ≡ (among dot_cmp xs d || dot_eq x d)
+has_push xs x d = list_any-append (dot_eq d) xs (x ∷ []) ∙ ap (λ b. among dot_cmp xs d || b) (among_first x [] d ∙ or-false (dot_eq x d))
 
 module _ (xs : List Dot) (i : ℕ) (x : Dot) (within : i < length xs) (at : x ≡ get_or xs i x) where
-  pub has_more : (d : Dot) → list_has (take (i + 1) xs) d ≡ (list_has (take i xs) d || dot_eq x d)
-  has_more d = ap (λ ys. list_has ys d) (take_more xs i x within ∙ ap (λ y. take i xs ++ y ∷ []) (sym at)) ∙ has_push (take i xs) x d
+  pub has_more : (d : Dot) → among dot_cmp (take (i + 1) xs) d ≡ (among dot_cmp (take i xs) d || dot_eq x d)
+  has_more d = ap (λ ys. among dot_cmp ys d) (take_more xs i x within ∙ ap (λ y. take i xs ++ y ∷ []) (sym at)) ∙ has_push (take i xs) x d
 
   -- all before it are below it
-  pub before_less : IsStrictlySortedBy dot_cmp xs → (d : Dot) → list_has (take i xs) d ≡ true → dot_cmp d x ≡ Less
+  pub before_less : IsStrictlySortedBy dot_cmp xs → (d : Dot) → among dot_cmp (take i xs) d ≡ true → dot_cmp d x ≡ Less
   unfolding IsStrictlySortedBy
   before_less rises d there =
       let place : (k : ℕ) × (k < length (take i xs)) × (get_or (take i xs) k d ≡ d) = place_of (take i xs) d there in

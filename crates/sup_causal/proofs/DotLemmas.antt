@@ -1,5 +1,5 @@
 -- Lemmas on dots and lists of them.
-use Rattle.std.proofs.Common.{◌≡◌, ℕ, zero, suc, ◌-◌, ◌<◌, ◌≤◌, Bool, true, false, ◌||◌, List, [], ◌∷◌, ◌++◌, length, get_or, Ordering, refl, sym, ap, ◌∙◌, arith}
+use Rattle.std.proofs.Common.{◌≡◌, ℕ, zero, suc, ◌-◌, ◌<◌, ◌≤◌, Bool, true, false, ◌||◌, List, [], ◌∷◌, length, get_or, Ordering, refl, sym, ap, ◌∙◌, arith}
 use Rattle.std.specs.declared.cmp.Ordering.TheVariants.{Less, Equal, Greater}
 use Rattle.std.specs.Cmp.Lexicographic.{slice_cmp}
 use Rattle.std.specs.Ordering.{nat_cmp, ordering_then, is_eq}
@@ -7,17 +7,16 @@ use Rattle.std.specs.List.{AllByRecursion, insert}
 use Rattle.std.proofs.lemmas.Cmp.{tied_itself, eq_by_cmp_equiv, by_ranked, ranked}
 use Rattle.std.proofs.lemmas.Bool.{or_right, or_left}
 use Rattle.std.proofs.lemmas.List.{get_or_default}
+use Rattle.std.proofs.lemmas.List.Folds.{list_any_at}
 use Rattle.std.proofs.lemmas.List.Elements.{recursion_from_All}
 use Rattle.std.proofs.Common.{subst, Result, Ok, Err, inl, inr, is_ok}
 use Rattle.std.specs.List.Sorted.{IsSearchInRange, IsBinarySearchResult, IsStrictlySortedBy}
 use Rattle.std.proofs.lemmas.Bool.{cases_lt, cases_order}
 use Rattle.sup_specs.specs.Rising.{among}
 use Rattle.sup_causal.proofs.Rising.{searched, rising_at}
-use Rattle.sup_causal.proofs.Union.{union, any_union}
 use Rattle.sup_causal.specs.DotLaws.{dot_total, dot_exact}
-use Rattle.sup_causal.specs.Dots.{dot_cmp, dot_eq, list_has, IsCounted, IsGreatest}
+use Rattle.sup_causal.specs.Dots.{dot_cmp, dot_eq, IsCounted, IsGreatest}
 use Rattle.sup_specs.specs.declared.limits.TheConstants.{MAX}
-use Rattle.std.specs.List.{list_any}
 use Rattle.std.specs.Result.{OnErr}
 use mathlib.Core.Bool.{false≢true}
 use mathlib.Core.Path.{fun_ext}
@@ -50,15 +49,6 @@ or_swap true true c = refl
 or_swap true false c = refl
 or_swap false b c = refl
 
-pub list_has-append : (xs ys : List Dot) (d : Dot) → list_has (xs ++ ys) d ≡ (list_has xs d || list_has ys d)
-list_has-append [] ys d = refl
-list_has-append (x ∷ xs) ys d = ap (λ b. dot_eq x d || b) (list_has-append xs ys d) ∙ sym (or_assoc (dot_eq x d) (list_has xs d) (list_has ys d))
-
-pub list_has-insert : (xs : List Dot) (i : ℕ) (y d : Dot) → list_has (insert xs i y) d ≡ (dot_eq y d || list_has xs d)
-list_has-insert xs zero y d = refl
-list_has-insert [] (suc i) y d = refl
-list_has-insert (x ∷ xs) (suc i) y d = ap (λ b. dot_eq x d || b) (list_has-insert xs i y d) ∙ or_swap (dot_eq x d) (dot_eq y d) (list_has xs d)
-
 -- a dot is equal to itself
 pub dot_eq-refl : (d : Dot) → dot_eq d d ≡ true
 dot_eq-refl d = dot_ties d d ∙ ap is_eq (tied_itself dot_total d)
@@ -66,19 +56,29 @@ dot_eq-refl d = dot_ties d d ∙ ap is_eq (tied_itself dot_total d)
 pub dot_eq-true : (a b : Dot) → dot_eq a b ≡ true → a ≡ b
 dot_eq-true a b e = dot_exact a b (equal_from_is_eq _ (sym (dot_ties a b) ∙ e))
 
+pub dot_eq-turn : (a b : Dot) → dot_eq a b ≡ dot_eq b a
+dot_eq-turn a b = (eq_by_cmp_equiv dot_total).symm a b
+
+-- the first of a list is asked the other way round
+pub among_first : (x : Dot) (xs : List Dot) (d : Dot) → among dot_cmp (x ∷ xs) d ≡ (dot_eq x d || among dot_cmp xs d)
+among_first x xs d = ap (λ b. b || among dot_cmp xs d) (dot_eq-turn d x)
+
+pub among-insert : (xs : List Dot) (i : ℕ) (y d : Dot) → among dot_cmp (insert xs i y) d ≡ (dot_eq y d || among dot_cmp xs d)
+among-insert xs zero y d = among_first y xs d
+among-insert [] (suc i) y d = among_first y [] d
+among-insert (x ∷ xs) (suc i) y d = ap (λ b. dot_eq d x || b) (among-insert xs i y d) ∙ or_swap (dot_eq d x) (dot_eq y d) (among dot_cmp xs d)
+
 -- what stands in the list is there
-pub has_at : (xs : List Dot) (i : ℕ) (d : Dot) → i < length xs → dot_cmp (get_or xs i d) d ≡ Equal → list_has xs d ≡ true
-has_at [] i d within equal = absurd (omega arith)
-has_at (x ∷ xs) zero d within equal = or_left _ _ (dot_ties x d ∙ ap is_eq equal)
-has_at (x ∷ xs) (suc i) d within equal = or_right _ _ (has_at xs i d (omega arith) equal)
+pub has_at : (xs : List Dot) (i : ℕ) (d : Dot) → i < length xs → dot_cmp (get_or xs i d) d ≡ Equal → among dot_cmp xs d ≡ true
+has_at xs i d within equal = list_any_at (dot_eq d) xs i d within (dot_eq-turn d (get_or xs i d) ∙ ap is_eq equal)
 
 -- what compares otherwise to each is not
-pub has_none : (xs : List Dot) (d : Dot) → AllByRecursion (λ y. is_eq (dot_cmp y d) ≡ false) xs → list_has xs d ≡ false
+pub has_none : (xs : List Dot) (d : Dot) → AllByRecursion (λ y. is_eq (dot_cmp y d) ≡ false) xs → among dot_cmp xs d ≡ false
 has_none [] d all = refl
-has_none (x ∷ xs) d all = or_none _ _ (dot_ties x d ∙ all.0) (has_none xs d all.1)
+has_none (x ∷ xs) d all = or_none _ _ (dot_eq-turn d x ∙ all.0) (has_none xs d all.1)
 
 -- what a search for a dot answers, by the test
-pub search_has : (xs : List Dot) → IsStrictlySortedBy dot_cmp xs → (d : Dot) (r : Result ℕ ℕ) → IsSearchInRange r (length xs) → IsBinarySearchResult (λ y. dot_cmp y d) xs r → is_ok r ≡ list_has xs d
+pub search_has : (xs : List Dot) → IsStrictlySortedBy dot_cmp xs → (d : Dot) (r : Result ℕ ℕ) → IsSearchInRange r (length xs) → IsBinarySearchResult (λ y. dot_cmp y d) xs r → is_ok r ≡ among dot_cmp xs d
 unfolding IsStrictlySortedBy
 search_has xs s d (Ok i) within equal = sym (has_at xs i d within (equal d))
 search_has xs s d (Err i) within parted =
@@ -89,29 +89,29 @@ search_has xs s d (Err i) within parted =
     ])))
 
 -- a context with one dot more at its gap
-again : (xs : List Dot) (y d : Dot) → list_has xs y ≡ true → (b : Bool) → dot_eq y d ≡ b → list_has xs d ≡ (b || list_has xs d)
-again xs y d there true e = ap (list_has xs) (sym (dot_eq-true y d e)) ∙ there
+again : (xs : List Dot) (y d : Dot) → among dot_cmp xs y ≡ true → (b : Bool) → dot_eq y d ≡ b → among dot_cmp xs d ≡ (b || among dot_cmp xs d)
+again xs y d there true e = ap (among dot_cmp xs) (sym (dot_eq-true y d e)) ∙ there
 again xs y d there false e = refl
 
 -- one more of what is there changes nothing
-pub has_again : (xs : List Dot) (y d : Dot) → list_has xs y ≡ true → list_has xs d ≡ (dot_eq y d || list_has xs d)
+pub has_again : (xs : List Dot) (y d : Dot) → among dot_cmp xs y ≡ true → among dot_cmp xs d ≡ (dot_eq y d || among dot_cmp xs d)
 has_again xs y d there = again xs y d there (dot_eq y d) refl
 
 -- what is in the list passes what each element passes
-passes : (P : Dot → Type 0) (x d : Dot) (rest : Bool) → P x → (rest ≡ true → P d) → (b : Bool) → dot_eq x d ≡ b → (b || rest) ≡ true → P d
-passes P x d rest here there true e h = subst P (dot_eq-true x d e) here
+passes : (P : Dot → Type 0) (x d : Dot) (rest : Bool) → P x → (rest ≡ true → P d) → (b : Bool) → dot_eq d x ≡ b → (b || rest) ≡ true → P d
+passes P x d rest here there true e h = subst P (sym (dot_eq-true d x e)) here
 passes P x d rest here there false e h = there h
 
-pub each_has : (P : Dot → Type 0) (xs : List Dot) → AllByRecursion P xs → (d : Dot) → list_has xs d ≡ true → P d
+pub each_has : (P : Dot → Type 0) (xs : List Dot) → AllByRecursion P xs → (d : Dot) → among dot_cmp xs d ≡ true → P d
 each_has P [] all d h = absurd (false≢true h)
-each_has P (x ∷ xs) all d h = passes P x d (list_has xs d) all.0 (each_has P xs all.1 d) (dot_eq x d) refl h
+each_has P (x ∷ xs) all d h = passes P x d (among dot_cmp xs d) all.0 (each_has P xs all.1 d) (dot_eq d x) refl h
 
-pub each_from_has : (P : Dot → Type 0) (xs : List Dot) → ((d : Dot) → list_has xs d ≡ true → P d) → AllByRecursion P xs
+pub each_from_has : (P : Dot → Type 0) (xs : List Dot) → ((d : Dot) → among dot_cmp xs d ≡ true → P d) → AllByRecursion P xs
 each_from_has P [] h = tt
 each_from_has P (x ∷ xs) h = (h x (or_left _ _ (dot_eq-refl x)), each_from_has P xs (λ d there. h d (or_right _ _ there)))
 
 -- of counted dots the greatest is at most MAX
-pub greatest_counted : (xs : List Dot) (node : List ℕ) (n : ℕ) → AllByRecursion IsCounted xs → IsGreatest (list_has xs) node n → n ≤ MAX
+pub greatest_counted : (xs : List Dot) (node : List ℕ) (n : ℕ) → AllByRecursion IsCounted xs → IsGreatest (among dot_cmp xs) node n → n ≤ MAX
 greatest_counted xs node zero all g = omega arith
 greatest_counted xs node (suc n) all g = let counted = each_has IsCounted xs all _ (g.reached (omega arith)) in counted.1
 
@@ -135,27 +135,13 @@ adds_nothing a b h = fun_ext (λ d. or_within (a d) (b d) (h d))
 pub nothing_added : (a b : Dot → Bool) → pointwise_join (λ x y. x || y) a b ≡ b → (d : Dot) → a d ≡ true → b d ≡ true
 nothing_added a b e d h = within_or (a d) (b d) (ap (λ f. f d) e) h
 
--- a list's test is any test of std's
-pub list_has_any : (xs : List Dot) (d : Dot) → list_has xs d ≡ list_any (λ x. dot_eq x d) xs
-list_has_any [] d = refl
-list_has_any (x ∷ xs) d = ap (λ b. dot_eq x d || b) (list_has_any xs d)
-
-pub list_has-union : (xs ys : List Dot) (d : Dot) → list_has (union dot_cmp xs ys) d ≡ (list_has xs d || list_has ys d)
-list_has-union xs ys d =
-    list_has_any (union dot_cmp xs ys) d ∙ any_union dot_cmp dot_total dot_exact (λ x. dot_eq x d) xs ys ∙ (λ k. sym (list_has_any xs d) k || sym (list_has_any ys d) k)
-
--- the other way round
-pub among_is : (xs : List Dot) (d : Dot) → list_has xs d ≡ among dot_cmp xs d
-among_is [] d = refl
-among_is (x ∷ xs) d = λ k. (eq_by_cmp_equiv dot_total).symm x d k || among_is xs d k
-
 -- where a dot of the list stands
-pub place_of : (xs : List Dot) (d : Dot) → list_has xs d ≡ true → (k : ℕ) × (k < length xs) × (get_or xs k d ≡ d)
+pub place_of : (xs : List Dot) (d : Dot) → among dot_cmp xs d ≡ true → (k : ℕ) × (k < length xs) × (get_or xs k d ≡ d)
 place_of [] d h = absurd (false≢true h)
-place_of (x ∷ xs) d h = at (dot_eq x d) refl h (place_of xs d)
+place_of (x ∷ xs) d h = at (dot_eq d x) refl h (place_of xs d)
   where
-    at : (b : Bool) → dot_eq x d ≡ b → (b || list_has xs d) ≡ true → (list_has xs d ≡ true → (k : ℕ) × (k < length xs) × (get_or xs k d ≡ d)) → (k : ℕ) × (k < length (x ∷ xs)) × (get_or (x ∷ xs) k d ≡ d)
-    at true e g further = (0, omega arith, dot_eq-true x d e)
+    at : (b : Bool) → dot_eq d x ≡ b → (b || among dot_cmp xs d) ≡ true → (among dot_cmp xs d ≡ true → (k : ℕ) × (k < length xs) × (get_or xs k d ≡ d)) → (k : ℕ) × (k < length (x ∷ xs)) × (get_or (x ∷ xs) k d ≡ d)
+    at true e g further = (0, omega arith, sym (dot_eq-true d x e))
     at false e g further = let later : (k : ℕ) × (k < length xs) × (get_or xs k d ≡ d) = further g in (suc later.0, omega (arith, later.1), later.2)
 
 -- a lesser dot has no greater counter
@@ -166,7 +152,7 @@ counter_from_less x y h = by_ranked (x.counter < y.counter) (x.counter ≡ y.cou
 
 -- the last dot of the node has its greatest counter
 pub greatest_at : (xs : List Dot) → IsStrictlySortedBy dot_cmp xs → (i : ℕ) (node : List ℕ) → i < length xs → (d e : Dot) → (get_or xs i d).node ≡ node
-    → ((k : ℕ) (d : Dot) → i < k → k < length xs → (get_or xs k d).node ≡ node → ⊥) → IsGreatest (list_has xs) node (get_or xs i e).counter
+    → ((k : ℕ) (d : Dot) → i < k → k < length xs → (get_or xs k d).node ≡ node → ⊥) → IsGreatest (among dot_cmp xs) node (get_or xs i e).counter
 greatest_at xs rises i node within d e same none = record { bound = bound; reached = λ lt. has_at xs i (record { counter = (get_or xs i e).counter; node = node }) within (tied_from (get_or xs i (record { counter = (get_or xs i e).counter; node = node })) (record { counter = (get_or xs i e).counter; node = node }) (get_or_default xs i (record { counter = (get_or xs i e).counter; node = node }) e within ∙ dot_is)) }
   where
     there : (get_or xs i e).node ≡ node
@@ -181,7 +167,7 @@ greatest_at xs rises i node within d e same none = record { bound = bound; reach
     counter_is : (q : Dot) → (get_or xs i q).counter ≡ (get_or xs i e).counter
     counter_is q = ap (λ (x : Dot). x.counter) (get_or_default xs i q e within)
 
-    bound : (q : Dot) → q.node ≡ node → list_has xs q ≡ true → q.counter ≤ (get_or xs i e).counter
+    bound : (q : Dot) → q.node ≡ node → among dot_cmp xs q ≡ true → q.counter ≤ (get_or xs i e).counter
     bound q of has =
         let at : (k : ℕ) × (k < length xs) × (get_or xs k q ≡ q) = place_of xs q has in
         let count : (get_or xs at.0 q).counter ≡ q.counter = ap (λ (x : Dot). x.counter) at.2 in
@@ -198,7 +184,7 @@ greatest_at xs rises i node within d e same none = record { bound = bound; reach
         ]
 
 -- where no dot is of the node
-pub greatest_past : (xs : List Dot) (node : List ℕ) → ((k : ℕ) (d : Dot) → k < length xs → (get_or xs k d).node ≡ node → ⊥) → IsGreatest (list_has xs) node 0
+pub greatest_past : (xs : List Dot) (node : List ℕ) → ((k : ℕ) (d : Dot) → k < length xs → (get_or xs k d).node ≡ node → ⊥) → IsGreatest (among dot_cmp xs) node 0
 greatest_past xs node none = record {
   bound = λ q of has. let at : (k : ℕ) × (k < length xs) × (get_or xs k q ≡ q) = place_of xs q has in absurd (none at.0 q at.1 (ap (λ (x : Dot). x.node) at.2 ∙ of));
   reached = λ lt. absurd (omega (arith, lt));

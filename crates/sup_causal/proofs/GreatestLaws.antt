@@ -9,9 +9,9 @@ use Rattle.sup_specs.specs.Values.{Bytes, text_cmp}
 use Rattle.sup_specs.specs.OrderLaws.{text_total, text_tie}
 use Rattle.sup_specs.specs.Rising.{among}
 use Rattle.sup_causal.specs.declared.dot.Dot.{Dot}
-use Rattle.sup_causal.specs.Dots.{list_has, dot_cmp, dot_eq, IsGreatest}
+use Rattle.sup_causal.specs.Dots.{dot_cmp, dot_eq, IsGreatest}
 use Rattle.sup_causal.specs.Greatest.{greatest_of, greatest_in}
-use Rattle.sup_causal.proofs.DotLemmas.{dot_eq-refl, dot_eq-true, among_is}
+use Rattle.sup_causal.proofs.DotLemmas.{dot_eq-refl, dot_eq-true}
 
 suc_max : (n m : ℕ) → (max n m ≡ n) ⊎ (max n m ≡ m) → (max (suc n) (suc m) ≡ suc n) ⊎ (max (suc n) (suc m) ≡ suc m)
 suc_max n m (inl e) = inl (omega arith)
@@ -97,5 +97,5 @@ pub of_same : (holds others : Dot → Bool) → ((d : Dot) → holds d ≡ other
 of_same holds others same node n g = record { bound = λ d mine k. g.bound d mine (same d ∙ k); reached = λ pos. sym (same (record { counter = n; node = node })) ∙ g.reached pos }
 
 -- the greatest counter of the dots of a list is given by the definition
-pub greatest_is_in : (dots : List Dot) (node : Bytes) (n : ℕ) → IsGreatest (list_has dots) node n → n ≡ greatest_in dots node
-greatest_is_in dots node n g = one_greatest (among dot_cmp dots) node n (greatest_in dots node) (of_same (list_has dots) (among dot_cmp dots) (among_is dots) node n g) (among_greatest dots node)
+pub greatest_is_in : (dots : List Dot) (node : Bytes) (n : ℕ) → IsGreatest (among dot_cmp dots) node n → n ≡ greatest_in dots node
+greatest_is_in dots node n g = one_greatest (among dot_cmp dots) node n (greatest_in dots node) g (among_greatest dots node)

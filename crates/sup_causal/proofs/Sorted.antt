@@ -14,11 +14,12 @@ use Rattle.std.proofs.lemmas.Map.Keys.{sorted_from_all_adjacent}
 use Rattle.std.proofs.lemmas.List.Sorted.{list_any-IsPermutation}
 use Rattle.std.proofs.lemmas.List.Kept.{IsStrictlySortedBy-dedup}
 use mathlib.Core.Bool.{false≢true}
+use Rattle.sup_specs.specs.Rising.{among}
 use Rattle.sup_causal.specs.declared.dot.Dot.{Dot}
-use Rattle.sup_causal.specs.Dots.{dot_cmp, dot_eq, list_has, IsCounted, IsKept}
+use Rattle.sup_causal.specs.Dots.{dot_cmp, dot_eq, IsCounted, IsKept}
 use Rattle.sup_causal.specs.DotLaws.{dot_total, dot_exact}
 use Rattle.sup_causal.proofs.Rising.{rising_at}
-use Rattle.sup_causal.proofs.DotLemmas.{list_has_any, each_has, each_from_has, equal_from_is_eq}
+use Rattle.sup_causal.proofs.DotLemmas.{each_has, each_from_has, equal_from_is_eq}
 
 -- a list of pairs whose keys rise
 each_key : {K X : Type 0} (P : K → Type 0) (es : List (K × X)) → AllByRecursion P (keys_of es) → AllByRecursion (λ e. P e.0) es
@@ -92,12 +93,10 @@ then_ties Greater r = refl
 pub dots_tie : (a b : Dot) → same_dot a b ≡ eq_by_cmp dot_cmp a b
 dots_tie a b = (λ k. unsigned_ties a.counter b.counter k && texts_ties a.node b.node k) ∙ then_ties (nat_cmp a.counter b.counter) (slice_cmp nat_cmp a.node b.node)
 
-pub sorted_has : (xs ys : List Dot) → IsPermutation xs ys → (d : Dot) → list_has (dedup same_dot ys) d ≡ list_has xs d
+pub sorted_has : (xs ys : List Dot) → IsPermutation xs ys → (d : Dot) → among dot_cmp (dedup same_dot ys) d ≡ among dot_cmp xs d
 sorted_has xs ys moved d =
-    list_has_any (dedup same_dot ys) d
-    ∙ any-dedup same_dot (λ x y e. dot_exact x y (equal_from_is_eq _ (sym (dots_tie x y) ∙ e))) (λ x. dot_eq x d) ys
-    ∙ sym (list_any-IsPermutation (λ x. dot_eq x d) xs ys moved)
-    ∙ sym (list_has_any xs d)
+    any-dedup same_dot (λ x y e. dot_exact x y (equal_from_is_eq _ (sym (dots_tie x y) ∙ e))) (dot_eq d) ys
+    ∙ sym (list_any-IsPermutation (dot_eq d) xs ys moved)
 
 pub sorted_kept : (xs ys : List Dot) → IsPermutation xs ys → IsSorted dot_cmp ys → AllByRecursion IsCounted xs → IsKept (dedup same_dot ys)
 sorted_kept xs ys moved sorted counted = record {

@@ -9,20 +9,21 @@ use Rattle.std.specs.List.{AllByRecursion}
 use Rattle.std.proofs.lemmas.Bool.{or_cases, and_parts, leb-true}
 use Rattle.std.proofs.lemmas.Bool.Decides.{nat_tests}
 use Rattle.std.proofs.lemmas.Cmp.{eq_by_cmp_equiv, nat_list_cmp_total}
+use Rattle.std.proofs.lemmas.List.Folds.{list_any-append}
 use Rattle.std.specs.List.Sorted.{IsStrictlySortedBy}
 use Rattle.sup_specs.specs.Rising.{among, put_in, rising}
 use Rattle.sup_specs.proofs.RisingLaws.{among-rising}
 use Rattle.sup_specs.specs.Values.{text_cmp}
 use Rattle.sup_specs.specs.declared.limits.TheConstants.{MAX}
 use Rattle.sup_causal.specs.declared.dot.Dot.{Dot}
-use Rattle.sup_causal.specs.Dots.{has, dot_cmp, list_has, IsCounted, IsKept}
+use Rattle.sup_causal.specs.Dots.{has, dot_cmp, dot_eq, IsCounted, IsKept}
 use Rattle.sup_causal.specs.DotLaws.{dot_total}
 use Rattle.sup_causal.specs.Cut.{entry, IsCanonical, in_run, in_runs, in_parts}
 use Rattle.sup_causal.proofs.Rising.{less_from_greater}
 use Rattle.sup_causal.proofs.Union.{each_weaker}
 use Rattle.sup_causal.proofs.Sorted.{pairs_rise}
 use Rattle.sup_causal.proofs.CutLemmas.{in_runs_is, uncounted}
-use Rattle.sup_causal.proofs.DotLemmas.{list_has-append, among_is, each_has}
+use Rattle.sup_causal.proofs.DotLemmas.{among_first, each_has}
 use Rattle.sup_causal.specs.Parts.{in_vector, run_dots, runs_dots, dots_of}
 use Rattle.sup_causal.proofs.Versions.{entry_most}
 use Rattle.sup_causal.proofs.Cuts.{dot_parts}
@@ -67,24 +68,23 @@ one_more : (b : Bool) (n c : ℕ) → ((eqb (suc n) c && b) || (b && (leb 1 c &&
 one_more true n c = grind (arith, nat_tests)
 one_more false n c = grind (arith, nat_tests)
 
-pub has_run : (node : List ℕ) (n : ℕ) (d : Dot) → list_has (run_dots node n) d ≡ in_run node n d
+pub has_run : (node : List ℕ) (n : ℕ) (d : Dot) → among dot_cmp (run_dots node n) d ≡ in_run node n d
 has_run node zero d = none_of_none d.counter (eq_by_cmp text_cmp d.node node)
 has_run node (suc n) d =
-    (λ k. (dot_parts (record { counter = suc n; node = node }) d ∙ ap (λ b. eqb (suc n) d.counter && b) ((eq_by_cmp_equiv nat_list_cmp_total).symm node d.node)) k || has_run node n d k)
+    among_first (record { counter = suc n; node = node }) (run_dots node n) d
+    ∙ (λ k. (dot_parts (record { counter = suc n; node = node }) d ∙ ap (λ b. eqb (suc n) d.counter && b) ((eq_by_cmp_equiv nat_list_cmp_total).symm node d.node)) k || has_run node n d k)
     ∙ one_more (eq_by_cmp text_cmp d.node node) n d.counter
 
-pub has_runs : (v : List (List ℕ × ℕ)) (d : Dot) → list_has (runs_dots v) d ≡ in_runs v d
+pub has_runs : (v : List (List ℕ × ℕ)) (d : Dot) → among dot_cmp (runs_dots v) d ≡ in_runs v d
 has_runs [] d = refl
-has_runs (e ∷ es) d = list_has-append (run_dots e.0 e.1) (runs_dots es) d ∙ (λ k. has_run e.0 e.1 d k || has_runs es d k)
+has_runs (e ∷ es) d = list_any-append (dot_eq d) (run_dots e.0 e.1) (runs_dots es) ∙ (λ k. has_run e.0 e.1 d k || has_runs es d k)
 
 pub has_dots : (v : List (List ℕ × ℕ)) (c : List Dot) → IsCanonical v c → (d : Dot) → has (dots_of v c) d ≡ in_parts v c d
 unfolding dots_of has
 has_dots v c canonical d =
-    among_is (dots_of v c) d
-    ∙ among-rising dot_cmp dot_total (runs_dots v ++ c) d
-    ∙ sym (among_is (runs_dots v ++ c) d)
-    ∙ list_has-append (runs_dots v) c d
-    ∙ (λ k. (has_runs v d ∙ in_runs_is v (pairs_rise text_cmp v canonical.by_name) d) k || among_is c d k)
+    among-rising dot_cmp dot_total (runs_dots v ++ c) d
+    ∙ list_any-append (dot_eq d) (runs_dots v) c
+    ∙ ap (λ b. b || among dot_cmp c d) (has_runs v d ∙ in_runs_is v (pairs_rise text_cmp v canonical.by_name) d)
 
 -- of a kept context
 pub has_kept : (context v : _) (c : List Dot) → IsCanonical v c → dots_of v c ≡ context → (d : Dot) → has context d ≡ in_parts v c d
@@ -105,7 +105,7 @@ parts_counted v c canonical d there = elim (or_cases (in_vector v d) (among dot_
       let low : 1 ≤ d.counter = leb-true _ _ both.0 in
       let high : d.counter ≤ entry v d.node = leb-true _ _ both.1 in
       (low, omega (arith, most, high))
-  | inr cloud ↦ each_has IsCounted c (cloud_kept v c canonical).counted d (among_is c d ∙ cloud)
+  | inr cloud ↦ each_has IsCounted c (cloud_kept v c canonical).counted d cloud
 ]
 
 pub none_in_empty : (d : Dot) → in_vector [] d ≡ false

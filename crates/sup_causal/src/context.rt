@@ -6,7 +6,7 @@ ghost use Rattle.std.specs.List.Sorted.{IsStrictlySortedBy};
 ghost use Rattle.sup_specs.specs.Rising.{among};
 ghost use Rattle.sup_causal.specs.Cut.{in_parts, IsVector, IsCloud, IsCanonical};
 ghost use Rattle.sup_causal.specs.declared.parts.PartsFault.TheVariants.{NotCanonical};
-ghost use Rattle.sup_causal.specs.Dots.{has, list_has, dot_cmp, dot_eq, IsCounted, IsGreatest, IsKept, IsNext};
+ghost use Rattle.sup_causal.specs.Dots.{has, dot_cmp, dot_eq, IsCounted, IsGreatest, IsKept, IsNext};
 ghost use Rattle.sup_causal.specs.Greatest.{greatest_in};
 ghost use Rattle.sup_causal.specs.Parts.{IsVersions, in_vector};
 
@@ -246,7 +246,7 @@ fn absorbed(
 ) -> Result<CausalContext, AllocError>
     requires vector { IsVersions vector.items }
     requires dots { IsKept dots.now }
-    ensures { IfOk result (λ context. (d : Dot) → has context d ≡ (in_vector vector.items d || list_has dots.now d)) }
+    ensures { IfOk result (λ context. (d : Dot) → has context d ≡ (in_vector vector.items d || among dot_cmp dots.now d)) }
 {
     let cloud = absorb(alloc, &mut vector, dots)?;
     Ok(CausalContext { vector, cloud })

@@ -3,7 +3,8 @@
 ghost use Rattle.std.specs.Prelude.{◌≡◌, ◌+◌, ◌≤◌, ◌||◌, false, length, IfOk, OnOk, OnErr};
 ghost use Rattle.std.specs.List.{AllByRecursion};
 ghost use Rattle.std.specs.List.Sorted.{IsStrictlySortedBy};
-ghost use Rattle.sup_causal.specs.Dots.{dot_cmp, dot_eq, list_has, IsCounted, IsGreatest, IsKept};
+ghost use Rattle.sup_specs.specs.Rising.{among};
+ghost use Rattle.sup_causal.specs.Dots.{dot_cmp, dot_eq, IsCounted, IsGreatest, IsKept};
 
 use crate::dot::Dot;
 use std::alloc::{AllocError, Global};
@@ -14,7 +15,7 @@ use sup_specs::NodeName;
 pub(crate) fn sorted(mut dots: Vec<Dot>) -> Vec<Dot>
     requires { AllByRecursion IsCounted dots.items }
     ensures kept { IsKept result.items }
-    ensures dots { (d : Dot) → list_has result.items d ≡ list_has dots.items d }
+    ensures dots { (d : Dot) → among dot_cmp result.items d ≡ among dot_cmp dots.items d }
 {
     dots.sort_unstable();
     dots.dedup();
@@ -26,7 +27,7 @@ pub(crate) fn union(alloc: Global, left: &[Dot], right: &[Dot]) -> Result<Vec<Do
     requires left { IsKept left.now }
     requires right { IsKept right.now }
     ensures kept { IfOk result (λ both. IsKept both.items) }
-    ensures dots { IfOk result (λ both. (d : Dot) → list_has both.items d ≡ (list_has left.now d || list_has right.now d)) }
+    ensures dots { IfOk result (λ both. (d : Dot) → among dot_cmp both.items d ≡ (among dot_cmp left.now d || among dot_cmp right.now d)) }
     ensures bound { IfOk result (λ both. length both.items ≤ length left.now + length right.now) }
 {
     let mut both = Vec::with_capacity(alloc, left.len() + right.len())?;
@@ -57,7 +58,7 @@ pub(crate) fn union(alloc: Global, left: &[Dot], right: &[Dot]) -> Result<Vec<Do
 // Whether the list has the dot, by binary search.
 pub(crate) fn is_in(dot: &Dot, dots: &[Dot]) -> bool
     requires { IsStrictlySortedBy dot_cmp dots.now }
-    ensures { result ≡ list_has dots.now dot.now }
+    ensures { result ≡ among dot_cmp dots.now dot.now }
 {
     dots.binary_search(dot).is_ok()
 }
@@ -65,7 +66,7 @@ pub(crate) fn is_in(dot: &Dot, dots: &[Dot]) -> bool
 // The greatest counter of the node's dots, from the back: counters rise, so the first that is met is the greatest.
 pub(crate) fn greatest_of(dots: &[Dot], node: &NodeName) -> u64
     requires { IsStrictlySortedBy dot_cmp dots.now }
-    ensures { IsGreatest (list_has dots.now) node.now result }
+    ensures { IsGreatest (among dot_cmp dots.now) node.now result }
 {
     let mut i = dots.len();
     while i > 0 {
@@ -82,9 +83,9 @@ pub(crate) fn greatest_of(dots: &[Dot], node: &NodeName) -> u64
 pub(crate) fn put(dots: &mut Vec<Dot>, dot: Dot) -> Result<(), AllocError>
     requires { IsStrictlySortedBy dot_cmp dots.old.items }
     ensures rising { IsStrictlySortedBy dot_cmp dots.new.items }
-    ensures ok { OnOk result ((d : Dot) → list_has dots.new.items d ≡ (list_has dots.old.items d || dot_eq dot d)) }
+    ensures ok { OnOk result ((d : Dot) → among dot_cmp dots.new.items d ≡ (among dot_cmp dots.old.items d || dot_eq dot d)) }
     ensures err { OnErr result (dots.new.items ≡ dots.old.items) }
-    ensures fresh { OnErr result (list_has dots.old.items dot ≡ false) }
+    ensures fresh { OnErr result (among dot_cmp dots.old.items dot ≡ false) }
 {
     match dots.binary_search(&dot) {
         Ok(_) => Ok(()),

@@ -1,15 +1,16 @@
 -- The dots that a vector and a cloud have, as a list.
-use Rattle.std.proofs.Common.{◌≡◌, ℕ, zero, suc, ◌+◌, ◌≤◌, true, ◌||◌, ◌&&◌, leb, List, [], ◌∷◌, ◌++◌, refl, sym, ◌∙◌, subst, arith, inl, inr}
+use Rattle.std.proofs.Common.{◌≡◌, ℕ, zero, suc, ◌+◌, ◌≤◌, true, ◌||◌, ◌&&◌, leb, List, [], ◌∷◌, ◌++◌, refl, sym, ap, ◌∙◌, subst, arith, inl, inr}
 use mathlib.Core.Bool.{true≢false}
 use Rattle.std.specs.List.{AllByRecursion}
 use Rattle.std.proofs.lemmas.Bool.{or_left, or_right, or_cases, and_parts, and_from, cases_order, le-leb, leb-true}
+use Rattle.std.proofs.lemmas.List.Folds.{list_any-append}
 use Rattle.sup_specs.specs.Values.{Bytes, text_cmp}
 use Rattle.sup_specs.specs.Rising.{rising, among}
 use Rattle.sup_specs.specs.declared.limits.TheConstants.{MAX}
 use Rattle.sup_causal.specs.declared.dot.Dot.{Dot}
-use Rattle.sup_causal.specs.Dots.{Context, has, dot_cmp, dot_eq, list_has, IsCounted}
+use Rattle.sup_causal.specs.Dots.{Context, has, dot_cmp, dot_eq, IsCounted}
 use Rattle.sup_causal.specs.Cut.{entry, in_run, in_runs, in_parts, IsCanonical}
-use Rattle.sup_causal.proofs.DotLemmas.{dot_eq-refl, dot_eq-true, list_has-append, among_is, each_has}
+use Rattle.sup_causal.proofs.DotLemmas.{dot_eq-refl, dot_eq-true, among_first, each_has}
 use Rattle.sup_causal.proofs.Sorted.{pairs_rise}
 use Rattle.sup_causal.proofs.CutLemmas.{in_runs_is}
 use Rattle.sup_tables.proofs.OperationLaws.{both_ways}
@@ -28,19 +29,19 @@ vector_dots (e ∷ es) = run_dots e.0 e.1 ++ vector_dots es
 abbrev pub context_of : List (Bytes × ℕ) → List Dot → Context
 context_of vector cloud = rising dot_cmp (vector_dots vector ++ cloud)
 
-run_has : (node : Bytes) (n : ℕ) (d : Dot) → list_has (run_dots node n) d ≡ in_run node n d
+run_has : (node : Bytes) (n : ℕ) (d : Dot) → among dot_cmp (run_dots node n) d ≡ in_run node n d
 run_has node zero d = both_ways _ _ (λ e. absurd (true≢false (sym e))) (λ e.
     let p = and_parts _ _ (and_parts _ _ e).1 in
     let low = leb-true 1 d.counter p.0 in
     let high = leb-true d.counter 0 p.1 in
     absurd (omega (arith, low, high)))
-run_has node (suc n) d = both_ways _ _ (there (run_has node n d)) (back (run_has node n d))
+run_has node (suc n) d = among_first x (run_dots node n) d ∙ both_ways _ _ (there (run_has node n d)) (back (run_has node n d))
   where
     x : Dot
     x = record { counter = suc n; node = node }
 
-    there : list_has (run_dots node n) d ≡ in_run node n d → (dot_eq x d || list_has (run_dots node n) d) ≡ true → in_run node (suc n) d ≡ true
-    there lower e = elim (or_cases (dot_eq x d) (list_has (run_dots node n) d) e) [
+    there : among dot_cmp (run_dots node n) d ≡ in_run node n d → (dot_eq x d || among dot_cmp (run_dots node n) d) ≡ true → in_run node (suc n) d ≡ true
+    there lower e = elim (or_cases (dot_eq x d) (among dot_cmp (run_dots node n) d) e) [
       | inl same ↦ subst (λ y. in_run node (suc n) y ≡ true) (dot_eq-true x d same) (and_from _ _ (text_itself node) (and_from _ _ (le-leb 1 (suc n) (omega arith)) (le-leb (suc n) (suc n) (omega arith))))
       | inr rest ↦
           let p = and_parts _ _ (sym lower ∙ rest) in
@@ -49,7 +50,7 @@ run_has node (suc n) d = both_ways _ _ (there (run_has node n d)) (back (run_has
           and_from _ _ p.0 (and_from _ _ q.0 (le-leb d.counter (suc n) (omega (arith, high))))
     ]
 
-    back : list_has (run_dots node n) d ≡ in_run node n d → in_run node (suc n) d ≡ true → (dot_eq x d || list_has (run_dots node n) d) ≡ true
+    back : among dot_cmp (run_dots node n) d ≡ in_run node n d → in_run node (suc n) d ≡ true → (dot_eq x d || among dot_cmp (run_dots node n) d) ≡ true
     back lower e =
         let p = and_parts _ _ e in
         let q = and_parts _ _ p.1 in
@@ -63,9 +64,9 @@ run_has node (suc n) d = both_ways _ _ (there (run_has node n d)) (back (run_has
           ]
         ]
 
-vector_has : (es : List (Bytes × ℕ)) (d : Dot) → list_has (vector_dots es) d ≡ in_runs es d
+vector_has : (es : List (Bytes × ℕ)) (d : Dot) → among dot_cmp (vector_dots es) d ≡ in_runs es d
 vector_has [] d = refl
-vector_has (e ∷ es) d = list_has-append (run_dots e.0 e.1) (vector_dots es) d ∙ (λ k. run_has e.0 e.1 d k || vector_has es d k)
+vector_has (e ∷ es) d = list_any-append (dot_eq d) (run_dots e.0 e.1) (vector_dots es) ∙ (λ k. run_has e.0 e.1 d k || vector_has es d k)
 
 in_runs_counted : (es : List (Bytes × ℕ)) (d : Dot) → AllByRecursion (λ e. (1 ≤ e.1) × (e.1 ≤ MAX)) es → in_runs es d ≡ true → IsCounted d
 in_runs_counted [] d all e = absurd (true≢false (sym e))
@@ -87,15 +88,14 @@ module _ (vector : List (Bytes × ℕ)) (cloud : List Dot) (canonical : IsCanoni
   pub has_parts : (d : Dot) → has (context_of vector cloud) d ≡ in_parts vector cloud d
   has_parts d =
       has_rising (vector_dots vector ++ cloud) d
-      ∙ sym (among_is (vector_dots vector ++ cloud) d)
-      ∙ list_has-append (vector_dots vector) cloud d
-      ∙ (λ k. (vector_has vector d ∙ runs_are d) k || among_is cloud d k)
+      ∙ list_any-append (dot_eq d) (vector_dots vector) cloud
+      ∙ ap (λ b. b || among dot_cmp cloud d) (vector_has vector d ∙ runs_are d)
 
   pub parts_counted : (d : Dot) → has (context_of vector cloud) d ≡ true → IsCounted d
   parts_counted d there = elim (or_cases (leb 1 d.counter && leb d.counter (entry vector d.node)) (among dot_cmp cloud d) (sym (has_parts d) ∙ there)) [
     | inl run ↦ in_runs_counted vector d canonical.entries (runs_are d ∙ run)
     | inr beyond ↦
-        let far = each_has (λ e. (entry vector e.node + 2 ≤ e.counter) × (e.counter ≤ MAX)) cloud canonical.apart d (among_is cloud d ∙ beyond) in
+        let far = each_has (λ e. (entry vector e.node + 2 ≤ e.counter) × (e.counter ≤ MAX)) cloud canonical.apart d beyond in
         let apart = far.0 in
         (omega (arith, apart), far.1)
   ]

@@ -1,8 +1,9 @@
 //! Whether a context has a dot, all the dots of another, or few enough.
 
 ghost use Rattle.std.specs.Prelude.{◌≡◌, ℕ, List, ◌≤◌, ◌+◌, ◌↔◌, true, IsTrue};
+ghost use Rattle.sup_specs.specs.Rising.{among};
 ghost use Rattle.sup_causal.specs.Cut.{entry, in_parts, IsCanonical};
-ghost use Rattle.sup_causal.specs.Dots.{has, list_has};
+ghost use Rattle.sup_causal.specs.Dots.{has, dot_cmp};
 ghost use Rattle.sup_causal.specs.Parts.{IsVersions, total_of};
 
 use crate::context::CausalContext;
@@ -36,7 +37,7 @@ pub(super) fn runs_within(vector: &[(NodeName, u64)], others: &[(NodeName, u64)]
 
 // Whether the context has all the dots.
 pub(super) fn cloud_within(dots: &[Dot], other: &CausalContext) -> bool
-    ensures { IsTrue result ↔ ((d : Dot) → list_has dots.now d ≡ true → has other.now d ≡ true) }
+    ensures { IsTrue result ↔ ((d : Dot) → among dot_cmp dots.now d ≡ true → has other.now d ≡ true) }
 {
     for dot in dots {
         if !other.contains(dot) {

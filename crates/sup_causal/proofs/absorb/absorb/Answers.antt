@@ -1,6 +1,7 @@
 use Rattle.std.proofs.Common.{◌||◌, ap, sym, ◌∙◌, inl, inr}
 use Rattle.std.proofs.lemmas.Bool.{or_cases, or_left, or_right}
-use Rattle.sup_causal.specs.Dots.{list_has, dot_eq}
+use Rattle.sup_specs.specs.Rising.{among}
+use Rattle.sup_causal.specs.Dots.{dot_cmp, dot_eq}
 use Rattle.sup_causal.proofs.DotLemmas.{or_assoc}
 use Rattle.sup_causal.specs.Parts.{in_vector}
 use Rattle.sup_causal.proofs.Cuts.{before_less, has_more}
@@ -21,7 +22,7 @@ loop-dot-preserved c =
           ∙ ap (λ b. b || dot_eq x d) (c.loop-dot.invariant.1 d)
           ∙ or_assoc (in_vector c.args.vector.now.items d) _ (dot_eq x d)
           ∙ ap (λ b. in_vector c.args.vector.now.items d || b) (sym (more d))),
-      (λ d there. more d ∙ elim (or_cases (list_has c.loop-dot.cloud.items d) (dot_eq x d) (c.in_ok-take_in.ensures.below d there)) [
+      (λ d there. more d ∙ elim (or_cases (among dot_cmp c.loop-dot.cloud.items d) (dot_eq x d) (c.in_ok-take_in.ensures.below d there)) [
         | inl old ↦ or_left _ _ (c.loop-dot.invariant.2 d old)
         | inr same ↦ or_right _ _ same
       ]),

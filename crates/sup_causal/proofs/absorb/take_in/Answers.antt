@@ -1,7 +1,8 @@
 use Rattle.std.proofs.Common.{◌≡◌, ◌≤◌, ◌+◌, false, arith, sym, ap, ◌∙◌}
 use Rattle.std.proofs.lemmas.Bool.{false_from_ne_true}
 use Rattle.sup_causal.specs.Cut.{entry}
-use Rattle.sup_causal.specs.Dots.{list_has, dot_cmp}
+use Rattle.sup_specs.specs.Rising.{among}
+use Rattle.sup_causal.specs.Dots.{dot_cmp}
 use Rattle.sup_causal.specs.declared.dot.Dot.{Dot}
 use Rattle.sup_causal.proofs.DotLemmas.{counter_from_less, each_from_has}
 use Rattle.sup_causal.proofs.Versions.{entry_most}
@@ -27,7 +28,7 @@ pub returns-then-dot-entry-2-clause-canonical : goal.returns-then-dot-entry-2-cl
 returns-then-dot-entry-2-clause-canonical c =
     let x = c.args.dot.now in
     let above : Dot = record { counter = x.counter + 1; node = x.node } in
-    let none : list_has c.args.cloud.now.items above ≡ false = false_from_ne_true _ (λ there. let le : above.counter ≤ x.counter = counter_from_less above x (c.requires.last above there) in omega (arith, le)) in
+    let none : among dot_cmp c.args.cloud.now.items above ≡ false = false_from_ne_true _ (λ there. let le : above.counter ≤ x.counter = counter_from_less above x (c.requires.last above there) in omega (arith, le)) in
     let next = c.if-dot-entry-2.true ∙ ap (λ n. n + 1) (c.entry_in-entry.ensures ∙ ap (λ v. entry v x.node) c.deref.ensures.value) in
     raised_canonical c.args.vector.now.items c.raise.new.vector.items c.args.cloud.now.items x next c.in_ok-raise.ensures.ok c.requires.canonical c.in_ok-raise.ensures.vector none
 
@@ -52,4 +53,4 @@ returns-clause-dots c =
     rw c.in_ok-push.ensures.items (cloud_parts c.args.vector.now.items c.args.cloud.now.items _ c.args.dot.now (has_push c.args.cloud.now.items c.args.dot.now))
 
 pub returns-clause-below : goal.returns-clause-below
-returns-clause-below c d there = sym (has_push c.args.cloud.now.items c.args.dot.now d) ∙ ap (λ ys. list_has ys d) (sym c.in_ok-push.ensures.items) ∙ there
+returns-clause-below c d there = sym (has_push c.args.cloud.now.items c.args.dot.now d) ∙ ap (λ ys. among dot_cmp ys d) (sym c.in_ok-push.ensures.items) ∙ there

@@ -1,6 +1,7 @@
 use Rattle.std.proofs.Common.{ap, ◌∙◌}
 use Rattle.std.proofs.lemmas.List.Filters.{dedup_is}
-use Rattle.sup_causal.specs.Dots.{list_has}
+use Rattle.sup_specs.specs.Rising.{among}
+use Rattle.sup_causal.specs.Dots.{dot_cmp}
 use Rattle.sup_causal.proofs.Sorted.{same_dot, sorted_has, sorted_kept}
 use Rattle.sup_causal.proofs.sorted_dots.sorted.Goals as goal
 
@@ -11,4 +12,4 @@ returns-clause-kept c =
 
 pub returns-clause-dots : goal.returns-clause-dots
 returns-clause-dots c d =
-    ap (λ dots. list_has dots d) (dedup_is same_dot _ _ c.dedup.ensures.filtered) ∙ sorted_has _ _ c.sort_unstable.ensures.permutation d
+    ap (λ dots. among dot_cmp dots d) (dedup_is same_dot _ _ c.dedup.ensures.filtered) ∙ sorted_has _ _ c.sort_unstable.ensures.permutation d

@@ -1,9 +1,9 @@
 use Rattle.std.proofs.Common.{◌≡◌, ◌≤◌, ◌++◌, length, arith, ap, sym, ◌∙◌, drop, ◌⊎◌, inl, inr}
 use Rattle.std.proofs.lemmas.List.{take_rest}
-use Rattle.sup_causal.specs.Dots.{dot_cmp, list_has, IsCounted}
+use Rattle.sup_specs.specs.Rising.{among}
+use Rattle.sup_causal.specs.Dots.{dot_cmp, dot_eq, IsCounted}
 use Rattle.sup_causal.specs.DotLaws.{dot_total, dot_exact}
-use Rattle.sup_causal.proofs.DotLemmas.{list_has-union}
-use Rattle.sup_causal.proofs.Union.{union, same_place, union_less, union_equal, union_greater, union_end, rising_union, each_union, length_union}
+use Rattle.sup_causal.proofs.Union.{union, same_place, union_less, union_equal, union_greater, union_end, any_union, rising_union, each_union, length_union}
 use Rattle.sup_causal.proofs.sorted_dots.union.Goals as goal
 use Rattle.sup_causal.proofs.sorted_dots.union.Goals.{then-loop-i-test+else-j-right, else-loop-i-test}
 
@@ -52,7 +52,7 @@ returns-clause-kept c = rw (all_of c) (record {
 })
 
 pub returns-clause-dots : goal.returns-clause-dots
-returns-clause-dots c d = ap (λ dots. list_has dots d) (all_of c) ∙ list_has-union c.args.left.now c.args.right.now d
+returns-clause-dots c d = ap (λ dots. among dot_cmp dots d) (all_of c) ∙ any_union dot_cmp dot_total dot_exact (dot_eq d) c.args.left.now c.args.right.now
 
 pub returns-clause-bound : goal.returns-clause-bound
 returns-clause-bound c = omega (arith, ap length (all_of c), length_union dot_cmp c.args.left.now c.args.right.now)

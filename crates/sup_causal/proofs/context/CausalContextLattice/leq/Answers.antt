@@ -1,9 +1,10 @@
 use Rattle.std.proofs.Common.{◌≤◌, ℕ, List, arith, ap, sym, ◌∙◌}
 use Rattle.std.proofs.lemmas.Bool.{or_right}
 use mathlib.Core.Bool.{false≢true}
-use Rattle.sup_causal.specs.Dots.{list_has}
+use Rattle.sup_specs.specs.Rising.{among}
+use Rattle.sup_causal.specs.Dots.{dot_cmp}
 use Rattle.sup_causal.specs.Cut.{entry}
-use Rattle.sup_causal.proofs.DotLemmas.{among_is, adds_nothing, nothing_added}
+use Rattle.sup_causal.proofs.DotLemmas.{adds_nothing, nothing_added}
 use Rattle.sup_causal.proofs.Views.{has_kept}
 use Rattle.sup_causal.proofs.Within.{parts_within, runs_from_within}
 use Rattle.sup_causal.proofs.context.CausalContextLattice.leq.Goals as goal
@@ -20,8 +21,8 @@ returns-then-runs_within c =
     omega (arith, le, ap (λ es. entry es q) c.deref.ensures.value, ap (λ es. entry es q) c.deref-2.ensures.value) in
     let same = c.deref-then-runs_within.ensures.value in (
       (λ within. adds_nothing _ _ (λ d there.
-          theirs d ∙ parts_within v w cloud c.other.inside.cloud.items runs (λ x h. sym (theirs x) ∙ c.cloud_within.ensures.0 within x (ap (λ ds. list_has ds x) same ∙ h)) d (sym (mine d) ∙ there))),
-      (λ e. c.cloud_within.ensures.1 (λ d there. nothing_added _ _ e d (mine d ∙ or_right _ _ (sym (among_is cloud d) ∙ ap (λ ds. list_has ds d) (sym same) ∙ there)))),
+          theirs d ∙ parts_within v w cloud c.other.inside.cloud.items runs (λ x h. sym (theirs x) ∙ c.cloud_within.ensures.0 within x (ap (λ ds. among dot_cmp ds x) same ∙ h)) d (sym (mine d) ∙ there))),
+      (λ e. c.cloud_within.ensures.1 (λ d there. nothing_added _ _ e d (mine d ∙ or_right _ _ (ap (λ ds. among dot_cmp ds d) (sym same) ∙ there)))),
     )
 
 pub returns-else-runs_within : goal.returns-else-runs_within
