@@ -9,7 +9,7 @@ use Rattle.std.proofs.lemmas.Bool.Decides.{nat_tests}
 use Rattle.std.proofs.lemmas.List.{take_more, get_or_read, get_or-take}
 use Rattle.std.proofs.lemmas.List.Folds.{list_any-append}
 use Rattle.std.proofs.lemmas.Map.Lookups.{exact_bytes}
-use Rattle.std.proofs.Math.Bool.{or-false}
+use Rattle.std.proofs.Math.Bool.{or-false, and-true}
 use mathlib.Core.Bool.{false≢true}
 use Rattle.std.specs.List.Sorted.{IsStrictlySortedBy}
 use Rattle.sup_specs.specs.Rising.{among}
@@ -42,10 +42,6 @@ next_counted old n c next = grind (arith, nat_tests, next)
 
 pub dot_parts : (x d : Dot) → dot_eq x d ≡ (eqb x.counter d.counter && eq_by_cmp text_cmp x.node d.node)
 dot_parts x d = sym (dots_tie x d) ∙ ap (λ b. eqb x.counter d.counter && b) (texts_ties x.node d.node)
-
-and-true : (b : Bool) → (b && true) ≡ b
-and-true true = refl
-and-true false = refl
 
 pub and-false : (b : Bool) → (b && false) ≡ false
 and-false true = refl

@@ -5,7 +5,7 @@ use Rattle.std.specs.Cmp.Lexicographic.{slice_cmp}
 use Rattle.std.specs.Ordering.{nat_cmp, ordering_then, is_eq}
 use Rattle.std.specs.List.{AllByRecursion, insert}
 use Rattle.std.proofs.lemmas.Cmp.{tied_itself, eq_by_cmp_equiv, by_ranked, ranked}
-use Rattle.std.proofs.lemmas.Bool.{or_right, or_left}
+use Rattle.std.proofs.lemmas.Bool.{or_right, or_left, or_from}
 use Rattle.std.proofs.lemmas.List.{get_or_default}
 use Rattle.std.proofs.lemmas.List.Folds.{list_any_at}
 use Rattle.std.proofs.lemmas.List.Elements.{recursion_from_All}
@@ -36,9 +36,6 @@ pub equal_from_is_eq : (o : Ordering) → is_eq o ≡ true → o ≡ Equal
 equal_from_is_eq Less e = cc
 equal_from_is_eq Equal e = refl
 equal_from_is_eq Greater e = cc
-
-or_none : (a b : Bool) → a ≡ false → b ≡ false → (a || b) ≡ false
-or_none a b e f = rw (e, f)
 
 pub or_assoc : (a b c : Bool) → ((a || b) || c) ≡ (a || (b || c))
 or_assoc true b c = refl
@@ -75,7 +72,7 @@ has_at xs i d within equal = list_any_at (dot_eq d) xs i d within (dot_eq-turn d
 -- what compares otherwise to each is not
 pub has_none : (xs : List Dot) (d : Dot) → AllByRecursion (λ y. is_eq (dot_cmp y d) ≡ false) xs → among dot_cmp xs d ≡ false
 has_none [] d all = refl
-has_none (x ∷ xs) d all = or_none _ _ (dot_eq-turn d x ∙ all.0) (has_none xs d all.1)
+has_none (x ∷ xs) d all = or_from _ _ (dot_eq-turn d x ∙ all.0) (has_none xs d all.1)
 
 -- what a search for a dot answers, by the test
 pub search_has : (xs : List Dot) → IsStrictlySortedBy dot_cmp xs → (d : Dot) (r : Result ℕ ℕ) → IsSearchInRange r (length xs) → IsBinarySearchResult (λ y. dot_cmp y d) xs r → is_ok r ≡ among dot_cmp xs d

@@ -4,7 +4,7 @@ use Rattle.std.specs.Option.{option_and_then}
 use Prim.Native.Nat.{zero, suc}
 use Rattle.std.proofs.Common.{sym, ap, ◌∙◌, subst, arith}
 use Rattle.std.proofs.lemmas.Bool.{eqb-true, eqb-false}
-use Rattle.std.proofs.lemmas.Option.{none-some}
+use Rattle.std.proofs.lemmas.Option.{none-some, same_Some}
 use mathlib.Core.Logic.{◌⊎◌, inl, inr}
 use Rattle.sup_specs.specs.Values.{Bytes}
 use Rattle.sup_replica.specs.declared.refusal.Refusal.{Refusal}
@@ -20,9 +20,6 @@ use Rattle.sup_model.proofs.Afters.{After, after-refused_if, after-then_do, afte
 use Rattle.sup_model.proofs.CleanWorld.{find-in}
 use Rattle.sup_certify.proofs.OrderLaws.{named_itself, named_same}
 use Rattle.sup_certify.proofs.NameLaws.{StaysNamed, arrives_named, post_named}
-
-some_same : {X : Type 0} (a b : X) → Some a ≡ Some b → a ≡ b
-some_same a b e = cc
 
 before_one : (k n : ℕ) → (k ≡ 0 → ⊥) → k - 1 ≡ n → k ≡ n + 1
 before_one k n some e = grind arith
@@ -45,7 +42,7 @@ module _ {X : Type 0} where
   still (z ∷ zs) x (suc i) y e = still zs x i y e
 
   newer : (xs : List X) (x : X) (i : ℕ) (y : X) → slice_get (xs ++ x ∷ []) i ≡ Some y → (slice_get xs i ≡ Some y) ⊎ ((i ≡ length xs) × (x ≡ y))
-  newer [] x zero y e = inr (refl, some_same x y e)
+  newer [] x zero y e = inr (refl, same_Some x y e)
   newer [] x (suc i) y e = absurd (none-some y e)
   newer (z ∷ zs) x zero y e = inl e
   newer (z ∷ zs) x (suc i) y e = elim (newer zs x i y e) [ inl h ↦ inl h | inr h ↦ inr (ap suc h.0, h.1) ]

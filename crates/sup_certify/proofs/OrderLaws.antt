@@ -4,8 +4,9 @@ use Prim.Native.Nat.{zero}
 use Rattle.std.specs.List.{AllZip}
 use Rattle.std.specs.Cmp.{Equal-is, tied_itself}
 use Rattle.std.proofs.Common.{sym, ap, ◌∙◌, subst, arith}
-use Rattle.std.proofs.lemmas.List.{take_more, take_all}
+use Rattle.std.proofs.lemmas.List.{take_more, take_all, append-nil}
 use Rattle.std.specs.List.{AllByRecursion}
+use Rattle.std.proofs.lemmas.Bool.{or_right}
 use Rattle.sup_specs.specs.Values.{Bytes}
 use Rattle.sup_specs.specs.OrderLaws.{text_total, text_tie}
 use Rattle.sup_replica.specs.Nodes.{is_named}
@@ -34,12 +35,8 @@ of_node_more name (q ∷ order) p =
 pub of_node_own : (name : Bytes) (order : List Placed) (p : Placed) → is_named name p.node ≡ true → of_node name (order ++ p ∷ []) ≡ of_node name order ++ p.entry ∷ []
 of_node_own name order p e = of_node_more name order p ∙ ap (λ b. of_node name order ++ map (λ (r : Placed). r.entry) (cond b (p ∷ []) [])) e
 
-append_nil : {A : Type 0} (xs : List A) → xs ++ [] ≡ xs
-append_nil [] = refl
-append_nil (x ∷ xs) = ap (λ ys. x ∷ ys) (append_nil xs)
-
 pub of_node_other : (name : Bytes) (order : List Placed) (p : Placed) → is_named name p.node ≡ false → of_node name (order ++ p ∷ []) ≡ of_node name order
-of_node_other name order p e = of_node_more name order p ∙ ap (λ b. of_node name order ++ map (λ (r : Placed). r.entry) (cond b (p ∷ []) [])) e ∙ append_nil (of_node name order)
+of_node_other name order p e = of_node_more name order p ∙ ap (λ b. of_node name order ++ map (λ (r : Placed). r.entry) (cond b (p ∷ []) [])) e ∙ append-nil (of_node name order)
 
 -- entries of another node than all of these
 others_same : (order : List Placed) (p : Placed) (hs : List History) (ns : List ℕ) → Apart p.node (map (λ (h : History). h.node) hs) → AllZip (IsPlaced order) hs ns → AllZip (IsPlaced (order ++ p ∷ [])) hs ns
@@ -78,11 +75,8 @@ one_placed order (x ∷ hs) (n ∷ ns) (suc i) h e d lt is within next z =
 pub among_at : (hs : List History) (i : ℕ) (h : History) → i < length hs → h ≡ slice_index_or hs i h → is_among hs h.node ≡ true
 among_at [] i h lt e = absurd (none_below i lt)
 among_at (x ∷ hs) zero h lt e = ap (λ b. b || is_among hs h.node) (ap (λ (y : History). is_named h.node y.node) (sym e) ∙ named_itself h.node)
-among_at (x ∷ hs) (suc i) h lt e = or_true (is_named h.node x.node) (is_among hs h.node) (among_at hs i h (omega (arith, lt)) e)
+among_at (x ∷ hs) (suc i) h lt e = or_right (is_named h.node x.node) (is_among hs h.node) (among_at hs i h (omega (arith, lt)) e)
   where
-    or_true : (a b : Bool) → b ≡ true → (a || b) ≡ true
-    or_true true b f = refl
-    or_true false b f = f
 
 -- all entries are placed
 pub all_placed : (order : List Placed) (hs : List History) (ns : List ℕ) → AllZip (IsPlaced order) hs ns → AllZip IsWhole hs ns → AllByRecursion (λ (h : History). of_node h.node order ≡ h.entries.items) hs

@@ -6,6 +6,7 @@ use Rattle.std.specs.Str.{bytes_eq}
 use Rattle.std.specs.Cmp.Lexicographic.{bytes_decides}
 use Rattle.std.proofs.Common.{sym, ap, ◌∙◌, subst, arith}
 use Rattle.std.proofs.lemmas.List.{map-append, take_more}
+use Rattle.std.proofs.lemmas.Bool.{not-false}
 use Rattle.sup_plan.specs.declared.histories.History.{History}
 use Rattle.sup_world.specs.Naming.{AreWorldNames}
 use Rattle.sup_certify.specs.Faults.{AreOf, CanJudge}
@@ -29,10 +30,6 @@ pub names_length : (hs : List History) → length (names_of hs) ≡ length hs
 names_length [] = refl
 names_length (h ∷ hs) = ap suc (names_length hs)
 
-not_true : (b : Bool) → not b ≡ false → b ≡ true
-not_true true e = refl
-not_true false e = absurd (true≢false e)
-
 -- a name that differs
 pub names_differ : (hs : List History) (nodes : List Bytes) (i : ℕ) (h : History) (node : Bytes) (r : Bool) → i < length hs → h ≡ slice_index_or hs i h → node ≡ slice_index_or nodes i node → r ≡ not (bytes_eq h.node node) → r ≡ true → ¬ (names_of hs ≡ nodes)
 names_differ hs nodes i h node r lt is at e t same =
@@ -44,7 +41,7 @@ names_differ hs nodes i h node r lt is at e t same =
 pub names_more : (hs : List History) (nodes : List Bytes) (i : ℕ) (h : History) (node : Bytes) (r : Bool) → i < length hs → h ≡ slice_index_or hs i h → i < length nodes → node ≡ slice_index_or nodes i node → r ≡ not (bytes_eq h.node node) → r ≡ false
     → names_of (take i hs) ≡ take i nodes → names_of (take (i + 1) hs) ≡ take (i + 1) nodes
 names_more hs nodes i h node r lt is within at e f inv =
-    let eq : h.node ≡ node = (bytes_decides h.node node).0 (not_true (bytes_eq h.node node) (sym e ∙ f)) in
+    let eq : h.node ≡ node = (bytes_decides h.node node).0 (not-false (bytes_eq h.node node) (sym e ∙ f)) in
     names_taken hs i h lt is ∙ ap (λ xs. xs ++ h.node ∷ []) inv ∙ ap (λ (n : Bytes). take i nodes ++ n ∷ []) (eq ∙ at) ∙ sym (take_more nodes i node within)
 
 pub can_judge : (hs seen : List History) (nodes names : List Bytes) → seen ≡ hs → names ≡ nodes → AreOf seen names → AreWorldNames nodes → CanJudge nodes hs

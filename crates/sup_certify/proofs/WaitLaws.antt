@@ -4,7 +4,7 @@ use Prim.Native.Nat.{zero}
 use Rattle.std.specs.List.{AllZip, AllByRecursion, position_or_len}
 use Rattle.std.specs.Str.{bytes_eq}
 use Rattle.std.proofs.Common.{ltb, sym, ap, ◌∙◌, subst, arith}
-use Rattle.std.proofs.lemmas.Option.{none-some}
+use Rattle.std.proofs.lemmas.Option.{none-some, slice_get_past, same_Some}
 use Rattle.std.proofs.lemmas.Bool.{ltb-false}
 use Rattle.std.proofs.lemmas.List.Sums.{prefix_len-le-length}
 use Rattle.std.proofs.lemmas.Map.Text.{is_eq-slice_cmp}
@@ -100,12 +100,9 @@ fault_from g start hs ns steps sites i h e (Differs node place) r is next m = re
 }
 fault_from g start hs ns steps sites i h e OutOfMemory r is next m = tt
 
-the_same : {X : Type 0} (a b : X) → Some a ≡ Some b → a ≡ b
-the_same a b f = cc
-
 got_same : {X : Type 0} (xs : List X) (i : ℕ) (x y : X) → i < length xs → y ≡ slice_index_or xs i y → slice_get xs i ≡ Some x → y ≡ x
 got_same [] i x y lt is e = absurd (none_below i lt)
-got_same (z ∷ xs) zero x y lt is e = is ∙ the_same z x e
+got_same (z ∷ xs) zero x y lt is e = is ∙ same_Some z x e
 got_same (z ∷ xs) (suc i) x y lt is e = got_same xs i x y (omega (arith, lt)) is e
 
 pub got : {X : Type 0} (xs : List X) (i : ℕ) (y : X) → i < length xs → y ≡ slice_index_or xs i y → slice_get xs i ≡ Some y
@@ -115,20 +112,16 @@ got (z ∷ xs) (suc i) y lt is = got xs i y (omega (arith, lt)) is
 
 pub got_element : {X : Type 0} (xs : List X) (i : ℕ) (y : X) → slice_get xs i ≡ Some y → (i < length xs) × (y ≡ slice_index_or xs i y)
 got_element [] i y e = absurd (none-some y e)
-got_element (z ∷ xs) zero y e = (omega arith, the_same y z (sym e))
+got_element (z ∷ xs) zero y e = (omega arith, same_Some y z (sym e))
 got_element (z ∷ xs) (suc i) y e = let r = got_element xs i y e in (omega (arith, r.0), r.1)
 
 -- the history in this place waits
 pub waits_in : (sites : List Seen) (hs : List History) (ns : List ℕ) (at : ℕ) (h : History) → at < length hs → h ≡ slice_index_or hs at h → WaitsAt sites (slice_get h.entries.items (slice_index ns at)) → WaitsIn sites hs ns at
 waits_in sites hs ns at h lt is w k e = subst (λ (y : History). Waits sites y (slice_index ns at)) (got_same hs at k h lt is e) w
 
--- what a search for a place tells
-same_some : (i j : ℕ) → Some i ≡ Some j → i ≡ j
-same_some i j e = cc
-
 found_in : (p n : ℕ) (o : Option ℕ) → o ≡ cond (ltb p n) (Some p) None → IfSome o (λ at. at ≡ p)
 found_in p n None e = tt
-found_in p n (Some i) e = elim (ltb p n) as (λ b. Some i ≡ cond b (Some p) None → i ≡ p) [ true ↦ λ f. same_some i p f | false ↦ λ f. absurd (none-some i (sym f)) ] e
+found_in p n (Some i) e = elim (ltb p n) as (λ b. Some i ≡ cond b (Some p) None → i ≡ p) [ true ↦ λ f. same_Some i p f | false ↦ λ f. absurd (none-some i (sym f)) ] e
 
 absent_in : (p n : ℕ) (o : Option ℕ) → p ≤ n → o ≡ cond (ltb p n) (Some p) None → IfNone o (p ≡ n)
 absent_in p n (Some i) le e = tt
@@ -147,17 +140,12 @@ found_place name hs o e = subst (λ (p : ℕ). IfSome o (λ at. at ≡ p)) (posi
 pub found_none : (name : Bytes) (hs : List History) (o : Option ℕ) → o ≡ cond (ltb (by_bytes name hs) (length hs)) (Some (by_bytes name hs)) None → IfNone o (place name hs ≡ length hs)
 found_none name hs o e = subst (λ (p : ℕ). IfNone o (p ≡ length hs)) (position_named name hs) (absent_in (by_bytes name hs) (length hs) o (prefix_len-le-length _ hs) e)
 
-pub got_none : {X : Type 0} (xs : List X) (i : ℕ) → length xs ≤ i → slice_get xs i ≡ None
-got_none [] i le = refl
-got_none (z ∷ xs) zero le = absurd (omega (arith, le))
-got_none (z ∷ xs) (suc i) le = got_none xs i (omega (arith, le))
-
 -- a history with no more entries waits for nothing
 pub waits_ended : (sites : List Seen) (hs : List History) (ns : List ℕ) (at : ℕ) (h : History) (next : ℕ) (entries : List Entry) → at < length hs → h ≡ slice_index_or hs at h → next ≡ slice_index ns at → entries ≡ h.entries.items → false ≡ ltb next (length entries)
     → WaitsIn sites hs ns at
 waits_ended sites hs ns at h next entries lt is n es f =
     let le : length h.entries.items ≤ slice_index ns at = subst (λ (m : ℕ). length h.entries.items ≤ m) n (subst (λ (xs : List Entry). length xs ≤ next) es (ltb-false next (length entries) (sym f))) in
-    waits_in sites hs ns at h lt is (subst (WaitsAt sites) (sym (got_none h.entries.items (slice_index ns at) le)) tt)
+    waits_in sites hs ns at h lt is (subst (WaitsAt sites) (sym (slice_get_past h.entries.items (slice_index ns at) le)) tt)
 
 -- or its next entry waits for its message
 pub waits_message : (sites : List Seen) (hs : List History) (ns : List ℕ) (at : ℕ) (h : History) (next : ℕ) (entries : List Entry) (e : Entry) → at < length hs → h ≡ slice_index_or hs at h → next ≡ slice_index ns at → entries ≡ h.entries.items → next < length entries

@@ -3,6 +3,7 @@ use Rattle.std.proofs.Common.{◌≡◌, Bool, true, false, ◌&&◌, ◌||◌, 
 use Rattle.std.specs.List.{list_any, IsDistinct, AllByRecursion}
 use Rattle.std.proofs.lemmas.Option.{none-some}
 use Rattle.std.proofs.lemmas.Map.Keys.{IsDistinct-cons, IsDistinct-head, IsDistinct-tail}
+use Rattle.std.proofs.lemmas.Bool.{or_parts, and_parts, not-true}
 
 pub chosen : {A : Type 0} (b : Bool) (o : Option A) (x : A) → (if b then o else None) ≡ Some x → (b ≡ true) × (o ≡ Some x)
 chosen true o x e = (refl, e)
@@ -11,18 +12,6 @@ chosen false o x e = absurd (none-some x e)
 pub left_out : {A : Type 0} (b : Bool) (o : Option A) (x : A) → (if b then None else o) ≡ Some x → (b ≡ false) × (o ≡ Some x)
 left_out true o x e = absurd (none-some x e)
 left_out false o x e = (refl, e)
-
-pub both : (a b : Bool) → (a && b) ≡ true → (a ≡ true) × (b ≡ true)
-both true b e = (refl, e)
-both false b e = absurd (true≢false (sym e))
-
-neither : (a b : Bool) → (a || b) ≡ false → (a ≡ false) × (b ≡ false)
-neither true b e = absurd (true≢false e)
-neither false b e = (refl, e)
-
-pub negated : (b : Bool) → not b ≡ true → b ≡ false
-negated true e = absurd (true≢false (sym e))
-negated false e = refl
 
 pub not_err : {A E : Type 0} (e : E) (x : A) → ◌≡◌ {A = Result A E} (Err e) (Ok x) → ⊥
 not_err e x h = cc
@@ -34,9 +23,9 @@ same_ok x y h = cc
 module _ {K : Type 0} (e d : K → K → Bool) (same : (x y : K) → d x y ≡ e y x) where
   pub unfound : (x : K) (xs : List K) → list_any (λ y. d y x) xs ≡ false → AllByRecursion (λ y. e x y ≡ false) xs
   unfound x [] h = tt
-  unfound x (y ∷ ys) h = let n = neither (d y x) (list_any (λ z. d z x) ys) h in (sym (same y x) ∙ n.0, unfound x ys n.1)
+  unfound x (y ∷ ys) h = let n = or_parts (d y x) (list_any (λ z. d z x) ys) h in (sym (same y x) ∙ n.0, unfound x ys n.1)
 
--- a test that is the same both ways
+-- a test that is the same and_parts ways
 module _ {K : Type 0} (e : K → K → Bool) (turns : (x y : K) → e x y ≡ e y x) where
   alone : (x y : K) (ys : List K) → AllByRecursion (λ z. e y z ≡ false) ys → e x y ≡ false → AllByRecursion (λ z. e y z ≡ false) (ys ++ x ∷ [])
   alone x y [] h n = (sym (turns x y) ∙ n, tt)
@@ -46,7 +35,7 @@ module _ {K : Type 0} (e : K → K → Bool) (turns : (x y : K) → e x y ≡ e 
   pub distinct_push : (xs : List K) (x : K) → IsDistinct e xs → list_any (e x) xs ≡ false → IsDistinct e (xs ++ x ∷ [])
   distinct_push [] x h n = IsDistinct-cons e x [] tt h
   distinct_push (y ∷ ys) x h n =
-      let apart = neither (e x y) (list_any (e x) ys) n in
+      let apart = or_parts (e x y) (list_any (e x) ys) n in
       IsDistinct-cons e y (ys ++ x ∷ []) (alone x y ys (IsDistinct-head e y ys h) apart.0) (distinct_push ys x (IsDistinct-tail e y ys h) apart.1)
 
 -- items whose views differ

@@ -2,6 +2,7 @@
 use Rattle.std.proofs.Common.{◌≡◌, ℕ, Bool, true, false, ◌&&◌, List, [], ◌∷◌, ◌++◌, Option, Some, None, refl, sym, ap, ◌∙◌, subst, codes}
 use Rattle.std.specs.Str.{bytes_eq}
 use Rattle.std.proofs.lemmas.Option.{none-some, same_Some, option_and_then_some}
+use Rattle.std.proofs.lemmas.Bool.{and_parts}
 use Rattle.sup_specs.specs.Values.{Bytes}
 use Rattle.sup_model.specs.declared.step.Step.{Step}
 use Rattle.sup_model.specs.declared.step.Step.TheVariants.{Node as AtNode, Deliver as Delivery, Raw}
@@ -16,7 +17,7 @@ use Rattle.sup_cluster_lines.specs.Verdicts.{verdicts_of}
 use Rattle.sup_cluster_lines.specs.Links.{Link, ends_of, link_of}
 use Rattle.sup_cluster_lines.specs.Commands.{command_in, command_of}
 use Rattle.sup_cluster_lines.specs.Script.{Said, link, command, linked, commanded, words_say, said_of}
-use Rattle.sup_cluster_texts.proofs.Chosen.{both, chosen}
+use Rattle.sup_cluster_texts.proofs.Chosen.{chosen}
 
 -- a link's ends are two of the nodes
 abbrev pub has_ends : List Bytes → Link → Bool
@@ -47,7 +48,7 @@ step_fits : (nodes : List Name) (step : Step) (c : Command) → command_in nodes
 step_fits nodes (AtNode at act now saves) c h =
     let told : Command = record { node = at; act = act; now = now } in
     let taken = chosen (saves && may_tell nodes told) (Some told) c h in
-    subst (λ d. may_tell nodes d ≡ true) (same_Some told c taken.1) (both saves (may_tell nodes told) taken.0).1
+    subst (λ d. may_tell nodes d ≡ true) (same_Some told c taken.1) (and_parts saves (may_tell nodes told) taken.0).1
 step_fits nodes (Delivery from k at drop now saves) c h = absurd (none-some c h)
 step_fits nodes (Raw at bytes) c h = absurd (none-some c h)
 

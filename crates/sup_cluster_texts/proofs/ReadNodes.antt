@@ -6,12 +6,13 @@ use Rattle.std.specs.Cmp.Lexicographic.{nat_list_eq_equiv}
 use Rattle.std.proofs.lemmas.Bool.Decides.{nat_tests}
 use Rattle.std.proofs.lemmas.Option.{none-some, same_Some, option_and_then_some}
 use Rattle.std.proofs.lemmas.Map.Keys.{IsDistinct-cons}
+use Rattle.std.proofs.lemmas.Bool.{and_parts, not-true}
 use Rattle.sup_lines.specs.Words.{Word, Name, ◌>>=◌}
 use Rattle.sup_lines.specs.Values.{node_name_of}
 use Rattle.sup_lines.specs.Opening.{are_distinct, distinct_names_of, if_distinct, names_of}
 use Rattle.sup_lines.specs.Script.{is_plain, words_of}
 use Rattle.sup_cluster_lines.specs.Nodes.{few_nodes_of, opening_of}
-use Rattle.sup_cluster_texts.proofs.Chosen.{both, chosen, negated, unfound}
+use Rattle.sup_cluster_texts.proofs.Chosen.{chosen, unfound}
 
 pub turned : (x y : List ℕ) → bytes_eq x y ≡ bytes_eq y x
 turned x y = nat_list_eq_equiv.symm x y
@@ -20,8 +21,8 @@ differ : (names : List Name) → are_distinct names ≡ true → IsDistinct byte
 unfolding IsDistinct
 differ [] h = tt
 differ (name ∷ names) h =
-    let parts = both (not (list_any (λ other. bytes_eq other name) names)) (are_distinct names) h in
-    IsDistinct-cons bytes_eq name names (unfound bytes_eq bytes_eq turned name names (negated _ parts.0)) (differ names parts.1)
+    let parts = and_parts (not (list_any (λ other. bytes_eq other name) names)) (are_distinct names) h in
+    IsDistinct-cons bytes_eq name names (unfound bytes_eq bytes_eq turned name names (not-true _ parts.0)) (differ names parts.1)
 
 counted : (words : List Word) (names : List Name) → names_of words ≡ Some names → length names ≡ length words
 counted [] names h = ap length (sym (same_Some [] names h))
@@ -47,8 +48,8 @@ unfolding few_nodes_of
 few [] nodes h = absurd (none-some nodes h)
 few (verb ∷ words) nodes h =
     let taken = chosen (bytes_eq verb (codes "nodes") && nat_le 2 (length words) && nat_le (length words) 5) (distinct_names_of words) nodes h in
-    let front = both (bytes_eq verb (codes "nodes") && nat_le 2 (length words)) (nat_le (length words) 5) taken.0 in
-    let second = both (bytes_eq verb (codes "nodes")) (nat_le 2 (length words)) front.0 in
+    let front = and_parts (bytes_eq verb (codes "nodes") && nat_le 2 (length words)) (nat_le (length words) 5) taken.0 in
+    let second = and_parts (bytes_eq verb (codes "nodes")) (nat_le 2 (length words)) front.0 in
     let are = named words nodes taken.1 in
     record {
       few = (subst (λ n. 2 ≤ n) (sym are.0) (reached 2 (length words) second.1), subst (λ n. n ≤ 5) (sym are.0) (reached (length words) 5 front.1));

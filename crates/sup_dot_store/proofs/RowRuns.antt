@@ -16,6 +16,7 @@ use Rattle.std.specs.List.{AllByRecursion}
 use Rattle.std.specs.List.Sorted.{IsStrictlySortedBy}
 use Rattle.std.specs.Map.{keys_of, lookup}
 use Rattle.std.specs.BTreeMap.{insert_entry}
+use Rattle.std.proofs.lemmas.Bool.{not-false, not-true}
 use Rattle.sup_causal.specs.declared.dot.Dot.{Dot}
 use Rattle.sup_causal.specs.Dots.{dot_cmp}
 use Rattle.sup_causal.specs.DotLaws.{dot_total}
@@ -181,21 +182,13 @@ last_at xs x =
 is_last : {X : Type 0} (read rows front : List X) (x last : X) → Some last ≡ slice_get read (length read - 1) → read ≡ rows → rows ≡ front ++ x ∷ [] → last ≡ x
 is_last read rows front x last found is cut = same_Some _ _ (found ∙ ap (λ xs. slice_get xs (length xs - 1)) (is ∙ cut) ∙ last_at front x)
 
-not_false : (b : Bool) → not b ≡ false → b ≡ true
-not_false true e = refl
-not_false false e = absurd (true≢false e)
-
-not_true : (b : Bool) → not b ≡ true → b ≡ false
-not_true false e = refl
-not_true true e = absurd (false≢true e)
-
 -- the last row, where a test compares its key with another
 module _ {K V : Type 0} (cmp : K → K → Ordering) (equal : K → K → Bool) (matches : (x y : K) → equal x y ≡ is_eq (cmp x y)) (key : K) (read rows : List (K × Dot × V)) (last : K × Dot × V) (found : Some last ≡ slice_get read (length read - 1)) (is : read ≡ rows) (differ : Bool) (compared : differ ≡ not (equal last.0 key)) where
   pub row_popped : IsExact cmp → differ ≡ false → (rest : List (K × Dot × V)) (k : K) (d : Dot) (v : V) → rows ≡ rest ++ (k, d, v) ∷ [] → rows ≡ rest ++ (key, d, v) ∷ []
   row_popped exact e rest k d v cut =
       let own : last ≡ (k, d, v) = is_last read rows rest (k, d, v) last found is cut in
-      cut ∙ ap (λ q. rest ++ (q, d, v) ∷ []) (sym (ap (λ r. r.0) own) ∙ same exact last.0 key (sym (matches last.0 key) ∙ not_false (equal last.0 key) (sym compared ∙ e)))
+      cut ∙ ap (λ q. rest ++ (q, d, v) ∷ []) (sym (ap (λ r. r.0) own) ∙ same exact last.0 key (sym (matches last.0 key) ∙ not-false (equal last.0 key) (sym compared ∙ e)))
 
   pub ends_off : differ ≡ true → EndsOff cmp key rows
   ends_off e front row cut =
-      sym (matches row.0 key) ∙ ap (λ r. equal r.0 key) (sym (is_last read rows front row last found is cut)) ∙ not_true (equal last.0 key) (sym compared ∙ e)
+      sym (matches row.0 key) ∙ ap (λ r. equal r.0 key) (sym (is_last read rows front row last found is cut)) ∙ not-true (equal last.0 key) (sym compared ∙ e)

@@ -2,6 +2,8 @@
 use Rattle.std.specs.Prelude.{◌≡◌, zero, suc, List, [], ◌∷◌, map, All, Some, Result, Ok, Err, IfOk}
 use Rattle.std.specs.List.{AllZip}
 use Rattle.std.proofs.Common.{sym, ap, ◌∙◌, subst, arith}
+use Rattle.std.proofs.lemmas.List.Elements.{All-cons, All-tail}
+use Rattle.std.proofs.lemmas.Option.{same_Some}
 use Rattle.sup_placement.specs.declared.weigh.Weigh.{Ghosts as WeighGhosts}
 use Rattle.sup_station.specs.Opening.{kept_by}
 use Rattle.sup_node_gate.specs.declared.entry.Entry.{Entry}
@@ -26,16 +28,6 @@ use Rattle.sup_driving.specs.declared.teams.Receive.{Receive}
 use Rattle.sup_driving.specs.declared.wires.Wire.{Wire}
 use Rattle.sup_driving.specs.Teams.{HasSent, IsWireOf, IsReceiveOf, IsTeamOf, Steers, Receives}
 use Rattle.sup_driving.specs.Gathering.{Steering, Reception, CanMeet, Met, AllMet, CanMeetAll, CanGather, IsGathered, Gathers}
-
-same_some : {X : Type 0} (x y : X) → Some x ≡ Some y → x ≡ y
-same_some x y e = cc
-
-all_cons : {X : Type 0} (P : X → Type 0) (x : X) (xs : List X) → P x → All P xs → All P (x ∷ xs)
-all_cons P x xs p h zero d lt = p
-all_cons P x xs p h (suc k) d lt = h k d (omega (arith, lt))
-
-all_left : {X : Type 0} (P : X → Type 0) (x : X) (xs : List X) → All P (x ∷ xs) → All P xs
-all_left P x xs h k d lt = h (suc k) d (omega (arith, lt))
 
 module _ {W : Type 0} {h : WeighGhosts W} where
   -- what the receiver of a job gives
@@ -66,14 +58,14 @@ module _ {W : Type 0} {h : WeighGhosts W} where
     can_each (a ∷ lanes) (z ∷ zs) (y ∷ ys) [] rs l w rv s t = absurd s
     can_each (a ∷ lanes) (z ∷ zs) (y ∷ ys) (x ∷ xs) [] l w rv s t = absurd t
     can_each (a ∷ lanes) (z ∷ zs) (y ∷ ys) (x ∷ xs) (r ∷ rs) l w rv s t =
-        (can_one a z y x r (l 0 a (omega arith)) w.0 rv.0 s.0 t.0, can_each lanes zs ys xs rs (all_left (IsLane posts) a lanes l) w.1 rv.1 s.1 t.1)
+        (can_one a z y x r (l 0 a (omega arith)) w.0 rv.0 s.0 t.0, can_each lanes zs ys xs rs (All-tail (IsLane posts) a lanes l) w.1 rv.1 s.1 t.1)
 
     carried_one : (lane : Lane W h) (wire : Wire) (receive : Receive W h) (sent : Sent) (r : Reception W h) (arrived : Arrived W h)
         → IsWireOf posts lane wire → IsReceiveOf lane receive → HasSent es wire sent → Took posts receive r → Met sent r arrived → Carried posts es lane arrived
     carried_one lane wire receive sent (Err fault) arrived w rv s took met = absurd met
     carried_one lane wire receive sent (Ok received) arrived w rv s took met =
         let at = subst (λ n. IsSeatAt posts n received.seat) rv.to took.seat in
-        let same : at.0 ≡ w.post = same_some at.0 w.post (sym at.1 ∙ w.stands) in
+        let same : at.0 ≡ w.post = same_Some at.0 w.post (sym at.1 ∙ w.stands) in
         let whole : taken_of received.exit ≡ image (script_of lane.entry) (sent_put sent) = met.2 ∙ ap (λ x. image x (sent_put sent)) (s.script ∙ ap script_of w.entry) in record {
           to = met.0 ∙ (took.to ∙ rv.to);
           post = w.post;
@@ -117,7 +109,7 @@ module _ {W : Type 0} {h : WeighGhosts W} where
     can_all [] (y ∷ ys) xs t d = absurd t
     can_all (z ∷ zs) [] xs t d = absurd t
     can_all (z ∷ zs) (y ∷ ys) [] t d = absurd d
-    can_all (z ∷ zs) (y ∷ ys) (x ∷ xs) t d = all_cons CanGather x xs (can_gather z y x.lead x.others.items t.0 d.0.0 d.0.1) (can_all zs ys xs t.1 d.1)
+    can_all (z ∷ zs) (y ∷ ys) (x ∷ xs) t d = All-cons CanGather x xs (can_gather z y x.lead x.others.items t.0 d.0.0 d.0.1) (can_all zs ys xs t.1 d.1)
 
     drives_of : (drive : Drive W h) (team : Team (Steer W h) (Receive W h)) (done : Team (Steering W h) (Reception W h)) (driven : Driven W h)
         → IsTeamOf posts drive team → Did posts team done → IsGathered done driven → Drives posts drive driven

@@ -6,6 +6,8 @@ use Rattle.std.specs.declared.cmp.Ordering.{Ordering}
 use Rattle.std.specs.Ordering.{eq_by_cmp}
 use Rattle.std.specs.BTreeMap.{BTreeMap, get}
 use Rattle.std.specs.BTreeSet.{BTreeSet}
+use Rattle.std.proofs.lemmas.Bool.{or_left, or_right}
+use Rattle.std.proofs.Math.Bool.{or-true, and-true}
 use Rattle.sup_specs.specs.Exact.{IsExact}
 use Rattle.sup_causal.specs.declared.dot.Dot.{Dot}
 use Rattle.sup_dot_store.specs.declared.dot_fun.DotFun.{DotFun}
@@ -19,28 +21,14 @@ use Rattle.sup_indexed.specs.Listed.{listed, stands, stands_in}
 use Rattle.sup_indexed.specs.Changed.{IsOpen, IsReady, changed_at, changed_value}
 use Rattle.sup_indexed.proofs.Exchanges.{at_function}
 
-or_true : (a : Bool) → (a || true) ≡ true
-or_true true = refl
-or_true false = refl
-
-or_left : (a b : Bool) → a ≡ true → (a || b) ≡ true
-or_left a b h = ap (λ a. a || b) h
-
-or_right : (a b : Bool) → b ≡ true → (a || b) ≡ true
-or_right a b h = ap (λ b. a || b) h ∙ or_true a
-
-and_true : (l : Bool) → (l && true) ≡ l
-and_true true = refl
-and_true false = refl
-
 -- what the index keeps of a place, by whether a value stood there and whether one stands there now
 abbrev keeps : Bool → Bool → Bool → Bool → Bool
 keeps l b was is = l && not ((b && was) && not is)
 
 kept_where_it_stands : (l b was is : Bool) → l ≡ true → is ≡ true → keeps l b was is ≡ true
-kept_where_it_stands l true true is h s = ap (λ s. l && not (not s)) s ∙ and_true l ∙ h
-kept_where_it_stands l true false is h s = and_true l ∙ h
-kept_where_it_stands l false was is h s = and_true l ∙ h
+kept_where_it_stands l true true is h s = ap (λ s. l && not (not s)) s ∙ and-true l ∙ h
+kept_where_it_stands l true false is h s = and-true l ∙ h
+kept_where_it_stands l false was is h s = and-true l ∙ h
 
 kept_was_listed : (l b was is : Bool) → keeps l b was is ≡ true → l ≡ true
 kept_was_listed true b was is h = refl
@@ -61,7 +49,7 @@ kept_stands_back true false false also h k = absurd (false≢true (h refl))
 kept_stands_back false stale false also h k = absurd (false≢true k)
 
 not_kept_apart : (l was is : Bool) → keeps l false was is ≡ true → l ≡ true
-not_kept_apart l was is h = sym (and_true l) ∙ h
+not_kept_apart l was is h = sym (and-true l) ∙ h
 
 some_function : {V R : Type 0} {f : DotFun V} (o : Option (DotFun V)) → o ≡ None → o ≡ Some f → R
 some_function o e f = absurd (cc (e, f))
@@ -149,7 +137,7 @@ module _ {K V : Type 0} {cmp : K → K → Ordering} (exact : IsExact cmp) (stor
           still_listed : (k : K) (d : Dot) → stands cmp rest k d ≡ true → (b : Bool) → eq_by_cmp cmp key k ≡ b → listed cmp index' k d ≡ true
           still_listed k d s true e = absurd (false≢true (sym (none_stands k d e) ∙ s))
           still_listed k d s false e =
-              lists k d ∙ ap (λ b. keeps (listed cmp index k d) b (stands cmp stores k d) (stands cmp now k d)) e ∙ and_true (listed cmp index k d) ∙ ready.lists_changed k d (sym (also_stands k d e) ∙ s)
+              lists k d ∙ ap (λ b. keeps (listed cmp index k d) b (stands cmp stores k d) (stands cmp now k d)) e ∙ and-true (listed cmp index k d) ∙ ready.lists_changed k d (sym (also_stands k d e) ∙ s)
 
     -- the function under a key stays what it was
     module _ (values : (k : K) (d : Dot) → value_under cmp now k d ≡ value_under cmp stores k d)

@@ -12,6 +12,7 @@ use Rattle.std.proofs.lemmas.Cmp.{eq_by_cmp_equiv}
 use Rattle.std.proofs.lemmas.Map.{lookup-none}
 use Rattle.std.proofs.lemmas.Map.Entries.{none_past_head}
 use Rattle.std.proofs.lemmas.Map.Keys.{IsDistinct-tail}
+use Rattle.std.proofs.Math.Bool.{or-false}
 use Rattle.sup_causal.specs.declared.dot.Dot.{Dot}
 use Rattle.sup_dot_store.specs.ByDot.{at_dot}
 use Rattle.sup_dot_store.specs.declared.dot_fun.DotFun.{DotFun}
@@ -30,10 +31,6 @@ pub record IsIndexing {K V : Type 0} (cmp : K → K → Ordering) (all : List (K
   pub lists : (k : K) (d : Dot) → (listed cmp index k d || stands_among cmp rest k d) ≡ stands_among cmp all k d
   pub distinct : IsDistinct (eq_by_cmp cmp) (keys_of rest)
 
-or_none : (l : Bool) → (l || false) ≡ l
-or_none true = refl
-or_none false = refl
-
 or_within : (l x : Bool) → ((l || x) || false) ≡ (l || x)
 or_within true x = refl
 or_within false true = refl
@@ -47,7 +44,7 @@ module _ {K V : Type 0} {cmp : K → K → Ordering} (total : IsTotalOrder cmp) 
   }
 
   pub indexing_done : (index : BTreeSet (Place K)) → IsIndexing cmp all index [] → (k : K) (d : Dot) → listed cmp index k d ≡ stands_among cmp all k d
-  indexing_done index indexing k d = sym (or_none (listed cmp index k d)) ∙ indexing.lists k d
+  indexing_done index indexing k d = sym (or-false (listed cmp index k d)) ∙ indexing.lists k d
 
   module _ (index more : BTreeSet (Place K)) (e : K × DotFun V) (rest : List (K × DotFun V)) (distinct : IsDistinct (eq_by_cmp cmp) (keys_of (e ∷ rest))) where
     at : (k : K) (d : Dot) (b : Bool) → eq_by_cmp cmp k e.0 ≡ b
@@ -55,7 +52,7 @@ module _ {K V : Type 0} {cmp : K → K → Ordering} (total : IsTotalOrder cmp) 
     at k d true here =
         let none : lookup (is_at (cmp k)) rest ≡ None = lookup-none (is_at (cmp k)) rest (none_past_head (eq_by_cmp_equiv total) k e rest distinct here) in
         ap (λ o. (listed cmp index k d || is_some (at_dot (values_of e.1) d)) || is_some (optional_held value_of o d tt)) none ∙ or_within (listed cmp index k d) (is_some (at_dot (values_of e.1) d))
-    at k d false here = ap (λ l. l || stands_among cmp rest k d) (or_none (listed cmp index k d))
+    at k d false here = ap (λ l. l || stands_among cmp rest k d) (or-false (listed cmp index k d))
 
     pub indexing_more : IsIndexing cmp all index (e ∷ rest) → ((k : K) (d : Dot) → listed cmp more k d ≡ (listed cmp index k d || stands_in cmp e.0 e.1 k d)) → IsIndexing cmp all more rest
     indexing_more indexing adds = record {

@@ -18,6 +18,7 @@ use Rattle.sup_dot_store.specs.Points.{standing, higher, value_at}
 use Rattle.sup_dot_store.specs.Index.{value_under}
 use Rattle.sup_dot_store.proofs.IndexLaws.{same}
 use Rattle.std.specs.BTreeSet.{BTreeSet}
+use Rattle.std.proofs.lemmas.Bool.{false_from_ne_true}
 use Rattle.sup_indexed.specs.declared.place.Place.{Place}
 use Rattle.sup_indexed.specs.Listed.{listed, stands}
 use Rattle.sup_indexed.specs.Changed.{changed_at, changed_value}
@@ -67,10 +68,6 @@ absent : {V : Type 0} (o : Option V) → (is_some o ≡ true → ⊥) → o ≡ 
 absent None never = refl
 absent (Some x) never = absurd (never refl)
 
-not_known : (t : Bool) → (t ≡ true → ⊥) → t ≡ false
-not_known true never = absurd (never refl)
-not_known false never = refl
-
 -- the values under a key that is not touched are those of the join
 pub left_alone : {K V : Type 0} (cmp : K → K → Ordering) (lesser : V → V → V) (mine theirs : Dot → Bool) (old other : BTreeMap K (DotFun V)) (index : BTreeSet (Place K)) (touched : Bool) (k : K) (d : Dot)
     → (touched ≡ true → ⊥)
@@ -80,7 +77,7 @@ pub left_alone : {K V : Type 0} (cmp : K → K → Ordering) (lesser : V → V �
     → (IsSome (value_under cmp old k d) → mine d ≡ true)
     → value_under cmp old k d ≡ value_at (higher lesser (standing (mine d) (value_under cmp old k d)) (standing (theirs d) (value_under cmp other k d)))
 left_alone cmp lesser mine theirs old other index touched k d not lists there here covers =
-    untouched lesser (mine d) (theirs d) (value_under cmp old k d) (value_under cmp other k d) covers (λ s. not_known (theirs d) (λ t. not (here (lists s) (covers s) t))) (absent (value_under cmp other k d) (λ s. not (there s)))
+    untouched lesser (mine d) (theirs d) (value_under cmp old k d) (value_under cmp other k d) covers (λ s. false_from_ne_true (theirs d) (λ t. not (here (lists s) (covers s) t))) (absent (value_under cmp other k d) (λ s. not (there s)))
 
 pub done_more : {K V : Type 0} {cmp : K → K → Ordering} → IsTotalOrder cmp → (changed more : BTreeMap K (DotFun V)) (key : K) (f : DotFun V) (rest : List K) (k : K) → get cmp more k ≡ cond (eq_by_cmp cmp key k) (Some f) (get cmp changed k)
     → IsSome (get cmp changed k) ⊎ (among cmp (key ∷ rest) k ≡ true) → IsSome (get cmp more k) ⊎ (among cmp rest k ≡ true)

@@ -3,8 +3,9 @@ use mathlib.Core.Bool.{false≢true}
 use Rattle.std.specs.Prelude.{◌≡◌, ℕ, ◌<◌, ◌≤◌, Bool, true, false, ◌&&◌, ◌||◌, List, nat_le, refl}
 use Rattle.std.proofs.Common.{ap, ◌∙◌, arith}
 use Rattle.std.specs.Ordering.{eq_by_cmp}
-use Rattle.std.proofs.lemmas.Bool.{le-leb, leb-false, leb-true}
+use Rattle.std.proofs.lemmas.Bool.{le-leb, leb-false, leb-true, and_parts}
 use Rattle.std.proofs.lemmas.Map.Lookups.{exact_bytes}
+use Rattle.std.proofs.Math.Bool.{or-true}
 use Rattle.sup_specs.specs.Values.{text_cmp}
 use Rattle.sup_specs.specs.Rising.{among}
 use Rattle.sup_causal.specs.declared.dot.Dot.{Dot}
@@ -14,20 +15,11 @@ use Rattle.sup_causal.proofs.Sorted.{pairs_rise}
 use Rattle.sup_causal.proofs.CutLemmas.{run_is_one, in_runs_is}
 use Rattle.sup_dot_store.proofs.IndexLaws.{same}
 
-or_true : (a : Bool) → (a || true) ≡ true
-or_true true = refl
-or_true false = refl
-
-two_true : (a b : Bool) → (a && b) ≡ true → (a ≡ true) × (b ≡ true)
-two_true true true e = (refl, refl)
-two_true true false e = absurd (false≢true e)
-two_true false b e = absurd (false≢true e)
-
 -- a dot of a run
 pub run_parts : (node : List ℕ) (n : ℕ) (d : Dot) → in_run node n d ≡ true → (d.node ≡ node) × (0 < d.counter) × (d.counter ≤ n)
 run_parts node n d h =
-    let outer = two_true (eq_by_cmp text_cmp d.node node) (nat_le 1 d.counter && nat_le d.counter n) h in
-    let inner = two_true (nat_le 1 d.counter) (nat_le d.counter n) outer.1 in
+    let outer = and_parts (eq_by_cmp text_cmp d.node node) (nat_le 1 d.counter && nat_le d.counter n) h in
+    let inner = and_parts (nat_le 1 d.counter) (nat_le d.counter n) outer.1 in
     let low : 1 ≤ d.counter = leb-true 1 d.counter inner.0 in
     (same exact_bytes d.node node outer.0, omega (arith, low), leb-true d.counter n inner.1)
 
@@ -44,4 +36,4 @@ in_a_part holds vector cloud runs rest d counted has = at (nat_le d.counter n) r
         (in_runs_is vector (pairs_rise text_cmp vector runs.by_name) d ∙ ap (λ b. b && nat_le d.counter (entry vector d.node)) (le-leb 1 d.counter counted) ∙ e)
     at false e =
         let above : entry vector d.node < d.counter = leb-false d.counter (entry vector d.node) e in
-        ap (λ b. in_runs vector d || b) ((rest.beyond d).1 (has, (λ m run. let one : entry vector d.node ≡ m = run_is_one holds d.node (entry vector d.node) m (runs.runs d.node) run in omega (arith, above, one)))) ∙ or_true (in_runs vector d)
+        ap (λ b. in_runs vector d || b) ((rest.beyond d).1 (has, (λ m run. let one : entry vector d.node ≡ m = run_is_one holds d.node (entry vector d.node) m (runs.runs d.node) run in omega (arith, above, one)))) ∙ or-true (in_runs vector d)

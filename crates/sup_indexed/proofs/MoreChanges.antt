@@ -16,6 +16,9 @@ use Rattle.sup_dot_store.specs.Contents.{values_of}
 use Rattle.sup_dot_store.specs.Places.{NoneEmpty}
 use Rattle.sup_dot_store.specs.Index.{value_of, value_under}
 use Rattle.std.proofs.lemmas.Option.{same_Some}
+use Rattle.std.proofs.Math.Bool.{or-true}
+use Rattle.std.proofs.lemmas.Bool.{and_parts}
+use Rattle.std.proofs.lemmas.List.{nil_from_length}
 use Rattle.sup_dot_store.proofs.IndexLaws.{same, tie}
 use Rattle.sup_indexed.specs.declared.place.Place.{Place}
 use Rattle.sup_indexed.specs.Listed.{listed, stands, stands_in, ListsAll}
@@ -25,15 +28,6 @@ use Rattle.sup_indexed.proofs.Exchanges.{at_function}
 or_weaker : (a b c : Bool) → (b ≡ true → c ≡ true) → (a || b) ≡ true → (a || c) ≡ true
 or_weaker true b c w h = refl
 or_weaker false b c w h = w h
-
-both_true : (a b : Bool) → (a && b) ≡ true → (a ≡ true) × (b ≡ true)
-both_true true true e = (refl, refl)
-both_true true false e = absurd (false≢true e)
-both_true false b e = absurd (false≢true e)
-
-or_true : (a : Bool) → (a || true) ≡ true
-or_true true = refl
-or_true false = refl
 
 module _ {K V : Type 0} {cmp : K → K → Ordering} (exact : IsExact cmp) (stores changed : BTreeMap K (DotFun V)) (index : BTreeSet (Place K)) (key : K) (f : DotFun V) (fresh : get cmp changed key ≡ None)
     (more : BTreeMap K (DotFun V)) (put : (q : K) → get cmp more q ≡ cond (eq_by_cmp cmp key q) (Some f) (get cmp changed q)) where
@@ -68,8 +62,8 @@ module _ {K V : Type 0} {cmp : K → K → Ordering} (exact : IsExact cmp) (stor
         no_more k d true e h =
             ap (λ s. s || stands cmp more k d) (ap is_some (values k d)) ∙ or_weaker (stands cmp stores k d) (stands cmp changed k d) (stands cmp more k d) (still_changed k d) (opened.lists_no_more k d e)
         no_more k d false e h =
-            let two = both_true (eq_by_cmp cmp key k) (is_some (at_dot (values_of f) d)) h in
-            ap (λ s. stands cmp now k d || s) (ap (λ o. is_some (at_function o d)) (put_here k two.0) ∙ two.1) ∙ or_true (stands cmp now k d)
+            let two = and_parts (eq_by_cmp cmp key k) (is_some (at_dot (values_of f) d)) h in
+            ap (λ s. stands cmp now k d || s) (ap (λ o. is_some (at_function o d)) (put_here k two.0) ∙ two.1) ∙ or-true (stands cmp now k d)
 
         some : (k : K) (s : DotFun V) → get cmp more k ≡ None → get cmp now k ≡ Some s → (b : Bool) → eq_by_cmp cmp key k ≡ b → ((d : Dot) (p : Unit {0}) → value_of s d p ≡ None) → ⊥
         some k s none is true e = absurd (cc (put_here k e, none))
@@ -84,7 +78,7 @@ module _ {K V : Type 0} {cmp : K → K → Ordering} (exact : IsExact cmp) (stor
       where
         listed_now : (k : K) (d : Dot) → stands cmp more k d ≡ true → (b : Bool) → eq_by_cmp cmp key k ≡ b → (listed cmp index k d || (eq_by_cmp cmp key k && is_some (at_dot (values_of f) d))) ≡ true
         listed_now k d s true e =
-            ap (λ b. listed cmp index k d || (b && is_some (at_dot (values_of f) d))) e ∙ ap (λ b. listed cmp index k d || b) (sym (ap (λ o. is_some (at_function o d)) (put_here k e)) ∙ s) ∙ or_true (listed cmp index k d)
+            ap (λ b. listed cmp index k d || (b && is_some (at_dot (values_of f) d))) e ∙ ap (λ b. listed cmp index k d || b) (sym (ap (λ o. is_some (at_function o d)) (put_here k e)) ∙ s) ∙ or-true (listed cmp index k d)
         listed_now k d s false e = ap (λ l. l || (eq_by_cmp cmp key k && is_some (at_dot (values_of f) d))) (ready.lists_changed k d (sym (ap (λ o. is_some (at_function o d)) (as_before k e)) ∙ s))
 
         room_now : (k : K) → IsSome (get cmp more k) → (b : Bool) → eq_by_cmp cmp key k ≡ b → IsSome (get cmp now k)
@@ -96,10 +90,6 @@ alike true true h k = refl
 alike true false h k = sym (h refl)
 alike false true h k = k refl
 alike false false h k = refl
-
-no_entries : {X : Type 0} (es : List X) → length es ≡ 0 → es ≡ []
-no_entries [] e = refl
-no_entries (x ∷ xs) e = absurd (omega arith)
 
 module _ {K V : Type 0} (cmp : K → K → Ordering) (stores changed : BTreeMap K (DotFun V)) (index : BTreeSet (Place K)) (none : changed.entries ≡ []) where
   none_changes : (k : K) → get cmp changed k ≡ None

@@ -15,6 +15,8 @@ use Rattle.std.specs.BTreeSet.{BTreeSet}
 use Rattle.std.proofs.lemmas.Cmp.{ranked, tied_itself, nat_list_cmp_total, eq_by_cmp_equiv}
 use Rattle.std.proofs.lemmas.List.Folds.{list_any-append}
 use Rattle.std.proofs.lemmas.Map.Views.{any-filter_same}
+use Rattle.std.proofs.Math.Bool.{or-true}
+use Rattle.std.proofs.lemmas.Bool.{and_parts}
 use Rattle.sup_specs.specs.Exact.{IsExact}
 use Rattle.sup_specs.specs.Rising.{among}
 use Rattle.sup_causal.specs.declared.dot.Dot.{Dot}
@@ -52,15 +54,6 @@ not_greater a b h r low = at (nat_cmp a b) refl
 and_true : (a : Bool) → (true && a) ≡ a
 and_true a = refl
 
-both : (a b : Bool) → (a && b) ≡ true → (a ≡ true) × (b ≡ true)
-both true true e = (refl, refl)
-both true false e = absurd (false≢true e)
-both false b e = absurd (false≢true e)
-
-or_true : (a : Bool) → (a || true) ≡ true
-or_true true = refl
-or_true false = refl
-
 module _ {K : Type 0} {cmp : K → K → Ordering} (total : IsTotalOrder cmp) where
   -- of one node and one key, the places of two counters
   pub is_forward : (from to : Place K) (key : K) → from.node ≡ to.node → from.counter ≤ to.counter → from.key ≡ key → to.key ≡ key → is_gt (place_cmp cmp from to) ≡ false
@@ -82,7 +75,7 @@ module _ {K : Type 0} {cmp : K → K → Ordering} (total : IsTotalOrder cmp) wh
   module _ (exact : IsExact cmp) where
     one_place : (k : K) (d : Dot) (p : Place K) → is_at (place_cmp cmp (place_at k d)) p ≡ true → p ≡ place_at k d
     one_place k d p e =
-        let two = both (eq_by_cmp cmp k p.key) (dot_eq d (dot_at p)) (sym (same_place cmp k p.key d (dot_at p)) ∙ e) in
+        let two = and_parts (eq_by_cmp cmp k p.key) (dot_eq d (dot_at p)) (sym (same_place cmp k p.key d (dot_at p)) ∙ e) in
         ap (λ q. place_at q (dot_at p)) (sym (same exact k p.key two.0)) ∙ ap (λ q. place_at k q) (sym (same dot_exact d (dot_at p) two.1))
 
     -- a place of the index that is between two is in the range of these
@@ -102,7 +95,7 @@ module _ {K : Type 0} {cmp : K → K → Ordering} (total : IsTotalOrder cmp) wh
         at : (b : Bool) → is_at (place_cmp cmp (place_at k d)) place ≡ b → (b || list_any (is_at (place_cmp cmp (place_at k d))) rest) ≡ true → (among cmp (keys ++ place.key ∷ []) k ≡ true) ⊎ (list_any (is_at (place_cmp cmp (place_at k d))) rest ≡ true)
         at true e h =
             let here : eq_by_cmp cmp k place.key ≡ true = ap (λ p. eq_by_cmp cmp k p.key) (one_place k d place e) ∙ (eq_by_cmp_equiv total).refl k in
-            inl (list_any-append (eq_by_cmp cmp k) keys (place.key ∷ []) ∙ ap (λ b. among cmp keys k || (b || false)) here ∙ or_true (among cmp keys k))
+            inl (list_any-append (eq_by_cmp cmp k) keys (place.key ∷ []) ∙ ap (λ b. among cmp keys k || (b || false)) here ∙ or-true (among cmp keys k))
         at false e h = inr h
 
 -- keys that were there stay, where one is pushed

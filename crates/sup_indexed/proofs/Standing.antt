@@ -10,6 +10,7 @@ use Rattle.std.specs.Map.{lookup}
 use Rattle.std.specs.BTreeMap.{BTreeMap, get, is_at}
 use Rattle.std.specs.BTreeSet.{BTreeSet}
 use Rattle.std.proofs.lemmas.Map.Views.{any-filter_same}
+use Rattle.std.proofs.lemmas.Bool.{and_parts}
 use Rattle.sup_specs.specs.Exact.{IsExact}
 use Rattle.sup_causal.specs.declared.dot.Dot.{Dot}
 use Rattle.sup_causal.specs.Dots.{dot_eq}
@@ -46,11 +47,6 @@ none_empty_in cmp stores none k s e =
     let never : None ≡ Some s = sym gone ∙ e in
     absurd cc
 
-both : (a b : Bool) → (a && b) ≡ true → (a ≡ true) × (b ≡ true)
-both true true e = (refl, refl)
-both true false e = absurd (false≢true e)
-both false b e = absurd (false≢true e)
-
 turned : (a b : Bool) → (a && b) ≡ (b && a)
 turned true true = refl
 turned true false = refl
@@ -64,7 +60,7 @@ module _ {K V : Type 0} {cmp : K → K → Ordering} (exact : IsExact cmp) (stor
 
   alike : (k : K) (d : Dot) (p : Place K) → is_at (place_cmp cmp (place_at k d)) p ≡ true → at_place p ≡ stands cmp stores k d
   alike k d p e =
-      let two = both (eq_by_cmp cmp k p.key) (dot_eq d (dot_at p)) (sym (same_place cmp k p.key d (dot_at p)) ∙ e) in
+      let two = and_parts (eq_by_cmp cmp k p.key) (dot_eq d (dot_at p)) (sym (same_place cmp k p.key d (dot_at p)) ∙ e) in
       ap (λ q. stands cmp stores q (dot_at p)) (sym (same exact k p.key two.0)) ∙ ap (λ q. stands cmp stores k q) (sym (same dot_exact d (dot_at p) two.1))
 
   -- what is left of an index where values stand

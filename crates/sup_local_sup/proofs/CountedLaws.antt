@@ -3,6 +3,7 @@ use Rattle.std.proofs.Common.{◌≡◌, ℕ, ◌+◌, Bool, true, false, cond, 
 use Rattle.std.specs.List.{AllByRecursion}
 use Rattle.std.specs.Str.{bytes_eq}
 use Rattle.std.specs.Map.{lookup, set_value}
+use Rattle.std.proofs.lemmas.Option.{none-some}
 use Rattle.sup_specs.specs.Values.{Bytes}
 use Rattle.sup_causal.specs.Dots.{IsCounted}
 use Rattle.sup_local_sup.specs.declared.kept.Entry.{Entry}
@@ -55,14 +56,12 @@ renewed_counted p (k ∷ kept) e a c =
 
 -- what is found under an id is kept
 pub found_counted : (p : Bytes → Bool) (kept : List Kept) (e : Entry) → lookup p kept ≡ Some e → KeepsCounted kept → IsCounted e.dot
-found_counted p [] e is a = absurd (none_is e is)
+found_counted p [] e is a = absurd (none-some e is)
   where
     Nothing : Option Entry → Type 0
     Nothing None = Unit {0}
     Nothing (Some e) = ⊥
 
-    none_is : (e : Entry) → None ≡ Some e → ⊥
-    none_is e h = subst Nothing h tt
 found_counted p (k ∷ kept) e is a =
     elim (p k.0) as (λ b. cond b (Some k.1) (lookup p kept) ≡ Some e → IsCounted e.dot) [
       | true ↦ λ h. subst (λ o. counted_if o) h a.0

@@ -44,8 +44,9 @@ use Rattle.sup_model.specs.Posts.{Post, Real, mailed, mail_number}
 use Rattle.sup_model.specs.Stands.{NodeStands, MessageStands, OutcomeStands, Together, BothOrNone}
 use Rattle.sup_model.specs.Joint.{Trio, Joint, letter_of, peer, Peers, AllValid, MailStands, AllMail, TrioStands, Holds}
 use Rattle.std.proofs.lemmas.List.{drop-map}
+use Rattle.std.proofs.lemmas.Option.{none-some}
 use Rattle.sup_model.proofs.TopLaws.{text_same, text_itself}
-use Rattle.sup_model.proofs.IssueLaws.{some_same, none_some}
+use Rattle.sup_model.proofs.IssueLaws.{some_same}
 use Rattle.sup_model.proofs.JointLaws.{Goes}
 
 less : (a b : ℕ) → b ≡ a + 1 → nat_lt a b ≡ true
@@ -183,7 +184,7 @@ module _ {K : Type 0} (k : Knowledge K) (view : View K) (laws : Laws k view) whe
     pub letter : (m : Message K) → o.letter ≡ Some m → m.kind ≡ is_push
 
   no_letter : (m : Message K) → None ≡ Some m → m.kind ≡ is_push
-  no_letter m e = absurd (none_some m e)
+  no_letter m e = absurd (none-some m e)
 
   command_moved : (s : Weigher) (n : Node K) (issued : Result Operation Refusal) (reply : Operation → Reply) → After (Moved n) (command k s n issued reply)
   command_moved s n (Ok op) reply = record { name = refl; how = inr (k.of_one op, refl, refl, refl); letter = no_letter }
@@ -244,7 +245,7 @@ module _ {K : Type 0} (k : Knowledge K) (view : View K) (laws : Laws k view) whe
   pushed_stands name c past me e (Some a) None h f = absurd h
 
   pushed_fresh : (W : Peer Bytes view.S → Type 0) (p : Peer Bytes view.S) (me : Bytes) (a : Option (Message K)) (x : Mail K) → pushed k me a ≡ Some x → Fresh view.joins W p (letter_of view x)
-  pushed_fresh W p me None x e = absurd (none_some x e)
+  pushed_fresh W p me None x e = absurd (none-some x e)
   pushed_fresh W p me (Some a) x e = subst (λ y. Fresh view.joins W p (letter_of view y)) (sym (some_same _ x e)) tt
 
   -- a counted change at a node
@@ -295,7 +296,7 @@ module _ {K : Type 0} (k : Knowledge K) (view : View K) (laws : Laws k view) whe
   notes_valid st n d h (inr e) = subst (λ b. AllValid view (if b then newest_of st.room (st.held ++ d ∷ []) else st.held)) (sym (not_less st.node.count n.count e)) h
 
   newest_is_valid : (o : Option K) (p : Option Ops) (d : K) → o ≡ Some d → BothOrNone view.stands o p → view.valid d
-  newest_is_valid None p d e h = absurd (none_some d e)
+  newest_is_valid None p d e h = absurd (none-some d e)
   newest_is_valid (Some x) (Some ops) d e h = subst view.valid (sym (some_same x d e)) (laws.is_valid x ops h)
   newest_is_valid (Some x) None d e h = absurd h
 

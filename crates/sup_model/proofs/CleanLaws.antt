@@ -10,6 +10,8 @@ use Rattle.std.specs.Prelude.{◌≡◌, ◌≢◌, ℕ, zero, suc, ◌+◌, ◌
 use Rattle.std.specs.List.{list_any, list_all, cons_option}
 use Rattle.std.specs.Ordering.{eq_by_cmp}
 use Rattle.std.proofs.Common.{sym, ap, ◌∙◌, subst, arith}
+use Rattle.std.proofs.lemmas.Bool.{or_left, or_right}
+use Rattle.std.proofs.lemmas.Option.{none-some}
 use mathlib.Core.Bool.{true≢false}
 use mathlib.Core.Logic.{◌⊎◌, inl, inr}
 use Rattle.sup_specs.specs.declared.child.ExitReason.{ExitReason}
@@ -71,22 +73,14 @@ or-cases : (x y : Bool) (P : Type 0) → (x || y) ≡ true → (x ≡ true → P
 or-cases true y P e f g = f refl
 or-cases false y P e f g = g e
 
-or-left : (x y : Bool) → x ≡ true → (x || y) ≡ true
-or-left true y e = refl
-or-left false y e = absurd (true≢false (sym e))
-
-or-right : (x y : Bool) → y ≡ true → (x || y) ≡ true
-or-right true y e = refl
-or-right false y e = e
-
 pub row-append : (ops others : Ops) (x : Row) (P : Type 0) → HasRow (ops ++ others) x → (HasRow ops x → P) → (HasRow others x → P) → P
 row-append ops others x P e f g = or-cases _ _ P (sym (among-added-append ops others x) ∙ e) f g
 
 pub row-left : (ops others : Ops) (x : Row) → HasRow ops x → HasRow (ops ++ others) x
-row-left ops others x e = among-added-append ops others x ∙ or-left _ _ e
+row-left ops others x e = among-added-append ops others x ∙ or_left _ _ e
 
 pub row-right : (ops others : Ops) (x : Row) → HasRow others x → HasRow (ops ++ others) x
-row-right ops others x e = among-added-append ops others x ∙ or-right _ _ e
+row-right ops others x e = among-added-append ops others x ∙ or_right _ _ e
 
 row_of-option : (o : Option Row) (x : Row) → among row_cmp (cons_option o []) x ≡ true → o ≡ Some x
 row_of-option None x e = absurd (true≢false (sym e))
@@ -99,7 +93,7 @@ pub row-one : (op : Operation) (x : Row) → HasRow (op ∷ []) x → op.add ≡
 row-one op x e = row_of-option op.add x e
 
 row_of-some : (o : Option Row) (x : Row) → o ≡ Some x → among row_cmp (cons_option o []) x ≡ true
-row_of-some o x e = subst (λ o. among row_cmp (cons_option o []) x ≡ true) (sym e) (or-left (eq_by_cmp row_cmp x x) false (Rattle.sup_model.proofs.TopLaws.row_itself x))
+row_of-some o x e = subst (λ o. among row_cmp (cons_option o []) x ≡ true) (sym e) (or_left (eq_by_cmp row_cmp x x) false (Rattle.sup_model.proofs.TopLaws.row_itself x))
 
 issues_take : (P : Row → Type 0) (s : Weigher) (n : Node Ops) (reply : Reply) (leaving : Leaving) (op : Operation)
     → ((x : Row) → HasRow n.known x → P x) → Issued (reading by_operations n) op
@@ -123,8 +117,8 @@ only_take : (P : Row → Type 0) (n : Node Ops) (o : Outcome Ops) → o.node.nam
     → ((x : Row) → HasRow n.known x → HasRow o.node.known x) → ((d : Dot) → In (dot_of o.done.reply) d → ⊥) → Takes P n o
 only_take P n o name k w l keeps none = record {
   new = None;
-  fresh = λ x e. absurd (nothing_is x e);
-  there = λ x e. absurd (nothing_is x e);
+  fresh = λ x e. absurd (none-some x e);
+  there = λ x e. absurd (none-some x e);
   known = λ x e. inl (k x e);
   newest = λ x e. inl (w x e);
   letter = λ x e. inl (l x e);
@@ -132,8 +126,6 @@ only_take P n o name k w l keeps none = record {
   name = name;
   reply = λ d h. absurd (none d h);
 } where
-  nothing_is : (x : Row) → None ≡ Some x → ⊥
-  nothing_is x e = cc
 
 -- what a node has: its operations and its newest own
 pub record Has (P : Row → Type 0) (n : Node Ops) : Type 0 where

@@ -2,6 +2,7 @@
 use Rattle.std.specs.Prelude.{◌≡◌, ◌≢◌, ℕ, zero, suc, ◌+◌, ◌-◌, ◌==◌, ◌≤◌, ◌<◌, Bool, true, false, cond, not, ◌||◌, ◌&&◌, List, [], ◌∷◌, ◌++◌, map, find, refl, Option, Some, None, Result, Ok, Err, slice_get, unwrap_or, if◌then◌else◌, AllPairs, All, slice_index_or, length}
 use Rattle.std.proofs.Common.{sym, ap, ◌∙◌, subst, arith}
 use Rattle.std.proofs.lemmas.List.Kept.{AllPairs-cons}
+use Rattle.std.proofs.lemmas.Option.{none-some}
 use mathlib.Core.Bool.{true≢false}
 use mathlib.Core.Logic.{◌⊎◌, inl, inr}
 use Rattle.sup_specs.specs.Values.{Bytes}
@@ -26,12 +27,12 @@ use Rattle.sup_anti_entropy.specs.Peers.{In}
 use Rattle.sup_anti_entropy.proofs.StepLaws.{in-last}
 use Rattle.sup_model.specs.Clean.{HasRow, ops_in, InLetter, SiteHas, Added, Clean}
 use Rattle.sup_model.proofs.TopLaws.{text_same, text_itself}
-use Rattle.sup_model.proofs.IssueLaws.{added-greatest, some_same, none_some}
+use Rattle.sup_model.proofs.IssueLaws.{added-greatest, some_same}
 use Rattle.sup_model.proofs.CleanLaws.{Takes, Has, letter_ops, act_take, deliver_take, kept_by_after, row-append, row-left, row-right}
 
 -- lists
 pub find-in : {X : Type 0} (p : X → Bool) (xs : List X) (x : X) → find p xs ≡ Some x → In xs x × (p x ≡ true)
-find-in p [] x e = absurd (none_some x e)
+find-in p [] x e = absurd (none-some x e)
 find-in p (y ∷ ys) x e =
     elim (p y) as (λ b. p y ≡ b → cond b (Some y) (find p ys) ≡ Some x → In (y ∷ ys) x × (p x ≡ true)) [
       | true ↦ λ t f. let same : x ≡ y = some_same y x f in (inl same, ap p same ∙ t)
@@ -39,7 +40,7 @@ find-in p (y ∷ ys) x e =
     ] refl e
 
 pub get-in : {X : Type 0} (xs : List X) (n : ℕ) (x : X) → slice_get xs n ≡ Some x → In xs x
-get-in [] n x e = none_some x e
+get-in [] n x e = none-some x e
 get-in (y ∷ ys) zero x e = inl (some_same y x e)
 get-in (y ∷ ys) (suc n) x e = inr (get-in ys n x e)
 
@@ -75,7 +76,7 @@ step_at w site here (Err r) t = tt
 message-in : (site : Site) (k : ℕ) (m : Message Ops) → message_of site k ≡ Some m → In site.sent m
 message-in site k m e =
     elim (k == 0) as (λ b. (if b then None else slice_get site.sent (k - 1)) ≡ Some m → In site.sent m) [
-      | true ↦ λ f. absurd (none_some m f)
+      | true ↦ λ f. absurd (none-some m f)
       | false ↦ λ f. get-in site.sent (k - 1) m f
     ] e
 

@@ -5,6 +5,7 @@ use mathlib.Core.Bool.{true≢false}
 use mathlib.Core.Logic.{◌⊎◌, inl, inr}
 use Rattle.std.proofs.lemmas.Bool.{le-leb, lt-leb, leb-true, eqb-true}
 use Rattle.std.specs.Ordering.{eq_by_cmp}
+use Rattle.std.proofs.lemmas.Option.{none-some}
 use Rattle.sup_specs.specs.Values.{Bytes, text_cmp}
 use Rattle.sup_tables.specs.declared.row.Row.{Row}
 use Rattle.sup_tables.specs.Operations.{Operation, covers, Covers, NoClash}
@@ -32,7 +33,7 @@ use Rattle.sup_model.specs.Stands.{NodeStands, MessageStands, OutcomeStands, Tog
 use Rattle.sup_model.specs.Joint.{Trio, Joint, model_of, letter_of, peer, Peers, MailStands, TrioStands, Holds}
 use Rattle.sup_model.proofs.TopLaws.{text_same, text_itself, alike_of_Covers}
 use Rattle.sup_tables.proofs.CoverTests.{Covers-from_test, test-from_Covers}
-use Rattle.sup_model.proofs.IssueLaws.{some_same, none_some}
+use Rattle.sup_model.proofs.IssueLaws.{some_same}
 use Rattle.sup_model.proofs.CleanWorld.{no_clash}
 use Rattle.sup_model.proofs.SimLaws.{kept_stands, reconciled_stands, changes_same}
 use Rattle.sup_model.proofs.ActLaws.{now_still, now_changed, notes_valid, change_of, Act, kept_after, kept_fits, trio_with, in-letters, noted_moves, still_moves}

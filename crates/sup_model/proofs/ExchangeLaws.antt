@@ -5,6 +5,7 @@ use Rattle.std.proofs.Common.{sym, ap, ◌∙◌, subst, arith}
 use mathlib.Core.Logic.{inl, inr}
 use mathlib.Core.Bool.{true≢false}
 use Rattle.std.proofs.lemmas.Bool.{ne_eqb}
+use Rattle.std.proofs.lemmas.Option.{none-some, same_Some}
 use Rattle.sup_specs.specs.Values.{Bytes}
 use Rattle.sup_tables.specs.Operations.{Covers, covers}
 use Rattle.sup_replica.specs.declared.event.Act.TheVariants.{Event as Of}
@@ -27,12 +28,6 @@ use Rattle.sup_model.proofs.CleanLaws.{kept_by_after}
 use Rattle.sup_model.proofs.OperationJoins.{operation_joins}
 use Rattle.sup_model.proofs.SettleStands.{took_delivery, took_nothing}
 
-some_is : {X : Type 0} (x y : X) → Some x ≡ Some y → x ≡ y
-some_is x y e = cc
-
-none_is : {X : Type 0} (x : X) → None ≡ Some x → ⊥
-none_is x e = cc
-
 ok_is : {X : Type 0} (x y : X) → (let r : Result X Refusal = Ok x in r) ≡ Ok y → x ≡ y
 ok_is x y e = cc
 
@@ -44,7 +39,7 @@ abbrev find_site : List Site → Bytes → Option Site
 find_site sites name = find (λ s. is_named name s.node.name) sites
 
 found-put : (sites : List Site) (s t : Site) → find_site sites t.node.name ≡ Some s → find_site (put sites t) t.node.name ≡ Some t
-found-put [] s t e = absurd (none_is s e)
+found-put [] s t e = absurd (none-some s e)
 found-put (x ∷ xs) s t e =
     elim (is_named t.node.name x.node.name) as (λ b. is_named t.node.name x.node.name ≡ b → cond b (Some x) (find_site xs t.node.name) ≡ Some s → cond (is_named t.node.name (if b then t else x).node.name) (Some (if b then t else x)) (find_site (put xs t) t.node.name) ≡ Some t) [
       | true ↦ λ h f. ap (λ c. cond c (Some t) (find_site (put xs t) t.node.name)) (text_itself t.node.name)
@@ -63,10 +58,10 @@ other-put (x ∷ xs) t name n =
 
 -- what is found has the name
 found_name : (sites : List Site) (name : Bytes) (s : Site) → find_site sites name ≡ Some s → name ≡ s.node.name
-found_name [] name s e = absurd (none_is s e)
+found_name [] name s e = absurd (none-some s e)
 found_name (x ∷ xs) name s e =
     elim (is_named name x.node.name) as (λ b. is_named name x.node.name ≡ b → cond b (Some x) (find_site xs name) ≡ Some s → name ≡ s.node.name) [
-      | true ↦ λ t f. text_same name x.node.name t ∙ ap (λ (y : Site). y.node.name) (some_is x s f)
+      | true ↦ λ t f. text_same name x.node.name t ∙ ap (λ (y : Site). y.node.name) (same_Some x s f)
       | false ↦ λ t f. found_name xs name s f
     ] refl e
 
@@ -150,7 +145,7 @@ get_last (y ∷ xs) x = get_last xs x
 
 last_message : (s : Site) (sent : List (Message Ops)) (m : Message Ops) (k : ℕ) → s.sent ≡ sent ++ m ∷ [] → Some (length sent + 1) ≡ Some k → message_of s k ≡ Some m
 last_message s sent m k is e =
-    let n : length sent + 1 ≡ k = some_is (length sent + 1) k e in
+    let n : length sent + 1 ≡ k = same_Some (length sent + 1) k e in
     let z : (length sent + 1 == 0) ≡ false = ne_eqb (length sent + 1) 0 (λ h. omega (arith, h)) in
     let l : length sent + 1 - 1 ≡ length sent = omega arith in
     subst (λ j. message_of s j ≡ Some m) n
@@ -200,8 +195,8 @@ sent_took w a b w' x apart =
     let world : x.ship.world ≡ v = ap (λ (y : Stepped). y.world) sh.is in
     let number : Some (length s.sent + 1) ≡ Some x.k = sym (ap (λ (y : Stepped). y.answer.number) sh.is) ∙ x.number in
     let d : Delivered v a x.k x.came = subst (λ u. Delivered u a x.k x.came) world (subst (After (Delivered x.ship.world a x.k)) x.comes (deliver_after x.ship.world a x.k 0 true)) in
-    let sender : d.sender ≡ t = some_is d.sender t (sym d.sends ∙ put_here w s t a sh.found refl) in
-    let message : d.message ≡ m = some_is d.message m (sym d.there ∙ ap (λ (y : Site). message_of y x.k) sender ∙ last_message t s.sent m x.k refl number) in
+    let sender : d.sender ≡ t = same_Some d.sender t (sym d.sends ∙ put_here w s t a sh.found refl) in
+    let message : d.message ≡ m = same_Some d.message m (sym d.there ∙ ap (λ (y : Site). message_of y x.k) sender ∙ last_message t s.sent m x.k refl number) in
     let r = d.receiver in
     let found : site_of v b ≡ Some r = subst (λ (y : Message Ops). site_of v y.to ≡ Some r) message d.receives in
     let o = takes by_operations v.weigher r.node a delta s.node.known in
@@ -215,8 +210,8 @@ sent_took w a b w' x apart =
     let number2 : Some (length r.sent + 1) ≡ Some x.n =
     sym (ap (number_of r.sent) (delta_letter v r.node a s.node.known)) ∙ sym (ap (λ (y : Stepped). y.answer.number) came) ∙ x.answered in
     let e : Delivered u b x.n x.told = subst (λ z. Delivered z b x.n x.told) world2 (subst (After (Delivered x.came.world b x.n)) x.tells (deliver_after x.came.world b x.n 0 true)) in
-    let sender2 : e.sender ≡ after = some_is e.sender after (sym e.sends ∙ at_b) in
-    let message2 : e.message ≡ reply = some_is e.message reply (sym e.there ∙ ap (λ (y : Site). message_of y x.n) sender2 ∙ last_message after r.sent reply x.n sent number2) in
+    let sender2 : e.sender ≡ after = same_Some e.sender after (sym e.sends ∙ at_b) in
+    let message2 : e.message ≡ reply = same_Some e.message reply (sym e.there ∙ ap (λ (y : Site). message_of y x.n) sender2 ∙ last_message after r.sent reply x.n sent number2) in
     let last : (name : Bytes) → known_at w' name ≡ known_at u name = λ name. ap (λ z. known_at z name) x.ends ∙ told_still u b x.n x.told e (ap (λ (y : Message Ops). y.kind) message2) name in
     let first : (name : Bytes) → known_at v name ≡ known_at w name = put_still w s t a sh.found refl refl in
     record {
@@ -261,8 +256,8 @@ ship_answered w a b x y k ships is comes =
     let world : x.world ≡ v = ap (λ (y : Stepped). y.world) sh.is in
     let number : Some (length s.sent + 1) ≡ Some k = sym (ap (λ (y : Stepped). y.answer.number) sh.is) ∙ is in
     let d : Delivered v a k y = subst (λ u. Delivered u a k y) world (subst (After (Delivered x.world a k)) comes (deliver_after x.world a k 0 true)) in
-    let sender : d.sender ≡ t = some_is d.sender t (sym d.sends ∙ put_here w s t a sh.found refl) in
-    let message : d.message ≡ m = some_is d.message m (sym d.there ∙ ap (λ (y : Site). message_of y k) sender ∙ last_message t s.sent m k refl number) in
+    let sender : d.sender ≡ t = same_Some d.sender t (sym d.sends ∙ put_here w s t a sh.found refl) in
+    let message : d.message ≡ m = same_Some d.message m (sym d.there ∙ ap (λ (y : Site). message_of y k) sender ∙ last_message t s.sent m k refl number) in
     let r = d.receiver in
     let came : y ≡ acted v r (takes by_operations v.weigher r.node a delta s.node.known) = d.is ∙ ap (λ (z : Message Ops). acted v r (takes by_operations v.weigher r.node a z.kind z.content)) message in
     (length r.sent + 1, ap (λ (z : Stepped). z.answer.number) came ∙ ap (number_of r.sent) (delta_letter v r.node a s.node.known))

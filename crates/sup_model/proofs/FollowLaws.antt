@@ -1,6 +1,7 @@
 -- The code's world, over tables, follows the model.
 use Rattle.std.specs.Prelude.{ℕ, ◌≡◌, ◌⊎◌, Bool, true, false, not, List, [], ◌∷◌, ◌++◌, map, Option, Some, None, Result, Ok, Err, refl, IsOk}
 use Rattle.std.proofs.Common.{sym, ap, ◌∙◌, subst}
+use Rattle.std.proofs.lemmas.Option.{same_Some}
 use mathlib.Core.Logic.{inl, inr}
 use Rattle.sup_specs.specs.Values.{Bytes}
 use Rattle.sup_tables.specs.States.{State}
@@ -116,9 +117,6 @@ worlds_stand real model s =
 cons_is : {X : Type 0} (x y : X) (xs ys : List X) → x ≡ y → xs ≡ ys → (x ∷ xs) ≡ (y ∷ ys)
 cons_is x y xs ys e f = λ i. e i ∷ f i
 
-some_is : (x y : Ops) → Some x ≡ Some y → x ≡ y
-some_is x y e = cc
-
 same_list : (xs ys : List Ops) → map (λ o. Some o) xs ≡ map (λ o. Some o) ys → xs ≡ ys
 same_list [] [] e = refl
 same_list [] (y ∷ ys) e = absurd cc
@@ -126,7 +124,7 @@ same_list (x ∷ xs) [] e = absurd cc
 same_list (x ∷ xs) (y ∷ ys) e =
     let h : Some x ≡ Some y = cc in
     let t : map (λ (o : Ops). Some o) xs ≡ map (λ (o : Ops). Some o) ys = cc in
-    cons_is x y xs ys (some_is x y h) (same_list xs ys t)
+    cons_is x y xs ys (same_Some x y h) (same_list xs ys t)
 
 -- names apart from one know the same in both worlds
 known_same : (w v : World) (b : Bytes) → ((name : Bytes) → is_named name b ≡ false → known_at v name ≡ known_at w name) → (names : List Bytes) → Apart b names → map (known_at v) names ≡ map (known_at w) names
@@ -146,7 +144,7 @@ gathered w first [] w' x a k g = record { ys = []; x' = x; had = refl; has = ap 
 gathered w first (n ∷ ns) w' x a k g =
     let mid = g.0 in
     let t : Took w n first mid = exchange_took w n first mid g.1 a.1 in
-    let is : t.before ≡ x = some_is t.before x (sym t.had ∙ k) in
+    let is : t.before ≡ x = same_Some t.before x (sym t.had ∙ k) in
     let r = gathered mid first ns w' t.after a.2 t.has g.2 in
     record {
       ys = t.brought ∷ r.ys;
@@ -171,7 +169,7 @@ spread w first [] w' x a d k g = record { ys = []; zs = []; had = refl; have = r
 spread w first (n ∷ ns) w' x a d k g =
     let mid = g.0 in
     let t : Took w first n mid = exchange_took w first n mid g.1 a.0 in
-    let is : t.brought ≡ x = some_is t.brought x (sym t.came ∙ k) in
+    let is : t.brought ≡ x = same_Some t.brought x (sym t.came ∙ k) in
     let r = spread mid first ns w' x a.2 d.1 (t.others first a.0 ∙ k) g.2 in
     record {
       ys = t.before ∷ r.ys;

@@ -3,6 +3,7 @@ use Rattle.std.specs.Prelude.{◌≡◌, ℕ, ◌+◌, ◌≤◌, ◌<◌, Bool,
 use Rattle.std.specs.List.{list_any, list_all, cons_option}
 use Rattle.std.specs.Ordering.{eq_by_cmp}
 use Rattle.std.proofs.Common.{sym, ap, ◌∙◌, subst, arith}
+use Rattle.std.proofs.lemmas.Option.{none-some}
 use mathlib.Core.Bool.{true≢false}
 use Rattle.sup_specs.specs.declared.child.ChildSpec.{ChildSpec}
 use Rattle.sup_specs.specs.declared.child.MemberInfo.{MemberInfo}
@@ -74,9 +75,6 @@ next_is_new r top table key =
 pub some_same : {X : Type 0} (x y : X) → Some x ≡ Some y → y ≡ x
 some_same x y e = cc
 
-pub none_some : {X : Type 0} (x : X) → None ≡ Some x → ⊥
-none_some x e = cc
-
 adds : (r : Reading) (op : Operation) (x : Row) → op.add ≡ Some x → x.dot ≡ next r → among dot_cmp op.removes (next r) ≡ false → Adds r op
 adds r op x e d f = record {
   row = x;
@@ -88,7 +86,7 @@ adds r op x e d f = record {
 }
 
 removes_only : (r : Reading) (op : Operation) → op.add ≡ None → Issued r op
-removes_only r op e = record { dot = λ y g. absurd (none_some y (sym e ∙ g)); own = λ y g. absurd (none_some y (sym e ∙ g)) }
+removes_only r op e = record { dot = λ y g. absurd (none-some y (sym e ∙ g)); own = λ y g. absurd (none-some y (sym e ∙ g)) }
 
 pub join_issued : (r : Reading) (label : Bytes) → After (Adds r) (join r label)
 join_issued r label =

@@ -7,6 +7,7 @@ use mathlib.Core.Bool.{true≢false}
 use mathlib.Core.Logic.{◌⊎◌, inl, inr}
 use Rattle.std.proofs.lemmas.Bool.{le-leb, lt-leb, leb-true}
 use Rattle.std.specs.Ordering.{eq_by_cmp}
+use Rattle.std.proofs.lemmas.Option.{none-some}
 use Rattle.sup_specs.specs.Values.{Bytes, text_cmp}
 use Rattle.sup_tables.specs.Operations.{Operation, covers, Covers, NoClash}
 use Rattle.sup_replica.specs.declared.event.Event.{Event}
@@ -38,7 +39,7 @@ use Rattle.sup_model.specs.Stands.{NodeStands, MessageStands, OutcomeStands, Tog
 use Rattle.sup_model.specs.Joint.{Trio, Joint, real_of, model_of, letter_of, peer, Peers, MailStands, AllMail, TrioStands, Holds}
 use Rattle.sup_model.proofs.TopLaws.{text_same, text_itself, alike_of_Covers, Covers_of_alike}
 use Rattle.sup_tables.proofs.CoverTests.{Covers-from_test, test-from_Covers}
-use Rattle.sup_model.proofs.IssueLaws.{some_same, none_some}
+use Rattle.sup_model.proofs.IssueLaws.{some_same}
 use Rattle.sup_model.proofs.SimLaws.{both-refused_if, both-then_do, act_stands, kept_stands}
 use Rattle.sup_model.proofs.ActLaws.{IsOwn, now_still, Act, Moved, of_moved, own_act, kept_after, kept_fits, trio_with, in-letters}
 
@@ -115,11 +116,11 @@ module _ {K : Type 0} (k : Knowledge K) (view : View K) (laws : Laws k view) whe
 
   pub no_letters : (j : Bytes) (c : ℕ) (past : ℕ → K) (a : Option (Message K)) (b : Option (Message Ops)) → a ≡ None → BothOrNone (MessageStands view) a b → BothOrNone (MailStands view j c past) None b
   no_letters name c past None None e h = tt
-  no_letters name c past (Some a) b e h = absurd (none_some a (sym e))
+  no_letters name c past (Some a) b e h = absurd (none-some a (sym e))
   no_letters name c past None (Some b) e h = h
 
   pub none_fresh : (W : Peer Bytes view.S → Type 0) (p : Peer Bytes view.S) (x : Mail K) → None ≡ Some x → Fresh view.joins W p (letter_of view x)
-  none_fresh W p x e = absurd (none_some x e)
+  none_fresh W p x e = absurd (none-some x e)
 
   rest_act : (j : Joint K) (t : Trio K) → Holds view j → In j.trios t → (o : Outcome K) (p : Outcome Ops) → OutcomeStands view o p → Rests t.post.station.node o → passes_greatest p.node ≡ false
       → Act k view laws j t (moved k o (volatile k t.post.station o.node) None) p

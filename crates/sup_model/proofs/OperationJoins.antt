@@ -9,6 +9,7 @@ use Rattle.std.proofs.Common.{sym, ap, ◌∙◌, subst, arith}
 use mathlib.Core.Bool.{true≢false}
 use mathlib.Core.Logic.{◌⊎◌, inl, inr}
 use Rattle.std.proofs.lemmas.List.Folds.{list_any-append}
+use Rattle.std.proofs.lemmas.Bool.{or_left, or_right, or_parts, false_from_ne_true}
 use Rattle.sup_specs.specs.Values.{Bytes, text_cmp}
 use Rattle.sup_specs.specs.Rising.{rising, among}
 use Rattle.sup_specs.proofs.RisingLaws.{rising_same, among-rising}
@@ -31,18 +32,6 @@ use Rattle.sup_model.proofs.TopLaws.{known-greatest, dot_same, text_same}
 use Rattle.sup_tables.proofs.CoverTests.{Covers-from_test, test-from_Covers}
 use Rattle.sup_model.proofs.CleanLaws.{row-append, row-left, row-right}
 
-or-left : (x y : Bool) → x ≡ true → (x || y) ≡ true
-or-left true y e = refl
-or-left false y e = absurd (true≢false (sym e))
-
-or-right : (x y : Bool) → y ≡ true → (x || y) ≡ true
-or-right true y e = refl
-or-right false y e = e
-
-or-false : (x y : Bool) → (x || y) ≡ false → (x ≡ false) × (y ≡ false)
-or-false true y e = absurd (true≢false e)
-or-false false y e = (refl, e)
-
 or-cases : (x y : Bool) (P : Type 0) → (x || y) ≡ true → (x ≡ true → P) → (y ≡ true → P) → P
 or-cases true y P e f g = f refl
 or-cases false y P e f g = g e
@@ -51,10 +40,6 @@ both_ways : (a b : Bool) → (a ≡ true → b ≡ true) → (b ≡ true → a �
 both_ways true b f g = sym (f refl)
 both_ways false true f g = g refl
 both_ways false false f g = refl
-
-not-true : (x : Bool) → (x ≡ true → ⊥) → x ≡ false
-not-true true f = absurd (f refl)
-not-true false f = refl
 
 named-append : (ops others : Ops) (d : Dot) → named (ops ++ others) d ≡ (named ops d || named others d)
 named-append ops others d = list_any-append (λ op. among dot_cmp op.removes d) ops others
@@ -66,18 +51,18 @@ abbrev HasLive : Ops → Row → Type 0
 HasLive ops r = among row_cmp (live ops) r ≡ true
 
 free_of : (ops others : Ops) (r : Row) → HasLive (ops ++ others) r → (named ops r.dot ≡ false) × (named others r.dot ≡ false)
-free_of ops others r l = or-false (named ops r.dot) (named others r.dot) (sym (named-append ops others r.dot) ∙ (live-parts (ops ++ others) r l).0)
+free_of ops others r l = or_parts (named ops r.dot) (named others r.dot) (sym (named-append ops others r.dot) ∙ (live-parts (ops ++ others) r l).0)
 
 pub above_left : (ops others : Ops) → Covers (ops ++ others) ops
 above_left ops others = Covers-from_below (ops ++ others) ops (record {
-  dots = λ d k. known-append ops others d ∙ or-left (known ops d) (known others d) k;
+  dots = λ d k. known-append ops others d ∙ or_left (known ops d) (known others d) k;
   lives = λ r l. (free_of ops others r l).0;
   there = λ r l n. row-left ops others r (live-parts ops r l).1;
 })
 
 pub above_right : (ops others : Ops) → Covers (ops ++ others) others
 above_right ops others = Covers-from_below (ops ++ others) others (record {
-  dots = λ d k. known-append ops others d ∙ or-right (known ops d) (known others d) k;
+  dots = λ d k. known-append ops others d ∙ or_right (known ops d) (known others d) k;
   lives = λ r l. (free_of ops others r l).1;
   there = λ r l n. row-right ops others r (live-parts others r l).1;
 })
@@ -129,8 +114,8 @@ alike_back a ops h = record { dots = λ d. sym (h.dots d); rows = sym h.rows }
 live_half : (a b ops others : Ops) → Alike a ops → Alike b others → (r : Row) → HasLive (a ++ b) r → HasLive (ops ++ others) r
 live_half a b ops others h g r l =
     let f = free_of a b r l in
-    let m : named ops r.dot ≡ false = not-true (named ops r.dot) (λ e. true≢false (sym (named_alike a ops h r.dot e) ∙ f.0)) in
-    let n : named others r.dot ≡ false = not-true (named others r.dot) (λ e. true≢false (sym (named_alike b others g r.dot e) ∙ f.1)) in
+    let m : named ops r.dot ≡ false = false_from_ne_true (named ops r.dot) (λ e. true≢false (sym (named_alike a ops h r.dot e) ∙ f.0)) in
+    let n : named others r.dot ≡ false = false_from_ne_true (named others r.dot) (λ e. true≢false (sym (named_alike b others g r.dot e) ∙ f.1)) in
     let free : named (ops ++ others) r.dot ≡ false = named-append ops others r.dot ∙ (λ i. m i || n i) in
     row-append a b r (HasLive (ops ++ others) r) (live-parts (a ++ b) r l).1
     (λ x. live-from (ops ++ others) r free (row-left ops others r (live-parts ops r (subst (λ rows. among row_cmp rows r ≡ true) h.rows (live-from a r f.0 x))).1))

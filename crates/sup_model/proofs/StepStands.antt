@@ -2,6 +2,7 @@
 use Rattle.sup_model.specs.Posts.{reads, post_step}
 use Rattle.std.specs.Prelude.{ℕ, zero, suc, ◌≡◌, ◌+◌, ◌-◌, ◌==◌, ◌≤◌, ◌<◌, Bool, true, false, cond, not, ◌&&◌, List, [], ◌∷◌, ◌++◌, map, find, length, refl, Option, Some, None, Result, Ok, Err, slice_get, is_some, unwrap_or, if◌then◌else◌}
 use Rattle.std.proofs.Common.{sym, ap, ◌∙◌, subst, arith}
+use Rattle.std.proofs.lemmas.Option.{none-some}
 use mathlib.Core.Bool.{true≢false}
 use mathlib.Core.Logic.{◌⊎◌, inl, inr}
 use Rattle.sup_specs.specs.Values.{Bytes}
@@ -29,7 +30,7 @@ use Rattle.sup_model.specs.Posts.{Post, Real, RealAnswer, RealStepped, post_of, 
 use Rattle.sup_model.specs.Stands.{NodeStands, Together, BothOrNone}
 use Rattle.sup_model.specs.Joint.{Trio, Joint, real_of, model_of, peer, Peers, MailStands, AllMail, TrioStands, Holds, AnswerStands}
 use Rattle.sup_model.proofs.TopLaws.{text_same}
-use Rattle.sup_model.proofs.IssueLaws.{some_same, none_some}
+use Rattle.sup_model.proofs.IssueLaws.{some_same}
 use Rattle.sup_model.proofs.CleanWorld.{get-in, step_clean}
 use Rattle.sup_model.proofs.JointLaws.{with_trio, Goes, goes_holds, Names, real_put, model_put, Found, Missing, looked_up}
 use Rattle.sup_model.proofs.ActLaws.{Act, act_goes, trio_with, numbers_same, mail_at}

@@ -3,6 +3,7 @@ use Rattle.std.specs.Prelude.{◌≡◌, ℕ, ◌+◌, ◌<◌, ◌≤◌, Bool,
 use Rattle.std.specs.Str.{bytes_eq}
 use Rattle.std.specs.Map.{lookup}
 use Rattle.std.proofs.Common.{None, sym, ap, ◌∙◌, arith, subst}
+use Rattle.std.proofs.Math.Bool.{or-true}
 use mathlib.Core.Bool.{true≢false}
 use mathlib.Core.Logic.{inl, inr}
 use Rattle.sup_specs.specs.Values.{Bytes}
@@ -43,10 +44,6 @@ lt-false n m h = grind arith
 -- no number passes the greatest
 pub within_greatest : (n : Node State) → n.count ≤ MAX → n.supervisor.given ≤ MAX → n.supervisor.boot ≤ MAX → passes_greatest n ≡ false
 within_greatest n a b c = λ i. lt-false MAX n.count a i || (lt-false MAX n.supervisor.given b i || lt-false MAX n.supervisor.boot c i)
-
-or-true : (b : Bool) → (b || true) ≡ true
-or-true true = refl
-or-true false = refl
 
 -- and one does
 pub count_passes : (n : Node State) → MAX + 1 ≤ n.count → passes_greatest n ≡ true

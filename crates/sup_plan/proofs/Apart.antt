@@ -4,13 +4,7 @@ use Rattle.std.specs.List.{list_any, IsDistinct, AllByRecursion}
 use Rattle.std.proofs.Common.{sym, ap, ◌∙◌, subst, true≢false}
 use Rattle.std.proofs.lemmas.List.{nil_from_length}
 use Rattle.std.proofs.lemmas.Map.Keys.{IsDistinct-cons, IsDistinct-head, IsDistinct-tail}
-
-neither : (a b : Bool) → (a || b) ≡ false → (a ≡ false) × (b ≡ false)
-neither true b e = absurd (true≢false e)
-neither false b e = (refl, e)
-
-nor : (a b : Bool) → a ≡ false → b ≡ false → (a || b) ≡ false
-nor a b e f = ap (λ x. x || b) e ∙ f
+use Rattle.std.proofs.lemmas.Bool.{or_parts, or_from}
 
 not_both : (b : Bool) → b ≡ true → IsTrue (not b) → ⊥
 not_both true f t = absurd (true≢false (sym t))
@@ -20,11 +14,11 @@ not_both false f t = absurd (true≢false (sym f))
 module _ {K : Type 0} (e d : K → K → Bool) (same : (x y : K) → d x y ≡ e y x) where
   unfound : (x : K) (xs : List K) → list_any (λ y. d y x) xs ≡ false → AllByRecursion (λ y. e x y ≡ false) xs
   unfound x [] h = tt
-  unfound x (y ∷ ys) h = let n = neither (d y x) (list_any (λ z. d z x) ys) h in (sym (same y x) ∙ n.0, unfound x ys n.1)
+  unfound x (y ∷ ys) h = let n = or_parts (d y x) (list_any (λ z. d z x) ys) h in (sym (same y x) ∙ n.0, unfound x ys n.1)
 
   found : (x : K) (xs : List K) → AllByRecursion (λ y. e x y ≡ false) xs → list_any (λ y. d y x) xs ≡ false
   found x [] h = refl
-  found x (y ∷ ys) h = nor (d y x) (list_any (λ z. d z x) ys) (same y x ∙ h.0) (found x ys h.1)
+  found x (y ∷ ys) h = or_from (d y x) (list_any (λ z. d z x) ys) (same y x ∙ h.0) (found x ys h.1)
 
   -- it differs from the later ones, and these are told apart
   pub apart_more : (x : K) (xs : List K) (here rest : Bool) → here ≡ list_any (λ y. d y x) xs → here ≡ false

@@ -5,6 +5,7 @@ use Rattle.std.proofs.Common.{sym, ap, ◌∙◌, subst, arith, append_assoc, ap
 use Rattle.std.proofs.lemmas.List.{map-append}
 use Rattle.std.proofs.lemmas.Grind.{flat_map-append}
 use Rattle.std.proofs.lemmas.Bool.Decides.{nat_tests}
+use Rattle.std.proofs.lemmas.Bool.{not_from_false, not_from_true}
 use Rattle.sup_placement.specs.declared.weigh.Weigh.{Ghosts as WeighGhosts}
 use Rattle.sup_node_gate.specs.declared.entry.Entry.{Entry}
 use Rattle.sup_node_gate.specs.Gates.{view_of}
@@ -31,12 +32,6 @@ isnt_same a b e = grind (arith, nat_tests)
 
 pub same_is : (a b : ℕ) → (a == b) ≡ true → a ≡ b
 same_is a b e = grind (arith, nat_tests)
-
-pub not_false : (b : Bool) → b ≡ false → not b ≡ true
-not_false b e = ap not e
-
-pub not_true : (b : Bool) → b ≡ true → not b ≡ false
-not_true b e = ap not e
 
 module _ {W : Type 0} {h : WeighGhosts W} where
   -- one pass more is joined

@@ -4,12 +4,7 @@ use Rattle.std.specs.List.{AllZip}
 use Rattle.std.proofs.Common.{sym, ap, ◌∙◌, subst, arith}
 use Rattle.std.proofs.lemmas.List.{drop_more, take_more, take_all}
 use Rattle.std.proofs.lemmas.Slice.Zip.{all_zipped_more}
-
-some_is : {X : Type 0} (x y : X) → Some x ≡ Some y → x ≡ y
-some_is x y e = cc
-
-no_more : {X : Type 0} (x : X) → None ≡ Some x → ⊥
-no_more x e = cc
+use Rattle.std.proofs.lemmas.Option.{none-some, same_Some}
 
 module _ {A B : Type 0} (R : A → B → Type 0) where
   -- what is left of both, where the first is gone through by place
@@ -34,17 +29,17 @@ module _ {A B : Type 0} (R : A → B → Type 0) where
 
   -- by place
   pub zip_left : (xs : List A) (ys : List B) (i : ℕ) (x : A) → AllZip R xs ys → slice_get xs i ≡ Some x → (y : B) × (slice_get ys i ≡ Some y) × R x y
-  zip_left [] [] i x h e = absurd (no_more x e)
+  zip_left [] [] i x h e = absurd (none-some x e)
   zip_left [] (y ∷ ys) i x h e = absurd h
   zip_left (w ∷ xs) [] i x h e = absurd h
-  zip_left (w ∷ xs) (y ∷ ys) zero x h e = (y, refl, subst (λ z. R z y) (some_is w x e) h.0)
+  zip_left (w ∷ xs) (y ∷ ys) zero x h e = (y, refl, subst (λ z. R z y) (same_Some w x e) h.0)
   zip_left (w ∷ xs) (y ∷ ys) (suc i) x h e = zip_left xs ys i x h.1 e
 
   pub zip_right : (xs : List A) (ys : List B) (i : ℕ) (y : B) → AllZip R xs ys → slice_get ys i ≡ Some y → (x : A) × (slice_get xs i ≡ Some x) × R x y
-  zip_right [] [] i y h e = absurd (no_more y e)
+  zip_right [] [] i y h e = absurd (none-some y e)
   zip_right [] (z ∷ ys) i y h e = absurd h
   zip_right (x ∷ xs) [] i y h e = absurd h
-  zip_right (x ∷ xs) (z ∷ ys) zero y h e = (x, refl, subst (λ w. R x w) (some_is z y e) h.0)
+  zip_right (x ∷ xs) (z ∷ ys) zero y h e = (x, refl, subst (λ w. R x w) (same_Some z y e) h.0)
   zip_right (x ∷ xs) (z ∷ ys) (suc i) y h e = zip_right xs ys i y h.1 e
 
   pub zip_same_length : (xs : List A) (ys : List B) → AllZip R xs ys → length xs ≡ length ys

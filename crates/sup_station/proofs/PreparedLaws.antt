@@ -3,6 +3,7 @@ use Rattle.std.specs.Prelude.{◌≡◌, ◌≢◌, ℕ, ◌+◌, ◌≤◌, Boo
 use Rattle.std.specs.Global.{Vec}
 use Rattle.std.specs.Result.{IsErrAnd}
 use Rattle.std.proofs.Common.{refl, sym, ap, ◌∙◌, subst, arith}
+use Rattle.std.proofs.lemmas.Bool.{or_parts}
 use mathlib.Core.Logic.{inl, inr}
 use Rattle.sup_specs.specs.Values.{Bytes}
 use Rattle.sup_specs.specs.declared.limits.TheConstants.{MAX}
@@ -43,18 +44,14 @@ use Rattle.sup_station.specs.declared.prepared.Next.{Next}
 use Rattle.sup_station.specs.declared.prepared.Next.TheVariants.{Changes, Stops, Runs}
 use Rattle.sup_station.proofs.KeepLaws.{ok_err, may_lack, stepped_kept}
 
-or_false : (x y : Bool) → (x || y) ≡ false → (x ≡ false) × (y ≡ false)
-or_false true y e = absurd (cc)
-or_false false y e = (refl, e)
-
 not_less : (n m : ℕ) → nat_lt n m ≡ false → m ≤ n
 not_less n m h = grind arith
 
 -- no number passes the greatest
 within : (n : Node State) → passes_greatest n ≡ false → (n.count ≤ MAX) × (n.supervisor.boot ≤ MAX)
 within n h =
-    let a = or_false (nat_lt MAX n.count) (nat_lt MAX n.supervisor.given || nat_lt MAX n.supervisor.boot) h in
-    let b = or_false (nat_lt MAX n.supervisor.given) (nat_lt MAX n.supervisor.boot) a.1 in
+    let a = or_parts (nat_lt MAX n.count) (nat_lt MAX n.supervisor.given || nat_lt MAX n.supervisor.boot) h in
+    let b = or_parts (nat_lt MAX n.supervisor.given) (nat_lt MAX n.supervisor.boot) a.1 in
     (not_less MAX n.count a.0, not_less MAX n.supervisor.boot b.1)
 
 image_in_range : (n : Node State) → 1 ≤ n.supervisor.boot → passes_greatest n ≡ false → IsImageInRange (image_of n)

@@ -12,6 +12,7 @@ use Rattle.sup_causal.specs.declared.dot.Dot.{Dot}
 use Rattle.sup_causal.specs.Dots.{dot_cmp}
 use Rattle.sup_tables.specs.declared.row.Row.{Row}
 use Rattle.std.proofs.lemmas.Map.Views.{any-filter_same}
+use Rattle.std.proofs.lemmas.Bool.{or_left, or_right, or_parts, not-true}
 use Rattle.sup_causal.specs.Dots.{dot_eq}
 use Rattle.sup_tables.specs.Rows.{row_cmp, is_at, table_of, key_of}
 use Rattle.sup_tables.specs.Readers.{entries}
@@ -19,7 +20,7 @@ use Rattle.sup_tables.proofs.PointLaws.{point_itself}
 use Rattle.sup_tables.specs.Operations.{Operation, known, named, added, live, covers, same_rows, Covers}
 use Rattle.sup_tables.specs.RowLaws.{row_total, row_tie}
 use Rattle.sup_tables.proofs.OperationLaws.{both_ways}
-use Rattle.sup_tables.proofs.AddLaws.{same_row, or-left, or-right, and-first, and-second, has_live, known_of_added, known_of_named, added_of_known, among-added-append}
+use Rattle.sup_tables.proofs.AddLaws.{same_row, and-first, and-second, has_live, known_of_added, known_of_named, added_of_known, among-added-append}
 
 -- of a list that all pass and one passes, one that passes both
 pub one_of_all : {X : Type 0} (p q : X → Bool) (xs : List X) → list_all p xs ≡ true → list_any q xs ≡ true → (x : X) × (p x ≡ true) × (q x ≡ true)
@@ -52,14 +53,6 @@ pub record Below (ops others : List Operation) : Type 0 where
   pub lives : (r : Row) → among row_cmp (live ops) r ≡ true → named others r.dot ≡ false
   pub there : (r : Row) → among row_cmp (live others) r ≡ true → named ops r.dot ≡ false → among row_cmp (added ops) r ≡ true
 
-or-false : (x y : Bool) → (x || y) ≡ false → (x ≡ false) × (y ≡ false)
-or-false true y e = absurd (true≢false e)
-or-false false y e = (refl, e)
-
-not-true : (x : Bool) → not x ≡ true → x ≡ false
-not-true true e = absurd (true≢false (sym e))
-not-true false e = refl
-
 -- a live row is one that was added and whose dot isn't named
 pub live-parts : (ops : List Operation) (r : Row) → among row_cmp (live ops) r ≡ true → (named ops r.dot ≡ false) × (among row_cmp (added ops) r ≡ true)
 live-parts ops r e =
@@ -79,12 +72,12 @@ pub below-from_Covers : (ops others : List Operation) → Covers ops others → 
 below-from_Covers ops others c =
     let same = λ (r : Row). ap (λ rows. among row_cmp rows r) c.live_stays in
     record {
-      dots = λ d k. sym (c.known_stays d) ∙ known-append ops others d ∙ or-right (known ops d) (known others d) k;
-      lives = λ r l. (or-false (named ops r.dot) (named others r.dot) (sym (named-append ops others r.dot) ∙ (live-parts (ops ++ others) r (same r ∙ l)).0)).1;
+      dots = λ d k. sym (c.known_stays d) ∙ known-append ops others d ∙ or_right (known ops d) (known others d) k;
+      lives = λ r l. (or_parts (named ops r.dot) (named others r.dot) (sym (named-append ops others r.dot) ∙ (live-parts (ops ++ others) r (same r ∙ l)).0)).1;
       there = λ r l n.
           (live-parts ops r
           (sym (same r)
-          ∙ live-from (ops ++ others) r (named-append ops others r.dot ∙ (λ i. n i || (live-parts others r l).0 i)) (among-added-append ops others r ∙ or-right (among row_cmp (added ops) r) (among row_cmp (added others) r) (live-parts others r l).1))).1;
+          ∙ live-from (ops ++ others) r (named-append ops others r.dot ∙ (λ i. n i || (live-parts others r l).0 i)) (among-added-append ops others r ∙ or_right (among row_cmp (added ops) r) (among row_cmp (added others) r) (live-parts others r l).1))).1;
     }
 
 pub absorbed-true : (x y : Bool) → (y ≡ true → x ≡ true) → (x || y) ≡ x
@@ -105,13 +98,13 @@ Covers-from_below ops others b = record {
       ∙ both_ways (among row_cmp (live (ops ++ others)) r) (among row_cmp (live ops) r)
       (λ l.
       let parts = live-parts (ops ++ others) r l in
-      let free = or-false (named ops r.dot) (named others r.dot) (sym (named-append ops others r.dot) ∙ parts.0) in
+      let free = or_parts (named ops r.dot) (named others r.dot) (sym (named-append ops others r.dot) ∙ parts.0) in
       or-cases (among row_cmp (added ops) r) (among row_cmp (added others) r) (among row_cmp (live ops) r ≡ true) (sym (among-added-append ops others r) ∙ parts.1)
       (λ a. live-from ops r free.0 a)
       (λ _ a. live-from ops r free.0 (b.there r (live-from others r free.1 a) free.0)))
       (λ l.
       let parts = live-parts ops r l in
-      live-from (ops ++ others) r (named-append ops others r.dot ∙ (λ i. parts.0 i || b.lives r l i)) (among-added-append ops others r ∙ or-left (among row_cmp (added ops) r) (among row_cmp (added others) r) parts.1))
+      live-from (ops ++ others) r (named-append ops others r.dot ∙ (λ i. parts.0 i || b.lives r l i)) (among-added-append ops others r ∙ or_left (among row_cmp (added ops) r) (among row_cmp (added others) r) parts.1))
       ∙ among-rising row_cmp row_total (filter (λ x. not (named ops x.dot)) (added ops)) r);
 }
 

@@ -3,12 +3,13 @@ use Rattle.std.specs.Prelude.{◌≡◌, ◌↔◌, Bool, true, false, ◌&&◌,
 use Rattle.std.specs.List.{list_any, list_all}
 use Rattle.std.specs.Ordering.{eq_by_cmp}
 use Rattle.std.proofs.Common.{sym, ap, ◌∙◌, subst}
+use Rattle.std.proofs.lemmas.Bool.{or_left, or_right}
 use Rattle.sup_specs.specs.Rising.{among}
 use Rattle.sup_causal.specs.Dots.{dot_eq}
 use Rattle.sup_tables.specs.declared.row.Row.{Row}
 use Rattle.sup_tables.specs.Rows.{row_cmp}
 use Rattle.sup_tables.specs.Operations.{Operation, known, live, covers, same_rows, Covers, dots_of}
-use Rattle.sup_tables.proofs.AddLaws.{or-left, or-right, and-first, same_dot, dot_itself, row_itself}
+use Rattle.sup_tables.proofs.AddLaws.{and-first, same_dot, dot_itself, row_itself}
 use Rattle.sup_tables.proofs.CoverLaws.{one_of_all, absorbed-true, known-append, covers-live}
 use Rattle.sup_tables.proofs.GreatestLaws.{known_among}
 
@@ -16,8 +17,8 @@ use Rattle.sup_tables.proofs.GreatestLaws.{known_among}
 pub all_from_each : {X : Type 0} (p : X → Bool) (eq : X → X → Bool) → ((x : X) → eq x x ≡ true) → (xs : List X) → ((x : X) → list_any (eq x) xs ≡ true → p x ≡ true) → list_all p xs ≡ true
 all_from_each p eq itself [] h = refl
 all_from_each p eq itself (x ∷ xs) h =
-    let here : p x ≡ true = h x (or-left _ _ (itself x)) in
-    let later : list_all p xs ≡ true = all_from_each p eq itself xs (λ y e. h y (or-right (eq y x) _ e)) in
+    let here : p x ≡ true = h x (or_left _ _ (itself x)) in
+    let later : list_all p xs ≡ true = all_from_each p eq itself xs (λ y e. h y (or_right (eq y x) _ e)) in
     λ i. here i && later i
 
 pub Covers-from_test : (ops others : List Operation) → covers ops others ≡ true → Covers ops others
@@ -39,7 +40,7 @@ pub test-from_Covers : (ops others : List Operation) → Covers ops others → c
 test-from_Covers ops others c =
     let dots : list_all (known ops) (flat_map dots_of others) ≡ true =
     all_from_each (known ops) dot_eq dot_itself (flat_map dots_of others) (λ d e.
-    sym (c.known_stays d) ∙ known-append ops others d ∙ or-right (known ops d) (known others d) (known_among others d ∙ e)) in
+    sym (c.known_stays d) ∙ known-append ops others d ∙ or_right (known ops d) (known others d) (known_among others d ∙ e)) in
     let rows : same_rows (live (ops ++ others)) (live ops) ≡ true = ap (λ x. same_rows x (live ops)) c.live_stays ∙ same_rows_itself (live ops) in
     λ i. dots i && rows i
 

@@ -5,6 +5,7 @@ use Rattle.std.specs.BTreeMap.{is_at as is_key}
 use Rattle.std.proofs.Common.{sym, ap, ◌∙◌, subst}
 use mathlib.Core.Bool.{false≢true}
 use Rattle.std.proofs.lemmas.Cmp.{eq_by_cmp_equiv}
+use Rattle.std.proofs.Math.Bool.{or-false}
 use Rattle.sup_specs.specs.Values.{Bytes, text_cmp}
 use Rattle.sup_specs.specs.Rising.{rising, among}
 use Rattle.sup_causal.specs.declared.dot.Dot.{Dot}
@@ -19,10 +20,6 @@ use Rattle.sup_dot_store.specs.RowLists.{rows_in}
 use Rattle.sup_tables.specs.Stored.{Values, Stored, value_in, stored_rows, state_of, IsOneRow}
 use Rattle.sup_dot_store.specs.Index.{count_in}
 use Rattle.sup_tables.proofs.AddLaws.{same_dot, dot_itself}
-
-or-false : (b : Bool) → (b || false) ≡ b
-or-false true = refl
-or-false false = refl
 
 -- one add that names dots, not its own among them
 pub add_stands : (context : Context) (s : Stored) (row : Row) (removes : List Dot) → stored_rows s ≡ row ∷ [] → among dot_cmp removes row.dot ≡ false

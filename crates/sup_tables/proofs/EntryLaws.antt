@@ -24,9 +24,11 @@ use Rattle.sup_causal.specs.Dots.{has, dot_cmp}
 use mathlib.Core.Bool.{true≢false}
 use Rattle.sup_specs.specs.Rising.{among}
 use Rattle.std.specs.Prelude.{All}
-use Rattle.std.proofs.lemmas.List.Elements.{All-from_recursion}
+use Rattle.std.proofs.lemmas.List.Elements.{All-from_recursion, filter-append}
+use Rattle.std.proofs.lemmas.Bool.{or_left, or_right}
+use Rattle.std.proofs.lemmas.List.{append-nil}
 use Rattle.sup_tables.specs.States.{State, IsKept}
-use Rattle.sup_tables.proofs.AddLaws.{or-left, or-right, row_itself, same_dot}
+use Rattle.sup_tables.proofs.AddLaws.{row_itself, same_dot}
 use Rattle.sup_tables.specs.Readers.{entries, live_dots}
 use Rattle.sup_dot_store.specs.RowLists.{rows_in}
 use Rattle.sup_tables.specs.Stored.{Values, Stored, member_row, child_row, name_row, state_of, values_under}
@@ -46,14 +48,6 @@ cond_append : {X : Type 0} (b : Bool) (x : X) (xs ys zs : List X) → xs ≡ ys 
 cond_append true x xs ys zs e = ap (λ us. x ∷ us) e
 cond_append false x xs ys zs e = e
 
-pub filter_append : {X : Type 0} (p : X → Bool) (xs ys : List X) → filter p (xs ++ ys) ≡ filter p xs ++ filter p ys
-filter_append p [] ys = refl
-filter_append p (x ∷ xs) ys = cond_append (p x) x (filter p (xs ++ ys)) (filter p xs) (filter p ys) (filter_append p xs ys)
-
-pub nothing_after : {X : Type 0} (xs : List X) → xs ++ [] ≡ xs
-nothing_after [] = refl
-nothing_after (x ∷ xs) = ap (λ ys. x ∷ ys) (nothing_after xs)
-
 -- the rows of a key, by dot
 abbrev pub key_rows : {V : Type 0} → (Bytes → Dot → V → Row) → Bytes → Option (DotFun V) → List Row
 key_rows make k o = map (λ e. make k e.0 e.1) (values_under o)
@@ -69,7 +63,7 @@ module _ {V : Type 0} (make : Bytes → Dot → V → Row) (table : Table) (at_m
       → filter (is_at table k) (map (λ f. make e.0 f.0 f.1) e.1.values.entries) ++ filter (is_at table k) (rows_in make es) ≡ key_rows make k (cond b (Some e.1) (lookup (is_key (text_cmp k)) es))
   entries_step k e es past rest true h =
       (λ i. filter_all (is_at table k) (map (λ f. make e.0 f.0 f.1) e.1.values.entries) (each_here k e.0 true h e.1.values.entries) i ++ (rest ∙ ap (key_rows make k) (past h)) i)
-      ∙ nothing_after _ ∙ ap (λ l. map (λ f. make l f.0 f.1) e.1.values.entries) (sym (same_text k e.0 h))
+      ∙ append-nil _ ∙ ap (λ l. map (λ f. make l f.0 f.1) e.1.values.entries) (sym (same_text k e.0 h))
   entries_step k e es past rest false h =
       ap (λ rs. rs ++ filter (is_at table k) (rows_in make es)) (filter_none (is_at table k) (map (λ f. make e.0 f.0 f.1) e.1.values.entries) (each_here k e.0 false h e.1.values.entries)) ∙ rest
 
@@ -77,7 +71,7 @@ module _ {V : Type 0} (make : Bytes → Dot → V → Row) (table : Table) (at_m
   unfolding IsStrictlySortedBy
   entries_in k [] s = refl
   entries_in k (e ∷ es) s =
-      filter_append (is_at table k) (map (λ f. make e.0 f.0 f.1) e.1.values.entries) (rows_in make es)
+      filter-append (is_at table k) (map (λ f. make e.0 f.0 f.1) e.1.values.entries) (rows_in make es)
       ∙ entries_step k e es
       (λ h. lookup-none (is_key (text_cmp k)) es (none_past_head (eq_by_cmp_equiv text_total) k e es (IsDistinct-from_sorted text_cmp (keys_of (e ∷ es)) s) h))
       (entries_in k es s.1) (is_key (text_cmp k) e.0) refl
@@ -95,20 +89,20 @@ module _ (context : Context) (s : Stored) (o : IsOrderedStored s) (k : Bytes) wh
   parts : (t : Table) → entries (state_of context s).rows t k ≡ filter (is_at t k) (rows_in member_row s.member_values) ++ (filter (is_at t k) (rows_in child_row s.child_values) ++ filter (is_at t k) (rows_in name_row s.name_values))
   parts t =
       ap (filter (is_at t k)) (stored_is s o)
-      ∙ filter_append (is_at t k) (rows_in member_row s.member_values) (rows_in child_row s.child_values ++ rows_in name_row s.name_values)
-      ∙ ap (λ rs. filter (is_at t k) (rows_in member_row s.member_values) ++ rs) (filter_append (is_at t k) (rows_in child_row s.child_values) (rows_in name_row s.name_values))
+      ∙ filter-append (is_at t k) (rows_in member_row s.member_values) (rows_in child_row s.child_values ++ rows_in name_row s.name_values)
+      ∙ ap (λ rs. filter (is_at t k) (rows_in member_row s.member_values) ++ rs) (filter-append (is_at t k) (rows_in child_row s.child_values) (rows_in name_row s.name_values))
 
   pub member_entries : entries (state_of context s).rows members k ≡ key_rows member_row k (lookup (is_key (text_cmp k)) s.member_values)
   member_entries =
       parts members
       ∙ (λ i. entries_in member_row members (λ k l d v. refl) k s.member_values o.member_values i ++ (no_children members k (λ l d v. refl) s.child_values i ++ no_names members k (λ l d v. refl) s.name_values i))
-      ∙ nothing_after _
+      ∙ append-nil _
 
   pub child_entries : entries (state_of context s).rows children k ≡ key_rows child_row k (lookup (is_key (text_cmp k)) s.child_values)
   child_entries =
       parts children
       ∙ (λ i. no_members children k (λ l d v. refl) s.member_values i ++ (entries_in child_row children (λ k l d v. refl) k s.child_values o.child_values i ++ no_names children k (λ l d v. refl) s.name_values i))
-      ∙ nothing_after _
+      ∙ append-nil _
 
   pub name_entries : entries (state_of context s).rows names k ≡ key_rows name_row k (lookup (is_key (text_cmp k)) s.name_values)
   name_entries =
@@ -142,7 +136,7 @@ each_cond P r rs false here rest = rest
 
 pub each_filtered : (P : Dot → Type 0) (p : Row → Bool) (rows : List Row) → ((r : Row) → among row_cmp rows r ≡ true → P r.dot) → AllByRecursion P (map (λ q. q.dot) (filter p rows))
 each_filtered P p [] h = tt
-each_filtered P p (r ∷ rs) h = each_cond P r (filter p rs) (p r) (h r (or-left _ _ (row_itself r))) (each_filtered P p rs (λ q e. h q (or-right _ _ e)))
+each_filtered P p (r ∷ rs) h = each_cond P r (filter p rs) (p r) (h r (or_left _ _ (row_itself r))) (each_filtered P p rs (λ q e. h q (or_right _ _ e)))
 
 -- what holds of each dot that a state's context has holds of its live dots
 pub all_live_dots : (P : Dot → Type 0) (state : State) → IsKept state → ((d : Dot) → has state.context d ≡ true → P d) → (t : Table) (k : Bytes) → All P (live_dots state.rows t k)

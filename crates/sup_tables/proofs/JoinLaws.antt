@@ -3,6 +3,7 @@ use Rattle.std.specs.Prelude.{◌≡◌, Bool, true, false, not, ◌||◌, ◌&&
 use Rattle.std.proofs.Common.{sym, ap, ◌∙◌, subst}
 use mathlib.Core.Bool.{true≢false}
 use Rattle.std.proofs.lemmas.List.Folds.{list_any-append}
+use Rattle.std.proofs.lemmas.Bool.{or_left, or_right, or_parts, not-true}
 use Rattle.sup_specs.specs.Rising.{among}
 use Rattle.sup_specs.proofs.RisingLaws.{rising_same}
 use Rattle.sup_causal.specs.declared.dot.Dot.{Dot}
@@ -15,7 +16,7 @@ use Rattle.sup_tables.specs.RowLaws.{row_total, row_tie}
 use Rattle.sup_tables.specs.Operations.{Operation, known, named, added, live, NoClash}
 use Rattle.sup_tables.specs.States.{State, StandsFor, IsKept, is_point, row_at, point, knowledge, together}
 use Rattle.sup_tables.proofs.OperationLaws.{among-live_adds, among-added, both_ways}
-use Rattle.sup_tables.proofs.AddLaws.{or-left, or-right, and-first, and-second, known_of_added, known_of_named, among-added-append, same_add, same_add_right, has_live}
+use Rattle.sup_tables.proofs.AddLaws.{and-first, and-second, known_of_added, known_of_named, among-added-append, same_add, same_add_right, has_live}
 use Rattle.sup_tables.proofs.PointLaws.{find_some, find_none, at_point, point_itself}
 
 -- what is known at a point that has a row
@@ -49,14 +50,6 @@ single_at rows q one in_rows (Some r) e =
     let found = find_some (is_point q.dot (table_of q.entry) (key_of q.entry)) rows r e in
     ap Some (sym (one r found.0 (at_point q.dot (table_of q.entry) (key_of q.entry) r found.1).dot))
 
-not_false : (b : Bool) → not b ≡ true → b ≡ false
-not_false true e = absurd (true≢false (sym e))
-not_false false e = refl
-
-or_false : (a b : Bool) → (a || b) ≡ false → (a ≡ false) × (b ≡ false)
-or_false true b e = absurd (true≢false e)
-or_false false b e = (refl, e)
-
 or_cases : {R : Type 0} (a b : Bool) → (a || b) ≡ true → (a ≡ true → R) → (b ≡ true → R) → R
 or_cases true b e f g = f refl
 or_cases false b e f g = g e
@@ -82,16 +75,16 @@ module _ (a b c : State) (ops others : List Operation) (sa : StandsFor a ops) (s
   right_live r e = sym (has_live others r) ∙ ap (λ rows. among row_cmp rows r) (sym sb.rows) ∙ e
 
   left_unnamed : (r : Row) → among row_cmp a.rows r ≡ true → named ops r.dot ≡ false
-  left_unnamed r e = not_false _ (and-first _ _ (left_live r e))
+  left_unnamed r e = not-true _ (and-first _ _ (left_live r e))
 
   right_unnamed : (r : Row) → among row_cmp b.rows r ≡ true → named others r.dot ≡ false
-  right_unnamed r e = not_false _ (and-first _ _ (right_live r e))
+  right_unnamed r e = not-true _ (and-first _ _ (right_live r e))
 
   left_added : (r : Row) → among row_cmp a.rows r ≡ true → among row_cmp (added (ops ++ others)) r ≡ true
-  left_added r e = among-added-append ops others r ∙ or-left _ _ (and-second (not (named ops r.dot)) _ (left_live r e))
+  left_added r e = among-added-append ops others r ∙ or_left _ _ (and-second (not (named ops r.dot)) _ (left_live r e))
 
   right_added : (r : Row) → among row_cmp b.rows r ≡ true → among row_cmp (added (ops ++ others)) r ≡ true
-  right_added r e = among-added-append ops others r ∙ or-right (among row_cmp (added ops) r) _ (and-second (not (named others r.dot)) _ (right_live r e))
+  right_added r e = among-added-append ops others r ∙ or_right (among row_cmp (added ops) r) _ (and-second (not (named others r.dot)) _ (right_live r e))
 
   abbrev IsLive : Row → Type 0
   IsLive q = (not (named (ops ++ others) q.dot) && among row_cmp (added (ops ++ others)) q) ≡ true
@@ -160,7 +153,7 @@ module _ (a b c : State) (ops others : List Operation) (sa : StandsFor a ops) (s
 
   complete : (q : Row) → IsLive q → higher (lesser row_cmp) (here a q) (here b q) ≡ present q
   complete q live =
-      let none = or_false (named ops q.dot) (named others q.dot) (sym (named_both q.dot) ∙ not_false _ (and-first _ _ live)) in
+      let none = or_parts (named ops q.dot) (named others q.dot) (sym (named_both q.dot) ∙ not-true _ (and-first _ _ live)) in
       or_cases (among row_cmp (added ops) q) (among row_cmp (added others) q) (sym (among-added-append ops others q) ∙ and-second (not (named (ops ++ others) q.dot)) _ live)
       (λ mine. with_right q none.1 mine (left_present q (in_left q none.0 mine)) _ refl)
       (λ theirs. with_left q none.0 theirs (right_present q (in_right q none.1 theirs)) _ refl)

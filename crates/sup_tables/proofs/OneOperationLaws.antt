@@ -5,6 +5,8 @@ use Rattle.std.specs.Ordering.{eq_by_cmp}
 use Rattle.std.proofs.Common.{sym, ap, ◌∙◌, arith}
 use mathlib.Core.Bool.{true≢false}
 use Rattle.std.proofs.lemmas.List.Folds.{list_any-append}
+use Rattle.std.proofs.Math.Bool.{or-false}
+use Rattle.std.proofs.lemmas.Option.{same_Some}
 use Rattle.sup_specs.specs.Values.{Bytes}
 use Rattle.sup_specs.specs.Rising.{among}
 use Rattle.sup_causal.specs.declared.dot.Dot.{Dot}
@@ -20,23 +22,16 @@ use Rattle.sup_tables.proofs.AddLaws.{same_row}
 use Rattle.sup_tables.proofs.GreatestLaws.{known_among}
 use Rattle.sup_tables.proofs.OneForm.{has_among, has_rising, dots_again, kept_of_stands, same_of_stands}
 
-or-none : (b : Bool) → (b || false) ≡ b
-or-none true = refl
-or-none false = refl
-
 row_of_option : (o : Option Row) (r : Row) → among row_cmp (cons_option o []) r ≡ true → o ≡ Some r
 row_of_option None r e = absurd (true≢false (sym e))
-row_of_option (Some q) r e = ap Some (sym (same_row r q (sym (or-none (eq_by_cmp row_cmp r q)) ∙ e)))
-
-some_same : (x y : Row) → Some x ≡ Some y → x ≡ y
-some_same x y e = cc
+row_of_option (Some q) r e = ap Some (sym (same_row r q (sym (or-false (eq_by_cmp row_cmp r q)) ∙ e)))
 
 one_clear : (op : Operation) → NoClash (op ∷ [])
-one_clear op r q e f same = some_same r q (sym (row_of_option op.add r e) ∙ row_of_option op.add q f)
+one_clear op r q e f same = same_Some r q (sym (row_of_option op.add r e) ∙ row_of_option op.add q f)
 
 pub one_stands : (op : Operation) → StandsFor (state_of_one op) (op ∷ [])
 one_stands op = record {
-  context = λ d. has_rising (dots_of op) d ∙ sym (known_among (op ∷ []) d ∙ list_any-append (eq_by_cmp dot_cmp d) (dots_of op) [] ∙ or-none _);
+  context = λ d. has_rising (dots_of op) d ∙ sym (known_among (op ∷ []) d ∙ list_any-append (eq_by_cmp dot_cmp d) (dots_of op) [] ∙ or-false _);
   rows = refl;
 }
 

@@ -8,8 +8,9 @@ use Rattle.std.specs.FinMap.Entries.{by_order}
 use Rattle.std.proofs.Common.{sym, ap, ◌∙◌, append_assoc}
 use Rattle.std.proofs.lemmas.Cmp.{eq_by_cmp_equiv}
 use Rattle.std.proofs.lemmas.List.{map-append}
-use Rattle.std.proofs.lemmas.List.Elements.{All-from_recursion}
+use Rattle.std.proofs.lemmas.List.Elements.{All-from_recursion, filter-append}
 use Rattle.std.proofs.lemmas.Slice.Eq.{bytes_eq-Decides}
+use Rattle.std.proofs.Math.Bool.{or-false, or-true}
 use Rattle.sup_specs.specs.Values.{Bytes, text_cmp}
 use Rattle.sup_specs.specs.Rising.{rising, put_in}
 use Rattle.sup_causal.specs.declared.dot.Dot.{Dot}
@@ -26,15 +27,7 @@ use Rattle.sup_tables.proofs.StoredLaws.{IsOrderedStored}
 use Rattle.sup_tables.proofs.OperationLaws.{both_ways}
 use Rattle.sup_tables.proofs.PointLaws.{same_text, text_itself}
 use Rattle.sup_tables.proofs.OrderedRows.{all_rows, stored_is}
-use Rattle.sup_tables.proofs.EntryLaws.{each_filtered, filter_none, filter_append}
-
-or-true : (b : Bool) → (b || true) ≡ true
-or-true true = refl
-or-true false = refl
-
-or-false : (b : Bool) → (b || false) ≡ b
-or-false true = refl
-or-false false = refl
+use Rattle.sup_tables.proofs.EntryLaws.{each_filtered, filter_none}
 
 cond_or : (b a : Bool) → cond b true a ≡ (a || b)
 cond_or true a = sym (or-true a)
@@ -77,7 +70,7 @@ module _ (id : Bytes) where
   names_dots : (es : Values Bytes) → map (λ r. r.dot) (filter stands_for (rows_in name_row es)) ≡ dots_to_in id (values_of es)
   names_dots [] = refl
   names_dots (e ∷ es) =
-      ap (map (λ r. r.dot)) (filter_append stands_for (map (λ f. name_row e.0 f.0 f.1) e.1.values.entries) (rows_in name_row es))
+      ap (map (λ r. r.dot)) (filter-append stands_for (map (λ f. name_row e.0 f.0 f.1) e.1.values.entries) (rows_in name_row es))
       ∙ map-append (λ r. r.dot) (filter stands_for (map (λ f. name_row e.0 f.0 f.1) e.1.values.entries)) (filter stands_for (rows_in name_row es))
       ∙ (λ i. key_dots e.0 e.1.values.entries i ++ names_dots es i)
 
@@ -86,9 +79,9 @@ module _ (id : Bytes) where
   stored_names_of context s o =
       ap (λ rs. map (λ r. r.dot) (filter stands_for rs)) (stored_is s o)
       ∙ ap (map (λ r. r.dot))
-      (filter_append stands_for (rows_in member_row s.member_values) (rows_in child_row s.child_values ++ rows_in name_row s.name_values)
+      (filter-append stands_for (rows_in member_row s.member_values) (rows_in child_row s.child_values ++ rows_in name_row s.name_values)
       ∙ (λ i. filter_none stands_for (rows_in member_row s.member_values) (all_rows member_row (λ r. stands_for r ≡ false) (λ k d v. refl) s.member_values) i
-      ++ filter_append stands_for (rows_in child_row s.child_values) (rows_in name_row s.name_values) i)
+      ++ filter-append stands_for (rows_in child_row s.child_values) (rows_in name_row s.name_values) i)
       ∙ ap (λ rs. rs ++ filter stands_for (rows_in name_row s.name_values)) (filter_none stands_for (rows_in child_row s.child_values) (all_rows child_row (λ r. stands_for r ≡ false) (λ k d v. refl) s.child_values)))
       ∙ names_dots s.name_values
 

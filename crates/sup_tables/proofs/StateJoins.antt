@@ -6,6 +6,7 @@ use Rattle.std.proofs.Common.{sym, ap, ◌∙◌, subst}
 use mathlib.Core.Path.{fun_ext}
 use Rattle.std.proofs.lemmas.List.Folds.{list_any-append}
 use Rattle.std.proofs.lemmas.Map.Views.{any-filter_same}
+use Rattle.std.proofs.lemmas.Bool.{or_left, or_right}
 use Rattle.sup_specs.specs.Values.{Bytes}
 use Rattle.sup_specs.specs.Rising.{among}
 use Rattle.sup_specs.proofs.RisingLaws.{rising_same}
@@ -20,7 +21,7 @@ use Rattle.sup_tables.specs.Operations.{same_rows}
 use Rattle.sup_tables.specs.States.{State, is_point, row_at, point, knowledge, together, together_laws}
 use Rattle.sup_tables.specs.Joined.{IsTables, no_state, row_of_both, is_row, stays, rows_of_both, join_states, covers_state}
 use Rattle.sup_tables.proofs.OperationLaws.{both_ways}
-use Rattle.sup_tables.proofs.AddLaws.{or-left, or-right, and-first, and-second, same_row, same_dot, dot_itself}
+use Rattle.sup_tables.proofs.AddLaws.{and-first, and-second, same_row, same_dot, dot_itself}
 use Rattle.sup_tables.proofs.PointLaws.{row_of_is, rising_found, rising_single, rising_again, rising_row}
 use Rattle.sup_tables.proofs.KnowledgeLaws.{present_row, same_knowledge, with_nothing}
 use Rattle.sup_tables.proofs.CoverLaws.{one_of_all, absorbed-true, same_rows-among}
@@ -78,8 +79,8 @@ module _ (a b : State) where
   row_there : (q : Row) → row_of_both a b q.dot (table_of q.entry) (key_of q.entry) ≡ Some q → among row_cmp (a.rows ++ b.rows) q ≡ true
   row_there q e =
       from_either (among row_cmp (a.rows ++ b.rows) q ≡ true) q.dot (table_of q.entry) (key_of q.entry) q e
-      (λ h _. list_any-append (eq_by_cmp row_cmp q) a.rows b.rows ∙ or-left _ _ h)
-      (λ h _. list_any-append (eq_by_cmp row_cmp q) a.rows b.rows ∙ or-right (among row_cmp a.rows q) _ h)
+      (λ h _. list_any-append (eq_by_cmp row_cmp q) a.rows b.rows ∙ or_left _ _ h)
+      (λ h _. list_any-append (eq_by_cmp row_cmp q) a.rows b.rows ∙ or_right (among row_cmp a.rows q) _ h)
 
   has_rows : (q : Row) → among row_cmp (rows_of_both a b) q ≡ is_row q (row_of_both a b q.dot (table_of q.entry) (key_of q.entry))
   has_rows q =
@@ -139,7 +140,7 @@ test_of_below a b ta e =
     let same : knowledge c ≡ knowledge a = knows_both a b ∙ together_laws.commutes (knowledge a) (knowledge b) ∙ e in
     let dots : list_all (has a.context) b.context ≡ true =
     all_from_each (has a.context) (eq_by_cmp dot_cmp) dot_itself b.context (λ d k.
-    sym (ap (λ m. m.0 d) same) ∙ has_both a b d ∙ or-right (has a.context d) _ (has_among b.context d ∙ k)) in
+    sym (ap (λ m. m.0 d) same) ∙ has_both a b d ∙ or_right (has a.context d) _ (has_among b.context d ∙ k)) in
     let rows : same_rows c.rows a.rows ≡ true = ap (λ x. same_rows x a.rows) (same_knowledge c a (tables_both a b).kept ta.kept same) ∙ same_rows_itself a.rows in
     λ i. dots i && rows i
 

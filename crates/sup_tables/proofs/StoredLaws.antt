@@ -12,6 +12,8 @@ use Rattle.std.proofs.lemmas.Map.{lookup-none}
 use Rattle.std.proofs.lemmas.Map.Entries.{none_past_head}
 use Rattle.std.proofs.lemmas.Map.Keys.{IsDistinct-from_sorted}
 use Rattle.std.proofs.lemmas.List.Folds.{list_any-append}
+use Rattle.std.proofs.lemmas.Bool.{false_from_ne_true}
+use Rattle.std.proofs.Math.Bool.{or-false}
 use Rattle.sup_specs.specs.Values.{Bytes, text_cmp}
 use Rattle.sup_specs.specs.OrderLaws.{text_total}
 use Rattle.sup_specs.specs.Rising.{among}
@@ -38,18 +40,10 @@ stored_row s d members k = option_map (member_row k d) (value_in s.member_values
 stored_row s d children k = option_map (child_row k d) (value_in s.child_values d k)
 stored_row s d names k = option_map (name_row k d) (value_in s.name_values d k)
 
-or-false : (b : Bool) → (b || false) ≡ b
-or-false true = refl
-or-false false = refl
-
-not_true : (b : Bool) → (b ≡ true → ⊥) → b ≡ false
-not_true true h = absurd (h refl)
-not_true false h = refl
-
 -- the rows of one key
 module _ {V : Type 0} (make : Dot → V → Row) (made : (d : Dot) (v : V) → (make d v).dot ≡ d) where
   other_dot : (q : Row) (e : Dot × V) → is_at (dot_cmp q.dot) e.0 ≡ false → eq_by_cmp row_cmp q (make e.0 e.1) ≡ false
-  other_dot q e h = not_true _ (λ t.
+  other_dot q e h = false_from_ne_true _ (λ t.
       let same : q.dot ≡ e.0 = ap (λ (r : Row). r.dot) (same_row q (make e.0 e.1) t) ∙ made e.0 e.1 in
       true≢false (sym (subst (λ d. is_at (dot_cmp q.dot) d ≡ true) same (dot_itself q.dot)) ∙ h))
 
@@ -75,7 +69,7 @@ module _ {V : Type 0} (make : Dot → V → Row) (made : (d : Dot) (v : V) → (
 module _ {V : Type 0} (make : Bytes → Dot → V → Row) (made_dot : (k : Bytes) (d : Dot) (v : V) → (make k d v).dot ≡ d) (made_key : (k : Bytes) (d : Dot) (v : V) → key_of (make k d v).entry ≡ k) where
   other_key : (q : Row) (k : Bytes) (o : Option V) → is_at (text_cmp (key_of q.entry)) k ≡ false → is_row_of q (option_map (make k q.dot) o) ≡ false
   other_key q k None h = refl
-  other_key q k (Some v) h = not_true _ (λ t.
+  other_key q k (Some v) h = false_from_ne_true _ (λ t.
       let same : key_of q.entry ≡ k = ap (λ (r : Row). key_of r.entry) (same_row q (make k q.dot v) t) ∙ made_key k q.dot v in
       true≢false (sym (subst (λ l. is_at (text_cmp (key_of q.entry)) l ≡ true) same (text_itself (key_of q.entry))) ∙ h))
 
@@ -106,7 +100,7 @@ module _ {V : Type 0} (make : Bytes → Dot → V → Row) (made_dot : (k : Byte
 -- a row is none of another table
 other_table : {V : Type 0} (make : V → Row) (n : ℕ) → ((v : V) → table_place (table_of (make v).entry) ≡ n) → (q : Row) → (table_place (table_of q.entry) ≡ n → ⊥) → (o : Option V) → is_row_of q (option_map make o) ≡ false
 other_table make n made q other None = refl
-other_table make n made q other (Some v) = not_true _ (λ t. other (ap (λ (r : Row). table_place (table_of r.entry)) (same_row q (make v) t) ∙ made v))
+other_table make n made q other (Some v) = false_from_ne_true _ (λ t. other (ap (λ (r : Row). table_place (table_of r.entry)) (same_row q (make v) t) ∙ made v))
 
 -- each map is in the order of its keys
 pub record IsOrderedStored (s : Stored) : Type 0 where

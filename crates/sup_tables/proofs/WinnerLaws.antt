@@ -11,8 +11,10 @@ use Rattle.std.specs.BTreeMap.{is_at as is_key}
 use Rattle.std.proofs.Common.{sym, ap, ◌∙◌}
 use Rattle.std.specs.Cmp.{tied_itself}
 use Rattle.std.proofs.lemmas.Cmp.{eq_by_cmp_equiv}
-use Rattle.std.proofs.lemmas.List.{map-append, drop-map}
+use Rattle.std.proofs.lemmas.List.{map-append, drop-map, append-nil}
 use Rattle.std.proofs.lemmas.List.Folds.{list_any-append}
+use Rattle.std.proofs.lemmas.List.Elements.{filter-append}
+use Rattle.std.proofs.Math.Bool.{or-false}
 use Rattle.sup_specs.specs.Values.{Bytes, text_cmp}
 use Rattle.sup_specs.specs.OrderLaws.{text_total, text_tie}
 use Rattle.sup_specs.specs.Rising.{rising, among}
@@ -27,7 +29,7 @@ use Rattle.sup_dot_store.specs.RowLists.{rows_in}
 use Rattle.sup_tables.specs.Stored.{Values, Stored, member_row, child_row, name_row, state_of, firsts_in, triple, values_under}
 use Rattle.sup_tables.proofs.StoredLaws.{IsOrderedStored}
 use Rattle.sup_tables.proofs.OrderedRows.{all_rows, stored_is, rising_already}
-use Rattle.sup_tables.proofs.EntryLaws.{key_rows, filter_all, filter_none, filter_append, nothing_after, member_entries, child_entries, name_entries, first_under}
+use Rattle.sup_tables.proofs.EntryLaws.{key_rows, filter_all, filter_none, member_entries, child_entries, name_entries, first_under}
 
 -- each value is found at its key
 module _ {V : Type 0} where
@@ -45,10 +47,6 @@ module _ {V : Type 0} where
   all_found [] s = tt
   all_found (e ∷ es) s =
       (ap (λ b. cond {A = Option (DotFun V)} b (Some e.1) (lookup (is_key (text_cmp e.0)) es)) (ap is_eq (tied_itself text_total e.0)), later_found e es es s.0 (all_found es s.1))
-
-or-false : (b : Bool) → (b || false) ≡ b
-or-false true = refl
-or-false false = refl
 
 once_more : (b c r : Bool) → c ≡ b → (b || r) ≡ b → (b || (c || r)) ≡ b
 once_more true c r e h = refl
@@ -97,8 +95,8 @@ module _ (context : Context) (s : Stored) (o : IsOrderedStored s) where
   in_table : (t : Table) → filter (is_in t) (state_of context s).rows ≡ filter (is_in t) (rows_in member_row s.member_values) ++ (filter (is_in t) (rows_in child_row s.child_values) ++ filter (is_in t) (rows_in name_row s.name_values))
   in_table t =
       ap (filter (is_in t)) (stored_is s o)
-      ∙ filter_append (is_in t) (rows_in member_row s.member_values) (rows_in child_row s.child_values ++ rows_in name_row s.name_values)
-      ∙ ap (λ rs. filter (is_in t) (rows_in member_row s.member_values) ++ rs) (filter_append (is_in t) (rows_in child_row s.child_values) (rows_in name_row s.name_values))
+      ∙ filter-append (is_in t) (rows_in member_row s.member_values) (rows_in child_row s.child_values ++ rows_in name_row s.name_values)
+      ∙ ap (λ rs. filter (is_in t) (rows_in member_row s.member_values) ++ rs) (filter-append (is_in t) (rows_in child_row s.child_values) (rows_in name_row s.name_values))
 
   these_members : (t : Table) (b : Bool) → ((k : Bytes) (d : Dot) (v : _) → is_in t (member_row k d v) ≡ b) → AllByRecursion (λ r. is_in t r ≡ b) (rows_in member_row s.member_values)
   these_members t b h = all_rows member_row (λ r. is_in t r ≡ b) h s.member_values
@@ -113,13 +111,13 @@ module _ (context : Context) (s : Stored) (o : IsOrderedStored s) where
   in_members =
       in_table members
       ∙ (λ i. filter_all (is_in members) _ (these_members members true (λ k d v. refl)) i ++ (filter_none (is_in members) _ (these_children members false (λ k d v. refl)) i ++ filter_none (is_in members) _ (these_names members false (λ k d v. refl)) i))
-      ∙ nothing_after _
+      ∙ append-nil _
 
   in_children : filter (is_in children) (state_of context s).rows ≡ rows_in child_row s.child_values
   in_children =
       in_table children
       ∙ (λ i. filter_none (is_in children) _ (these_members children false (λ k d v. refl)) i ++ (filter_all (is_in children) _ (these_children children true (λ k d v. refl)) i ++ filter_none (is_in children) _ (these_names children false (λ k d v. refl)) i))
-      ∙ nothing_after _
+      ∙ append-nil _
 
   in_names : filter (is_in names) (state_of context s).rows ≡ rows_in name_row s.name_values
   in_names =

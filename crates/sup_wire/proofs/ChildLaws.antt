@@ -1,7 +1,7 @@
 -- What children and members are: what is read was written so, and what is written so is read.
 use Rattle.std.proofs.Common.{◌≡◌, inl, inr, true, cond, [], ◌∷◌, Option, Some, None, codes, refl, ap, subst, ◌∙◌, arith}
 use Rattle.std.specs.Prelude.{option_and_then, bytes_eq}
-use Rattle.std.proofs.lemmas.Option.{option_and_then_some, same_Some}
+use Rattle.std.proofs.lemmas.Option.{option_and_then_some, same_Some, cond_some}
 use Rattle.sup_specs.specs.Values.{Bytes}
 use Rattle.serde_json.specs.Data.{Data, string, object, no_members, member}
 use Rattle.serde_json.specs.Find.{get, as_str}
@@ -18,7 +18,7 @@ use Rattle.sup_wire.specs.declared.version.Version.TheVariants.{One}
 use Rattle.sup_wire.specs.Forms.{restart_value, shutdown_value, IsShutdown, spec_value, IsSpec, info_value}
 use Rattle.sup_wire.specs.FieldReads.{has_just, within_at, text_in}
 use Rattle.sup_wire.specs.RowReads.{restart_at, shutdown_word, shutdown_millis, shutdown_from, shutdown_at, spec_fields, restart_in, shutdown_in, spec_in, spec_at, info_at}
-use Rattle.sup_wire.proofs.FieldLaws.{as_str-string, guarded, within_takes, within_again, just, text_in_takes, text_in_again, chosen, when, same}
+use Rattle.sup_wire.proofs.FieldLaws.{as_str-string, within_takes, within_again, just, text_in_takes, text_in_again, chosen, when, same}
 
 pub restart_takes : (d : Data) (r : Restart) → restart_at d ≡ Some r → d ≡ restart_value r
 unfolding restart_at
@@ -26,7 +26,7 @@ restart_takes d r e =
     option_and_then_some _ (as_str d) r e (λ text is rest. as_str-string d text is ∙ word text r rest)
   where
     third : (text : Bytes) (r : Restart) → cond (bytes_eq text (codes "temporary")) (Some Temporary) None ≡ Some r → string text ≡ restart_value r
-    third text r h = let p = guarded (bytes_eq text (codes "temporary")) Temporary r h in ap string (same text (codes "temporary") p.0) ∙ ap restart_value p.1
+    third text r h = let p = cond_some (bytes_eq text (codes "temporary")) Temporary r h in ap string (same text (codes "temporary") p.0) ∙ ap restart_value p.1
 
     second : (text : Bytes) (r : Restart) → cond (bytes_eq text (codes "transient")) (Some Transient) (cond (bytes_eq text (codes "temporary")) (Some Temporary) None) ≡ Some r → string text ≡ restart_value r
     second text r h = elim (chosen (bytes_eq text (codes "transient")) (Some Transient) _ (Some r) h) [
@@ -51,7 +51,7 @@ unfolding shutdown_at
 shutdown_takes d s e = at (as_str d) refl e
   where
     infinite : (text : Bytes) (s : Shutdown) → cond (bytes_eq text (codes "infinity")) (Some Infinity) None ≡ Some s → (string text ≡ shutdown_value s) × IsShutdown s
-    infinite text s h = let p = guarded (bytes_eq text (codes "infinity")) Infinity s h in
+    infinite text s h = let p = cond_some (bytes_eq text (codes "infinity")) Infinity s h in
         subst (λ (z : Shutdown). (string text ≡ shutdown_value z) × IsShutdown z) p.1 (ap string (same text (codes "infinity") p.0), tt)
 
     word : (text : Bytes) (s : Shutdown) → shutdown_word text ≡ Some s → (string text ≡ shutdown_value s) × IsShutdown s

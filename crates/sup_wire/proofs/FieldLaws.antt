@@ -1,14 +1,14 @@
 -- Fields: what is read was written so, and what is written so is read.
 use Rattle.std.proofs.Common.{◌≡◌, ◌≢◌, ◌≤◌, ◌⊎◌, inl, inr, ℕ, Bool, true, false, ◌&&◌, cond, List, [], ◌∷◌, Option, Some, None, codes, refl, sym, ap, ap₂, subst, ◌∙◌}
 use Rattle.std.specs.Prelude.{option_and_then, bytes_eq, nat_le}
-use Rattle.std.proofs.lemmas.Option.{option_and_then_some, same_Some, none-some}
+use Rattle.std.proofs.lemmas.Option.{option_and_then_some, same_Some, none-some, cond_some}
 use Rattle.std.proofs.lemmas.Slice.Eq.{bytes_eq-Decides}
 use Rattle.sup_specs.specs.Values.{Bytes}
 use Rattle.serde_json.specs.Data.{Data, null, boolean, number, unsigned, negative, float, string, array, object, Members, no_members, member}
 use Rattle.serde_json.specs.Find.{get, as_str}
 use Rattle.sup_specs.specs.Texts.{IsText, text_fault}
 use Rattle.sup_specs.specs.declared.texts.Alphabet.TheVariants.{NodeBytes, Visible}
-use Rattle.std.proofs.lemmas.Bool.{and_parts, leb-true, le-leb, false≢true}
+use Rattle.std.proofs.lemmas.Bool.{and_parts, leb-true, le-leb, false≢true, false_from_ne_true}
 use Rattle.sup_specs.specs.declared.texts.TextFault.{TextFault}
 use Rattle.sup_specs.proofs.TextLemmas.{text_from_no_fault, no_fault_from_text}
 use Rattle.sup_wire.specs.Forms.{count_value, IsName, AreEnds}
@@ -59,10 +59,6 @@ pub text_again : (least most : ℕ) (s : Bytes) → IsText Visible least most s 
 unfolding text_at
 text_again least most s is = ap (λ f. unfaulted f s) (no_fault_from_text Visible least most s is)
 
-pub guarded : {A : Type 0} (b : Bool) (x y : A) → cond b (Some x) None ≡ Some y → (b ≡ true) × (x ≡ y)
-guarded true x y e = (refl, same_Some x y e)
-guarded false x y e = absurd (none-some y e)
-
 barred : {A : Type 0} (b : Bool) (x y : A) → cond b None (Some x) ≡ Some y → (b ≡ false) × (x ≡ y)
 barred true x y e = absurd (none-some y e)
 barred false x y e = (refl, same_Some x y e)
@@ -71,7 +67,7 @@ pub within_takes : (least most : ℕ) (d : Data) (n : ℕ) → within_at least m
 unfolding within_at
 within_takes least most d n e =
     option_and_then_some _ (number_at d) n e (λ m is rest.
-    let p = guarded (nat_le least m && nat_le m most) m n rest in
+    let p = cond_some (nat_le least m && nat_le m most) m n rest in
     let q = and_parts (nat_le least m) (nat_le m most) p.0 in
     (number_at-count d m is ∙ ap count_value p.1, subst (λ k. least ≤ k) p.1 (leb-true least m q.0), subst (λ k. k ≤ most) p.1 (leb-true m most q.1)))
 
@@ -139,12 +135,8 @@ version_is d x n there e = number_at-count x n (sym (ap (λ o. option_and_then n
 pub kind_is : (d x : Data) (kind : Bytes) → get (codes "kind") d ≡ Some x → kind_at d ≡ Some kind → x ≡ string kind
 kind_is d x kind there e = as_str-string x kind (sym (ap (λ o. option_and_then as_str o) there) ∙ e)
 
-not_true : (b : Bool) → (b ≡ true → ⊥) → b ≡ false
-not_true true h = absurd (h refl)
-not_true false h = refl
-
 pub not_equal : (a b : Bytes) → a ≢ b → bytes_eq a b ≡ false
-not_equal a b h = not_true (bytes_eq a b) (λ e. h ((bytes_eq-Decides a b).0 e))
+not_equal a b h = false_from_ne_true (bytes_eq a b) (λ e. h ((bytes_eq-Decides a b).0 e))
 
 pub ends_again : (d : Data) (from to : Bytes) → get (codes "from") d ≡ Some (string from) → get (codes "to") d ≡ Some (string to) → AreEnds from to → ends_at d ≡ Some (from, to)
 unfolding ends_at name_in

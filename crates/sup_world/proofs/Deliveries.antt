@@ -5,7 +5,7 @@ use Prim.Native.Nat.{zero, suc}
 use Rattle.std.proofs.Common.{sym, ap, ◌∙◌, subst, arith}
 use Rattle.std.proofs.lemmas.Bool.{eqb-true, eqb-false}
 use Rattle.std.proofs.lemmas.List.{take_all}
-use Rattle.std.proofs.lemmas.Option.{none-some}
+use Rattle.std.proofs.lemmas.Option.{none-some, same_Some}
 use Rattle.json.specs.Json.{value}
 use Rattle.json.specs.Lex.{punctuate, lex}
 use Rattle.serde_json.specs.Read.{read}
@@ -82,10 +82,8 @@ pub letter_found : (sent : List (Mail State)) (letters : List Letter) (i : ℕ) 
 letter_found [] [] i letter h e = absurd (none-some letter e)
 letter_found [] (y ∷ ys) i letter h e = absurd h
 letter_found (x ∷ xs) [] i letter h e = absurd h
-letter_found (x ∷ xs) (y ∷ ys) zero letter h e = (x, refl, subst (λ (l : Letter). IsLetter x l) (the_same y letter e) h.0)
+letter_found (x ∷ xs) (y ∷ ys) zero letter h e = (x, refl, subst (λ (l : Letter). IsLetter x l) (same_Some y letter e) h.0)
   where
-    the_same : (a b : Letter) → Some a ≡ Some b → a ≡ b
-    the_same a b q = cc
 letter_found (x ∷ xs) (y ∷ ys) (suc i) letter h e = letter_found xs ys i letter h.1 e
 
 pub letter_absent : (sent : List (Mail State)) (letters : List Letter) (i : ℕ) → AllZip IsLetter sent letters → slice_get letters i ≡ None → slice_get sent i ≡ None

@@ -5,16 +5,10 @@ use Rattle.std.specs.Str.{bytes_eq}
 use Rattle.std.specs.Cmp.Lexicographic.{nat_list_eq_equiv}
 use Rattle.std.proofs.Common.{sym, ap, ◌∙◌}
 use Rattle.std.proofs.lemmas.Map.Text.{is_eq-slice_cmp}
+use Rattle.std.proofs.lemmas.Bool.{or_parts, or_from}
 use mathlib.Core.Bool.{true≢false}
 use Rattle.sup_specs.specs.Values.{Bytes}
 use Rattle.sup_model.specs.Follows.{Apart, Distinct}
-
-neither : (a b : Bool) → (a || b) ≡ false → (a ≡ false) × (b ≡ false)
-neither true b e = absurd (true≢false e)
-neither false b e = (refl, e)
-
-nor : (a b : Bool) → a ≡ false → b ≡ false → (a || b) ≡ false
-nor a b e f = ap (λ x. x || b) e ∙ f
 
 turned : (x y : Bytes) → bytes_eq x y ≡ bytes_eq y x
 turned x y = nat_list_eq_equiv.symm x y
@@ -25,12 +19,12 @@ found_in name others = list_any (λ o. bytes_eq o name) others
 pub apart_unfound : (name : Bytes) (others : List Bytes) → found_in name others ≡ false → Apart name others
 apart_unfound name [] e = tt
 apart_unfound name (o ∷ os) e =
-    let n = neither (bytes_eq o name) (found_in name os) e in
+    let n = or_parts (bytes_eq o name) (found_in name os) e in
     (is_eq-slice_cmp name o ∙ turned name o ∙ n.0, is_eq-slice_cmp o name ∙ n.0, apart_unfound name os n.1)
 
 pub unfound_apart : (name : Bytes) (others : List Bytes) → Apart name others → found_in name others ≡ false
 unfound_apart name [] a = refl
-unfound_apart name (o ∷ os) a = nor (bytes_eq o name) (found_in name os) (sym (is_eq-slice_cmp o name) ∙ a.1) (unfound_apart name os a.2)
+unfound_apart name (o ∷ os) a = or_from (bytes_eq o name) (found_in name os) (sym (is_eq-slice_cmp o name) ∙ a.1) (unfound_apart name os a.2)
 
 pub differ_more : (name : Bytes) (others : List Bytes) (found more : Bool) → found ≡ found_in name others → found ≡ false
     → (IsTrue more → Distinct others) × (Distinct others → IsTrue more) → (IsTrue more → Distinct (name ∷ others)) × (Distinct (name ∷ others) → IsTrue more)

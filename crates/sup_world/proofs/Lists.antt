@@ -4,7 +4,7 @@ use Rattle.std.specs.List.{AllZip, position_or_len}
 use Prim.Native.Nat.{zero, suc}
 use Rattle.std.specs.Option.{option_map, unwrap_or}
 use Rattle.std.proofs.Common.{sym, ap, ◌∙◌, subst, arith}
-use Rattle.std.proofs.lemmas.List.{take_more, take_all, take-append-le}
+use Rattle.std.proofs.lemmas.List.{take_more, take_all, take-append-le, map_push}
 use Rattle.sup_specs.specs.Values.{Bytes}
 use Rattle.sup_replica.specs.declared.refusal.Refusal.{Refusal}
 use Rattle.sup_replica.specs.Nodes.{is_named}
@@ -51,11 +51,6 @@ seen_place (s ∷ ss) name d lt =
 pub failures_place : (sites : List Seen) (name : Bytes) (d : Seen) → place sites name < length sites → failures_at sites name ≡ (slice_index_or sites (place sites name) d).failures
 failures_place sites name d lt = ap (λ (o : Option Seen). unwrap_or (option_map (λ (s : Seen). s.failures) o) 0) (seen_place sites name d lt)
 
--- lists side by side, of which one grows
-map_more : {A B : Type 0} (f : A → B) (xs : List A) (x : A) → map f (xs ++ x ∷ []) ≡ map f xs ++ f x ∷ []
-map_more f [] x = refl
-map_more f (y ∷ ys) x = ap (λ zs. f y ∷ zs) (map_more f ys x)
-
 zip_more : {A B : Type 0} (R : A → B → Type 0) (xs : List A) (ys : List B) (x : A) (y : B) → AllZip R xs ys → R x y → AllZip R (xs ++ x ∷ []) (ys ++ y ∷ [])
 zip_more R [] [] x y h r = (r, tt)
 zip_more R [] (b ∷ bs) x y h r = absurd h
@@ -69,7 +64,7 @@ module _ {A B C : Type 0} (R : A → B → Type 0) (f : C → B) where
   zip_taken names i name xs x lt is r h =
       let all : take (i + 1) names ≡ take i names ++ name ∷ [] = take_more names i name lt ∙ ap (λ n. take i names ++ n ∷ []) (sym is) in
       subst (λ ns. AllZip R ns (map f (xs ++ x ∷ []))) (sym all)
-      (subst (AllZip R (take i names ++ name ∷ [])) (sym (map_more f xs x)) (zip_more R (take i names) (map f xs) name (f x) h r))
+      (subst (AllZip R (take i names ++ name ∷ [])) (sym (map_push f xs x)) (zip_more R (take i names) (map f xs) name (f x) h r))
 
 -- nodes of which one changes
 module _ (R : Seen → Seen → Type 0) (itself : (s : Seen) → R s s) where

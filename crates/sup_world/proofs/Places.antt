@@ -3,6 +3,7 @@ use Rattle.std.specs.Prelude.{◌≡◌, ℕ, ◌+◌, ◌<◌, true, false, con
 use Rattle.std.specs.List.{AllZip, position_or_len}
 use Rattle.std.specs.Cmp.{Equal-is, tied_itself}
 use Rattle.std.proofs.Common.{sym, ap, ◌∙◌, subst, arith}
+use Rattle.std.proofs.lemmas.Option.{same_Some}
 use Rattle.sup_specs.specs.Values.{Bytes}
 use Rattle.sup_specs.specs.OrderLaws.{text_total, text_tie}
 use Rattle.sup_tables.specs.States.{State}
@@ -100,14 +101,12 @@ set_same (x ∷ ss) (p ∷ ps) name post new h lt e s =
     elim (is_named name x.name) as (λ b. is_named name (name_of p) ≡ b → cond (not b) (1 + place ss name) 0 < length (x ∷ ss) → AllZip SiteStands (slice_set (x ∷ ss) (cond (not b) (1 + place ss name) 0) new) (p ∷ ps)) [
       | true ↦ λ t f.
           let same : Some p ≡ Some post = sym (ap (λ b. cond b (Some p) (post_in ps name)) t) ∙ e in
-          (subst (λ (y : Post State). SiteStands new y) (the_same post p (sym same)) s, h.1)
+          (subst (λ (y : Post State). SiteStands new y) (same_Some post p (sym same)) s, h.1)
       | false ↦ λ t f.
           subst (λ i. AllZip SiteStands (slice_set (x ∷ ss) i new) (p ∷ ps)) (sym (one_more (place ss name)))
           (h.0, set_same ss ps name post new h.1 (omega (arith, f)) (sym (ap (λ b. cond b (Some p) (post_in ps name)) t) ∙ e) s)
     ] (ap (is_named name) (sym h.0.name)) lt
   where
-    the_same : (a b : Post State) → Some a ≡ Some b → a ≡ b
-    the_same a b q = cc
 
 -- the names are what they were
 pub set_names : (sites : List Seen) (name : Bytes) (new : Seen) → name ≡ new.name → place sites name < length sites → map (λ (s : Seen). s.name) (slice_set sites (place sites name) new) ≡ map (λ (s : Seen). s.name) sites
