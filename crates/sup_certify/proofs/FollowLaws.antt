@@ -21,8 +21,8 @@ use Rattle.sup_world.specs.Seen.{Seen}
 use Rattle.sup_certify.specs.Orders.{Placed}
 use Rattle.sup_certify.specs.Certified.{IsRunBy, MakeRun, answer_of}
 use Rattle.sup_certify.specs.Follows.{IsSaidAsOf, KnowsAll, IsRunOf}
-use Rattle.sup_certify.proofs.Counts.{FailedAtMost, failed_once_more, unfailed, can_fail, carried_same}
-use Rattle.sup_certify.proofs.Messages.{allowed_same}
+use Rattle.sup_world.proofs.Counts.{FailedAtMost, failed_once_more, unfailed, can_fail, carried_same}
+use Rattle.sup_model.proofs.Messages.{allowed_same}
 
 said_as : (e : Result Expected Refusal) (a : Result Told Refusal) (x : Answer) → IsAsOf e a → answer_of a ≡ x → IsSaidAsOf e x
 said_as (Ok expected) (Ok told) x h eq = subst (λ (y : Answer). IsSaidAsOf (Ok expected) y) eq (record { reply = h.reply; effects = h.effects; lettered = h.lettered ∙ ap is_some h.number })

@@ -23,3 +23,4 @@ pub mod ArrivalLaws
 pub mod MemoryLaws
 pub mod Unlikes
 pub mod RunLists
+pub mod Messages

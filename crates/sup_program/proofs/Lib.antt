@@ -1,7 +1,5 @@
 pub mod SettleRuns
 pub mod PlayedRuns
-pub mod Messages
-pub mod Counts
 pub mod Lines
 pub mod DryLines
 pub mod Playing

@@ -18,15 +18,15 @@ use Rattle.sup_world.specs.declared.answer.Answer.{Answer}
 use Rattle.sup_world.specs.declared.settled.Settled.{Settled}
 use Rattle.sup_world.specs.Carrying.{carried, letter_of, Knows}
 use Rattle.sup_world.specs.Following.{StandsFor, Follows, Steps}
-use Rattle.sup_world.specs.Seen.{Seen}
+use Rattle.sup_world.specs.Seen.{Seen, CanFail}
 use Rattle.sup_world.specs.Settling.{SettlesTo}
 use Rattle.sup_world.specs.Telling.{Shows}
 use Rattle.sup_lines.specs.declared.line.Line.{Line}
 use Rattle.sup_lines.specs.declared.line.Line.TheVariants as line
 use Rattle.sup_text.specs.Answers.{refusal_text, settled_text}
 use Rattle.sup_program.specs.Prints.{Scene, Does, TellsMessages, said_of, image_text, letter_text, message_text}
-use Rattle.sup_program.specs.Playing.{CanFail, MaySpeak, Speaks}
-use Rattle.sup_program.proofs.Counts.{carried_same}
+use Rattle.sup_program.specs.Playing.{MaySpeak, Speaks}
+use Rattle.sup_world.proofs.Counts.{carried_same}
 
 -- what is told of all bytes is told of a step's
 pub knows : (is_message : Bytes → Bool) (step : Step) → TellsMessages is_message → Knows is_message step

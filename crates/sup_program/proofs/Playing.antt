@@ -20,7 +20,7 @@ use Rattle.sup_program.specs.Prints.{Scene, Prints, TellsMessages}
 use Rattle.sup_program.specs.Plays.{Plays, PrintsAllFrom, PrintsShortFrom, PrintsUntil}
 use Rattle.sup_program.specs.Playing.{Speaks, PlaysLine}
 use Rattle.sup_program.proofs.PlayedRuns.{line_run}
-use Rattle.sup_program.proofs.Messages.{run_same}
+use Rattle.sup_model.proofs.Messages.{run_same}
 
 -- lines that were played and written, and the model world that they reach
 pub record PlaysTo (weigher : Weigher) (peers : List Bytes) (old : Scene) (lines : List Line) (sites : List Seen) (before written : KnownBytes) : Type 0 where

@@ -1,9 +1,8 @@
 -- What playing one line does (this project): the code's world follows some line of the model's, and the writer has got its text, or a front of it.
-use Rattle.std.specs.Prelude.{◌≡◌, ◌<◌, ◌⊎◌, ℕ, false, All, List, Result, Ok, Err}
+use Rattle.std.specs.Prelude.{◌≡◌, ◌⊎◌, ℕ, false, List, Result, Ok, Err}
 use Rattle.std.specs.Io.KnownBytes.{Appends, Keeps}
 use Rattle.sup_specs.specs.Values.{Bytes as Name}
 use Rattle.sup_placement.specs.Place.{Weigher}
-use Rattle.sup_keeper.specs.Keeping.{most}
 use Rattle.sup_jobs.specs.Ends.{KnownBytes}
 use Rattle.sup_jobs.specs.Tells.{IsCutShort}
 use Rattle.sup_jobs.specs.declared.fault.Fault.{Fault}
@@ -24,10 +23,6 @@ BringsNoBytes (line.Inspect name) = Unit {0}
 BringsNoBytes (line.Image name) = Unit {0}
 BringsNoBytes (line.Where name sought) = Unit {0}
 BringsNoBytes (line.Message name k) = Unit {0}
-
--- each keeper can count one failure more
-abbrev pub CanFail : List Seen → Type 0
-CanFail sites = All (λ s. s.failures < most) sites
 
 -- what the line prints, and the model world that the code's then stands for
 pub record Speaks (weigher : Weigher) (peers : List Name) (s : Scene) (line : Line) (new : List Seen) : Type 0 where

@@ -23,3 +23,4 @@ pub mod Making
 pub mod UpNames
 pub mod Settles
 pub mod Running
+pub mod Counts

@@ -1,6 +1,6 @@
 use Rattle.std.specs.Prelude.{vec_items}
 use Rattle.std.proofs.Common.{◌∙◌, ap}
-use Rattle.sup_program.proofs.Counts.{failed_no_more}
+use Rattle.sup_world.proofs.Counts.{failed_no_more}
 use Rattle.sup_program.proofs.Lines.{settled_said, settle_speaks, spoken}
 use Rattle.sup_program.proofs.line.exchange_text.Goals as goal
 

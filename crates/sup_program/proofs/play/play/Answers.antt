@@ -1,6 +1,6 @@
 use Rattle.std.proofs.Common.{arith}
 use Rattle.sup_world.specs.Seen.{sites_of}
-use Rattle.sup_program.proofs.Counts.{failed_once_more, unfailed}
+use Rattle.sup_world.proofs.Counts.{failed_once_more, unfailed}
 use Rattle.sup_program.proofs.Playing.{begins, goes_on, whole, ended, of_fault}
 use Rattle.sup_program.proofs.play.play.Goals as goal
 

@@ -3,7 +3,7 @@ use Rattle.sup_model.specs.Worlds.{World}
 use Rattle.sup_world.specs.Following.{StandsFor}
 use Rattle.sup_world.specs.Seen.{sites_of}
 use Rattle.sup_program.specs.Prints.{TellsMessages}
-use Rattle.sup_program.proofs.Counts.{FailedAtMost}
+use Rattle.sup_world.proofs.Counts.{FailedAtMost}
 use Rattle.sup_program.proofs.Playing.{PlaysTo}
 use Rattle.sup_program.proofs.play.play.Given as goal
 
