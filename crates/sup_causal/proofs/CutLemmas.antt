@@ -45,7 +45,7 @@ entry_head e es node h = ap (λ b. unwrap_or (cond b (Some e.1) (lookup (eq_by_c
 entry_tail : (e : List ℕ × ℕ) (es : List (List ℕ × ℕ)) (node : List ℕ) → is_eq (text_cmp node e.0) ≡ false → entry (e ∷ es) node ≡ entry es node
 entry_tail e es node h = ap (λ b. unwrap_or (cond b (Some e.1) (lookup (eq_by_cmp text_cmp node) es)) 0) h
 
-below_place : (e : List ℕ × ℕ) (es : List (List ℕ × ℕ)) → IsStrictlySortedBy (λ (a b : List ℕ × ℕ). text_cmp a.0 b.0) (e ∷ es) → (i : ℕ) (node : List ℕ) (d : List ℕ × ℕ) → i < length es → text_cmp (get_or es i d).0 node ≡ Equal → text_cmp e.0 node ≡ Less
+pub below_place : (e : List ℕ × ℕ) (es : List (List ℕ × ℕ)) → IsStrictlySortedBy (λ (a b : List ℕ × ℕ). text_cmp a.0 b.0) (e ∷ es) → (i : ℕ) (node : List ℕ) (d : List ℕ × ℕ) → i < length es → text_cmp (get_or es i d).0 node ≡ Equal → text_cmp e.0 node ≡ Less
 unfolding IsStrictlySortedBy
 below_place e es s i node d within tie =
     subst (λ m. text_cmp e.0 m ≡ Less) (exact_bytes (get_or es i d).0 node tie) (All-from_recursion (λ (y : List ℕ × ℕ). text_cmp e.0 y.0 ≡ Less) es s.0 i d within)

@@ -121,7 +121,7 @@ or_within : (a b : Bool) → (a ≡ true → b ≡ true) → (a || b) ≡ b
 or_within true b h = sym (h refl)
 or_within false b h = refl
 
-within_or : (a b : Bool) → (a || b) ≡ b → a ≡ true → b ≡ true
+pub within_or : (a b : Bool) → (a || b) ≡ b → a ≡ true → b ≡ true
 within_or true b e h = sym e
 within_or false b e h = absurd (false≢true h)
 

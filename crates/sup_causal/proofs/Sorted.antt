@@ -40,7 +40,7 @@ unfolding IsStrictlySortedBy
 keys_rise_from_pairs R [] s = tt
 keys_rise_from_pairs R (e ∷ es) s = (key_each (λ k. R e.0 k ≡ Less) es s.0, keys_rise_from_pairs R es s.1)
 
-less_from_is_lt : (o : Ordering) → is_lt o ≡ true → o ≡ Less
+pub less_from_is_lt : (o : Ordering) → is_lt o ≡ true → o ≡ Less
 less_from_is_lt Less e = refl
 less_from_is_lt Equal e = absurd (false≢true e)
 less_from_is_lt Greater e = absurd (false≢true e)

@@ -19,6 +19,7 @@ use Rattle.sup_causal.proofs.Rising.{rising_insert, each_insert}
 use Rattle.sup_causal.proofs.Sorted.{pairs_rise, keys_rise_from_pairs}
 use Rattle.sup_causal.proofs.DotLemmas.{equal_from_is_eq}
 use Rattle.sup_causal.specs.Parts.{IsVersions, in_vector}
+use Rattle.sup_causal.proofs.CutLemmas.{below_place}
 
 unwrapped : (b : Bool) (n : ℕ) (o : Option ℕ) → unwrap_or (cond b (Some n) o) 0 ≡ cond b n (unwrap_or o 0)
 unwrapped true n o = refl
@@ -31,10 +32,6 @@ turned : (a b : List ℕ) → eq_by_cmp text_cmp a b ≡ eq_by_cmp text_cmp b a
 turned a b = (eq_by_cmp_equiv nat_list_cmp_total).symm a b
 
 -- ---- an entry written at its place
-later_node : (e : List ℕ × ℕ) (es : List (List ℕ × ℕ)) → IsStrictlySortedBy (λ (a b : List ℕ × ℕ). text_cmp a.0 b.0) (e ∷ es) → (i : ℕ) (node : List ℕ) (d : List ℕ × ℕ) → i < length es → text_cmp (get_or es i d).0 node ≡ Equal → text_cmp e.0 node ≡ Less
-unfolding IsStrictlySortedBy
-later_node e es s i node d within tie =
-    subst (λ m. text_cmp e.0 m ≡ Less) (exact_bytes (get_or es i d).0 node tie) (All-from_recursion (λ (y : List ℕ × ℕ). text_cmp e.0 y.0 ≡ Less) es s.0 i d within)
 
 set_first : (e : List ℕ × ℕ) (es : List (List ℕ × ℕ)) (node q : List ℕ) (n : ℕ) → e.0 ≡ node → entry ((node, n) ∷ es) q ≡ cond (eq_by_cmp text_cmp node q) n (entry (e ∷ es) q)
 set_first e es node q n is = at (eq_by_cmp text_cmp q node) refl
@@ -64,7 +61,7 @@ unfolding IsStrictlySortedBy
 entry_set [] s i node n d within tie q = absurd (omega (arith, within))
 entry_set (e ∷ es) s zero node n d within tie q = set_first e es node q n (exact_bytes e.0 node tie)
 entry_set (e ∷ es) s (suc i) node n d within tie q =
-    set_later e es (set es i (node, n)) node q n (later_node e es s i node d (omega (arith, within)) tie) (entry_set es s.1 i node n d (omega (arith, within)) tie q)
+    set_later e es (set es i (node, n)) node q n (below_place e es s i node d (omega (arith, within)) tie) (entry_set es s.1 i node n d (omega (arith, within)) tie q)
 
 keys_set : (es : List (List ℕ × ℕ)) (i : ℕ) (node : List ℕ) (n : ℕ) (d : List ℕ × ℕ) → i < length es → text_cmp (get_or es i d).0 node ≡ Equal → keys_of (set es i (node, n)) ≡ keys_of es
 keys_set [] i node n d within tie = absurd (omega (arith, within))

@@ -18,8 +18,9 @@ use Rattle.sup_model.specs.Worlds.{or_refused}
 use Rattle.sup_model.specs.Posts.{Post, Real, RealStepped, reads, post_of, with_post, mail_of, mailed, real_acted, target_here, arrives, post_step, real_step}
 use Rattle.sup_model.proofs.Afters.{After, after-refused_if, after-then_do, after-or_refused}
 use Rattle.sup_model.proofs.CleanWorld.{find-in}
-use Rattle.sup_certify.proofs.OrderLaws.{named_itself, named_same}
+use Rattle.sup_model.proofs.ExchangeLaws.{get_last}
 use Rattle.sup_certify.proofs.NameLaws.{StaysNamed, arrives_named, post_named}
+use Rattle.sup_node.proofs.PlanLaws.{named_itself, named_same}
 
 before_one : (k n : ℕ) → (k ≡ 0 → ⊥) → k - 1 ≡ n → k ≡ n + 1
 before_one k n some e = grind arith
@@ -32,9 +33,6 @@ one_off n = omega arith
 
 -- ---- a list of letters with one more, if there is one
 module _ {X : Type 0} where
-  behind : (xs : List X) (x : X) → slice_get (xs ++ x ∷ []) (length xs) ≡ Some x
-  behind [] x = refl
-  behind (y ∷ ys) x = behind ys x
 
   still : (xs : List X) (x : X) (i : ℕ) (y : X) → slice_get xs i ≡ Some y → slice_get (xs ++ x ∷ []) i ≡ Some y
   still [] x i y e = absurd (none-some y e)
@@ -57,7 +55,7 @@ module _ {K : Type 0} where
   mailed_newer sent (Some m) i mail e = elim (newer sent m i mail e) [ inl h ↦ inl h | inr h ↦ inr (h.0, ap Some h.1) ]
 
   mailed_behind : (sent : List (Mail K)) (letter : Option (Mail K)) (mail : Mail K) → letter ≡ Some mail → slice_get (mailed sent letter) (length sent) ≡ Some mail
-  mailed_behind sent letter mail e = ap (λ l. slice_get (mailed sent l) (length sent)) e ∙ behind sent mail
+  mailed_behind sent letter mail e = ap (λ l. slice_get (mailed sent l) (length sent)) e ∙ get_last sent mail
 
   abbrev in_list : List (Mail K) → ℕ → Option (Mail K)
   in_list sent k = if k == 0 then None else slice_get sent (k - 1)

@@ -15,12 +15,7 @@ use Rattle.sup_plan.specs.declared.histories.History.{History}
 use Rattle.sup_model.specs.Follows.{Apart, Distinct}
 use Rattle.sup_certify.specs.Orders.{Placed, of_node, is_among}
 use Rattle.sup_certify.specs.Progress.{IsPlaced, IsWhole}
-
-pub named_itself : (x : Bytes) → is_named x x ≡ true
-named_itself x = (Equal-is _).1 (tied_itself text_total x)
-
-pub named_same : (x y : Bytes) → is_named x y ≡ true → x ≡ y
-named_same x y e = text_tie x y ((Equal-is _).0 e)
+use Rattle.sup_node.proofs.PlanLaws.{named_itself, named_same}
 
 -- one entry more
 pub of_node_more : (name : Bytes) (order : List Placed) (p : Placed) → of_node name (order ++ p ∷ []) ≡ of_node name order ++ of_node name (p ∷ [])

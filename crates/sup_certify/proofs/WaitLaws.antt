@@ -22,7 +22,7 @@ use Rattle.sup_certify.specs.Progress.{Reaches, names_of}
 use Rattle.sup_certify.specs.Faults.{IsAwaiting, Waits, WaitsAt, WaitsIn, WaitsNamed, Misses, IsMiss, IsFaultFrom}
 use Rattle.sup_certify.specs.declared.fault.CertifyFault.{CertifyFault}
 use Rattle.sup_certify.specs.declared.fault.CertifyFault.TheVariants.{Stuck, Differs, OutOfMemory}
-use Rattle.sup_certify.proofs.OrderLaws.{named_itself, named_same}
+use Rattle.sup_node.proofs.PlanLaws.{named_itself, named_same}
 
 none_below : (n : ℕ) → n < 0 → ⊥
 none_below n h = omega (arith, h)

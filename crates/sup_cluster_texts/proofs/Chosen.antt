@@ -4,6 +4,7 @@ use Rattle.std.specs.List.{list_any, IsDistinct, AllByRecursion}
 use Rattle.std.proofs.lemmas.Option.{none-some}
 use Rattle.std.proofs.lemmas.Map.Keys.{IsDistinct-cons, IsDistinct-head, IsDistinct-tail}
 use Rattle.std.proofs.lemmas.Bool.{or_parts, and_parts, not-true}
+use Rattle.sup_plan.proofs.Apart.{unfound}
 
 pub chosen : {A : Type 0} (b : Bool) (o : Option A) (x : A) → (if b then o else None) ≡ Some x → (b ≡ true) × (o ≡ Some x)
 chosen true o x e = (refl, e)
@@ -21,9 +22,6 @@ same_ok x y h = cc
 
 -- d asks the same of two items as e does, whichever comes first
 module _ {K : Type 0} (e d : K → K → Bool) (same : (x y : K) → d x y ≡ e y x) where
-  pub unfound : (x : K) (xs : List K) → list_any (λ y. d y x) xs ≡ false → AllByRecursion (λ y. e x y ≡ false) xs
-  unfound x [] h = tt
-  unfound x (y ∷ ys) h = let n = or_parts (d y x) (list_any (λ z. d z x) ys) h in (sym (same y x) ∙ n.0, unfound x ys n.1)
 
 -- a test that is the same and_parts ways
 module _ {K : Type 0} (e : K → K → Bool) (turns : (x y : K) → e x y ≡ e y x) where

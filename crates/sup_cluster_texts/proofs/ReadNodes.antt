@@ -12,10 +12,9 @@ use Rattle.sup_lines.specs.Values.{node_name_of}
 use Rattle.sup_lines.specs.Opening.{are_distinct, distinct_names_of, if_distinct, names_of}
 use Rattle.sup_lines.specs.Script.{is_plain, words_of}
 use Rattle.sup_cluster_lines.specs.Nodes.{few_nodes_of, opening_of}
-use Rattle.sup_cluster_texts.proofs.Chosen.{chosen, unfound}
-
-pub turned : (x y : List ℕ) → bytes_eq x y ≡ bytes_eq y x
-turned x y = nat_list_eq_equiv.symm x y
+use Rattle.sup_cluster_texts.proofs.Chosen.{chosen}
+use Rattle.sup_plan.proofs.Apart.{unfound}
+use Rattle.sup_plan.proofs.Names.{turned}
 
 differ : (names : List Name) → are_distinct names ≡ true → IsDistinct bytes_eq names
 unfolding IsDistinct

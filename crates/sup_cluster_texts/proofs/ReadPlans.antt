@@ -11,6 +11,7 @@ use Rattle.sup_plan.specs.declared.plan.Plan.{Plan}
 use Rattle.sup_plan.specs.declared.plan.Route.{Route}
 use Rattle.sup_plan.specs.Plans as plans
 use Rattle.sup_plan.specs.Plans.{IsPlan, may_tell, is_same_link}
+use Rattle.sup_plan.proofs.Names.{turned}
 use Rattle.sup_lines.specs.Words.{Name, ◌>>=◌}
 use Rattle.sup_lines.specs.Script.{numbered_lines}
 use Rattle.sup_cluster_lines.specs.Nodes.{opening_of}
@@ -19,7 +20,7 @@ use Rattle.sup_cluster_lines.specs.Script.{Asked, Said, link, command, is_same_p
 use Rattle.sup_cluster_texts.specs.Plans.{IsPlanOf}
 use Rattle.sup_cluster_texts.proofs.Chosen.{distinct_push, distinct_views, left_out, not_err, same_ok}
 use Rattle.sup_cluster_texts.proofs.ReadLines.{Fits, has_ends, said_fits}
-use Rattle.sup_cluster_texts.proofs.ReadNodes.{AreFew, opened_few, turned}
+use Rattle.sup_cluster_texts.proofs.ReadNodes.{AreFew, opened_few}
 
 -- what is asked of these nodes can be done in a run
 record CanDo (nodes : List Bytes) (asked : Asked) : Type 0 where

@@ -13,6 +13,7 @@ use Rattle.sup_node_gate.specs.declared.entry.Entry.{Entry}
 use Rattle.sup_node_gate.specs.declared.view.View.{View}
 use Rattle.sup_node_gate.specs.Histories.{Answer, Standing, entered, standing_of, is_entered, may_enter, entry}
 use Rattle.sup_node_gate.specs.Calls.{Enters, Refuses, Acts}
+use Rattle.sup_node_gate.proofs.StationParts.{enters}
 use Rattle.sup_plan.specs.Calls.{brought, deliveries}
 use Rattle.sup_plan.specs.Sublists.{Sublist}
 use Rattle.sup_posts.specs.Rounds.{effects_of}
@@ -21,11 +22,6 @@ use Rattle.sup_posts.specs.declared.thread_fault.ThreadFault.TheVariants.{Histor
 use Rattle.sup_driving.specs.Called.{Called, SeesMore, IsFaultIn, NotEntered, StopsCalling, letter_of}
 use Rattle.sup_posts.proofs.Sublists.{sub_more, sub_both}
 
-stands : (r : Refusal) → is_entered r ≡ true → standing_of r ≡ entered
-stands HistoryFull e = absurd cc
-stands OutOfMemory e = absurd cc
-stands r e = refl
-
 entered_called : (g : Weigher) (s : Still) (v : View) (a : Act) (now : ℕ) (r : Answer) (v' : View) → Enters g s v (entry a now r) v' → Called v a now (effects_of r) (letter_of r) v'
 entered_called g s v a now r v' e = record { answer = r; before = e.before; begins = e.begins; ends = e.ends; own = e.calls; effects_are = refl; letter_is = refl }
 
@@ -33,7 +29,7 @@ entered_called g s v a now r v' e = record { answer = r; before = e.before; begi
 pub acts_called : (g : Weigher) (s : Still) (bound : ℕ) (v : View) (a : Act) (now : ℕ) (r : Answer) (v' : View) → Acts g s bound v a now r v' → may_enter r ≡ true → Called v a now (effects_of r) (letter_of r) v'
 acts_called g s bound v a now (Ok done) v' acts may = entered_called g s v a now (Ok done) v' acts
 acts_called g s bound v a now (Err r) v' acts may =
-    entered_called g s v a now (Err r) v' (subst (λ (k : Standing). Refuses k g s bound v (entry a now (Err r)) v') (stands r may) acts)
+    entered_called g s v a now (Err r) v' (subst (λ (k : Standing). Refuses k g s bound v (entry a now (Err r)) v') (enters r may) acts)
 
 -- a call whose answer isn't entered
 pub acts_refused : (g : Weigher) (s : Still) (bound : ℕ) (v : View) (a : Act) (now : ℕ) (r : Answer) (v' : View) (f : ThreadFault)

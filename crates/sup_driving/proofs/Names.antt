@@ -3,7 +3,4 @@ use Rattle.std.specs.Prelude.{◌≡◌}
 use Rattle.std.specs.Str.{bytes_eq}
 use Rattle.sup_specs.specs.Values.{Bytes}
 use Rattle.sup_replica.specs.Nodes.{is_named}
-use Rattle.sup_plan.proofs.Names.{named as same}
-
-pub named : (x y : Bytes) → is_named x y ≡ bytes_eq x y
-named x y = same x y
+use Rattle.sup_plan.proofs.Names.{named as same, named}

@@ -17,7 +17,7 @@ use Rattle.sup_tables.specs.Rows.{table_place, table_of, key_of, place_cmp, valu
 use Rattle.sup_tables.specs.RowLaws.{place_total}
 use Rattle.sup_tables.specs.States.{HasDotsOf, row_at, is_point, IsKept}
 use Rattle.sup_tables.proofs.AddLaws.{same_row}
-use Rattle.sup_tables.proofs.OrderedRows.{rising_already}
+use Rattle.sup_tables.proofs.OrderedRows.{rising_already, all_row_less}
 use Rattle.sup_tables.proofs.PointLaws.{find_some, find_none, at_point, point_itself}
 
 less_is_not_equal : (o : Ordering) → o ≡ Less → o ≡ Equal → ⊥
@@ -45,14 +45,10 @@ one_at_place (x ∷ xs) rises q r has_q has_r e f = elim (or_cases (eq_by_cmp ro
   ]
 ]
 
-all_rise_by_row : (q : Row) (rows : List Row) → AllByRecursion (λ r. place_cmp q r ≡ Less) rows → AllByRecursion (λ r. row_cmp q r ≡ Less) rows
-all_rise_by_row q [] all = tt
-all_rise_by_row q (r ∷ rs) all = (ap (λ o. ordering_then o (value_cmp q.entry r.entry)) all.0, all_rise_by_row q rs all.1)
-
 rise_by_row : (rows : List Row) → AreInOrder rows → IsStrictlySortedBy row_cmp rows
 unfolding IsStrictlySortedBy
 rise_by_row [] rises = tt
-rise_by_row (r ∷ rs) rises = (all_rise_by_row r rs rises.0, rise_by_row rs rises.1)
+rise_by_row (r ∷ rs) rises = (all_row_less r rs rises.0, rise_by_row rs rises.1)
 
 single : (rows : List Row) → AreInOrder rows → (r : Row) → among row_cmp rows r ≡ true → row_at rows r.dot (table_of r.entry) (key_of r.entry) ≡ Some r
 unfolding IsStrictlySortedBy

@@ -12,15 +12,11 @@ use Rattle.sup_specs.specs.declared.limits.TheConstants.{MAX}
 use Rattle.sup_causal.specs.declared.dot.Dot.{Dot}
 use Rattle.sup_causal.specs.Dots.{dot_cmp}
 use Rattle.sup_causal.specs.Cut.{entry, in_parts}
+use Rattle.sup_causal.proofs.Sorted.{less_from_is_lt}
 use Rattle.sup_tables.specs.declared.row.Row.{Row}
 use Rattle.sup_tables.specs.Rows.{place_cmp}
 use Rattle.sup_wire.specs.Drafts.{Parts, Draft, ack, push, delta, image, AreCanonical, IsSound}
 use Rattle.sup_message_texts.specs.Messages.{rises, is_within, is_canonical_vector, is_canonical_cloud, has_canonical_rows, are_canonical, is_sound}
-
-less_if : (o : Ordering) → is_lt o ≡ true → o ≡ Less
-less_if Less e = refl
-less_if Equal e = absurd (true≢false (sym e))
-less_if Greater e = absurd (true≢false (sym e))
 
 module _ {X : Type 0} (test : X → Bool) (P : X → Type 0) where
   each_if : ((x : X) → test x ≡ true → P x) → (xs : List X) → list_all test xs ≡ true → AllByRecursion P xs
@@ -37,7 +33,7 @@ module _ {X : Type 0} (cmp : X → X → Ordering) where
   rising_if [] e = tt
   rising_if (x ∷ xs) e =
       let b = and_parts (list_all (λ y. is_lt (cmp x y)) xs) (rises cmp xs) e in
-      (each_if (λ y. is_lt (cmp x y)) (λ y. cmp x y ≡ Less) (λ y. less_if (cmp x y)) xs b.0, rising_if xs b.1)
+      (each_if (λ y. is_lt (cmp x y)) (λ y. cmp x y ≡ Less) (λ y. less_from_is_lt (cmp x y)) xs b.0, rising_if xs b.1)
 
   if_rising : (xs : List X) → IsStrictlySortedBy cmp xs → rises cmp xs ≡ true
   unfolding IsStrictlySortedBy

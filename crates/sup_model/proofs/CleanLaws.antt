@@ -24,6 +24,8 @@ use Rattle.sup_tables.specs.Operations.{Operation, known, named, added, live, gr
 use Rattle.sup_tables.specs.Makers.{finish_child, drop_member}
 use Rattle.sup_tables.proofs.AddLaws.{among-added-append}
 use Rattle.sup_tables.specs.RowLaws.{row_tie}
+use Rattle.sup_tables.proofs.PointLaws.{text_itself, same_text}
+use Rattle.sup_tables.proofs.OneOperationLaws.{row_of_option}
 use Rattle.sup_local_sup.specs.declared.effect.Effect.{Effect}
 use Rattle.sup_local_sup.specs.Supervising.{Supervisor, with_all, forgotten, wanted_after, wanted_effects, others}
 use Rattle.sup_replica.specs.declared.event.Event.{Event}
@@ -50,7 +52,7 @@ use Rattle.sup_model.proofs.Afters.{After, after-refused_if, after-then_do, afte
 use Rattle.sup_anti_entropy.specs.Peers.{In}
 use Rattle.sup_anti_entropy.proofs.StepLaws.{in-last}
 use Rattle.sup_model.specs.Clean.{HasRow, ops_in}
-use Rattle.sup_model.proofs.TopLaws.{known-greatest, text_same, text_itself}
+use Rattle.sup_model.proofs.TopLaws.{known-greatest}
 use Rattle.sup_model.proofs.IssueLaws.{Issued, Adds, IsTop, join_issued, leave_issued, start_issued, replace_issued, delete_issued, register_issued, unregister_issued, removing_issued, added-greatest, reading_top}
 
 abbrev pub letter_ops : Option (Message Ops) → Ops
@@ -82,15 +84,9 @@ row-left ops others x e = among-added-append ops others x ∙ or_left _ _ e
 pub row-right : (ops others : Ops) (x : Row) → HasRow others x → HasRow (ops ++ others) x
 row-right ops others x e = among-added-append ops others x ∙ or_right _ _ e
 
-row_of-option : (o : Option Row) (x : Row) → among row_cmp (cons_option o []) x ≡ true → o ≡ Some x
-row_of-option None x e = absurd (true≢false (sym e))
-row_of-option (Some r) x e =
-    let same : eq_by_cmp row_cmp x r ≡ true = or-cases (eq_by_cmp row_cmp x r) false (eq_by_cmp row_cmp x r ≡ true) e (λ a. a) (λ a. absurd (true≢false (sym a))) in
-    ap (λ (y : Row). Some y) (sym (row_tie x r ((Rattle.std.specs.Cmp.Equal-is _).0 same)))
-
 -- the row of one operation
 pub row-one : (op : Operation) (x : Row) → HasRow (op ∷ []) x → op.add ≡ Some x
-row-one op x e = row_of-option op.add x e
+row-one op x e = row_of_option op.add x e
 
 row_of-some : (o : Option Row) (x : Row) → o ≡ Some x → among row_cmp (cons_option o []) x ≡ true
 row_of-some o x e = subst (λ o. among row_cmp (cons_option o []) x ≡ true) (sym e) (or_left (eq_by_cmp row_cmp x x) false (Rattle.sup_model.proofs.TopLaws.row_itself x))

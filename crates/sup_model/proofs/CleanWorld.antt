@@ -9,6 +9,7 @@ use Rattle.sup_specs.specs.Values.{Bytes}
 use Rattle.sup_causal.specs.declared.dot.Dot.{Dot}
 use Rattle.sup_tables.specs.declared.row.Row.{Row}
 use Rattle.sup_tables.specs.Operations.{greatest, NoClash}
+use Rattle.sup_tables.proofs.PointLaws.{text_itself, same_text}
 use Rattle.sup_replica.specs.declared.done.Reply.{Reply}
 use Rattle.sup_replica.specs.declared.done.Reply.TheVariants.{Added as adds_one, Replaced, Removed, Restarted, Finished, GaveUp, Sent, Absorbed, Known, Acked, Stopped, Boot}
 use Rattle.sup_replica.specs.declared.refusal.Refusal.{Refusal}
@@ -26,7 +27,6 @@ use Rattle.sup_model.proofs.Afters.{After, after-refused_if, after-then_do, afte
 use Rattle.sup_anti_entropy.specs.Peers.{In}
 use Rattle.sup_anti_entropy.proofs.StepLaws.{in-last}
 use Rattle.sup_model.specs.Clean.{HasRow, ops_in, InLetter, SiteHas, Added, Clean}
-use Rattle.sup_model.proofs.TopLaws.{text_same, text_itself}
 use Rattle.sup_model.proofs.IssueLaws.{added-greatest, some_same}
 use Rattle.sup_model.proofs.CleanLaws.{Takes, Has, letter_ops, act_take, deliver_take, kept_by_after, row-append, row-left, row-right}
 
@@ -201,7 +201,7 @@ home_stays w site here o t clean x h =
     elim (put-in (λ s. is_named o.node.name s.node.name) new w.sites h.site h.there) [
       | inl g ↦ record { site = h.site; there = g.1; known = h.known; own = h.own }
       | inr g ↦
-          let same : o.node.name ≡ h.site.node.name = text_same o.node.name h.site.node.name g.0 in
+          let same : o.node.name ≡ h.site.node.name = same_text o.node.name h.site.node.name g.0 in
           let own : x.dot.node ≡ site.node.name = h.own ∙ sym same ∙ t.name in
           record { site = new; there = g.1; known = t.keeps x (clean.home x (record { site = h.site; there = h.there; has = inl h.known }) site here own); own = own ∙ sym t.name }
     ]

@@ -31,19 +31,16 @@ use Rattle.sup_model.specs.Posts.{Post, arrives}
 use Rattle.sup_replica.specs.Stations.{receiver_of}
 use Rattle.sup_model.specs.Stands.{NodeStands, MessageStands, OutcomeStands, Together, BothOrNone}
 use Rattle.sup_model.specs.Joint.{Trio, Joint, model_of, letter_of, peer, Peers, MailStands, TrioStands, Holds}
-use Rattle.sup_model.proofs.TopLaws.{text_same, text_itself, alike_of_Covers}
+use Rattle.sup_model.proofs.TopLaws.{alike_of_Covers}
 use Rattle.sup_tables.proofs.CoverTests.{Covers-from_test, test-from_Covers}
+use Rattle.sup_tables.proofs.PointLaws.{text_itself, same_text}
+use Rattle.sup_tables.proofs.OperationLaws.{both_ways}
 use Rattle.sup_model.proofs.IssueLaws.{some_same}
 use Rattle.sup_model.proofs.CleanWorld.{no_clash}
 use Rattle.sup_model.proofs.SimLaws.{kept_stands, reconciled_stands, changes_same}
 use Rattle.sup_model.proofs.ActLaws.{now_still, now_changed, notes_valid, change_of, Act, kept_after, kept_fits, trio_with, in-letters, noted_moves, still_moves}
 use Rattle.sup_model.proofs.MailLaws.{in-sites, through, no_letters, none_fresh}
 use Rattle.sup_model.proofs.ShipLaws.{covers_below}
-
-both_ways : (a b : Bool) → (a ≡ true → b ≡ true) → (b ≡ true → a ≡ true) → a ≡ b
-both_ways true b f g = sym (f refl)
-both_ways false true f g = g refl
-both_ways false false f g = refl
 
 module _ {K : Type 0} (k : Knowledge K) (view : View K) (laws : Laws k view) where
   -- a content brings a node what a list of operations is
@@ -289,7 +286,7 @@ module _ {K : Type 0} (k : Knowledge K) (view : View K) (laws : Laws k view) whe
         fresh = λ x e. none_fresh k view laws (Peers view j.trios) (peer view (trio_with k view laws t (acknowledged k st by n) t.site.node t.past None None)) x e;
         moves = moves_ack view.joins (Peers view j.trios) (peer view t) (λ q. if is_named q by then v else st.acked q) h.sound (t, c.receiver, refl) (λ q w.
             (elim (eq_by_cmp text_cmp q.name by) as (λ b. eq_by_cmp text_cmp q.name by ≡ b → Has view.joins (peer view t) (if b then v else st.acked q.name) q) [
-              | true ↦ λ e. subst (λ y. Has view.joins (peer view t) v y) (sym (is_sender j s h c.sender q w (sym c.stands.0 ∙ sym (text_same q.name by e)))) most
+              | true ↦ λ e. subst (λ y. Has view.joins (peer view t) v y) (sym (is_sender j s h c.sender q w (sym c.stands.0 ∙ sym (same_text q.name by e)))) most
               | false ↦ λ _. (h.sound.between (peer view t) q (t, c.receiver, refl) w).acked
             ] refl));
       }
@@ -336,7 +333,7 @@ module _ {K : Type 0} (k : Knowledge K) (view : View K) (laws : Laws k view) whe
       model_side (Act k view laws j t) (arrives k j.weigher st (a_delta by to n whole content) drop saves) j.weigher t.site.node from (drop == 0) saves m.content st.node.up t.site.node.up (is_named to st.node.name) (is_named m.to t.site.node.name) is_delta m.kind e.up named c.stands.2
       (three_checks (Act k view laws j t) st.node.up (drop == 0) (is_named to st.node.name) saves x y (λ o. moved k o (notes k st o.node content) ack_letter) (λ is.
       absorb_together j t h c.receiver content m.content ack_letter (Some (record { to = by; kind = is_ack; content = k.nothing })) (Some (record { to = from; kind = is_ack; content = [] }))
-      (delta_arrival j s t from by to n whole content m h c (text_same to st.node.name is)) (record { to = source; kind = refl; content = laws.none }) saves))
+      (delta_arrival j s t from by to n whole content m h c (same_text to st.node.name is)) (record { to = source; kind = refl; content = laws.none }) saves))
   arrives_together j s t from (a_push by to content) m h c drop saves =
       let st = t.post.station in
       let e = (h.each t c.receiver).node in
@@ -354,5 +351,5 @@ module _ {K : Type 0} (k : Knowledge K) (view : View K) (laws : Laws k view) whe
       let y = takes by_operations j.weigher t.site.node from is_ack m.content in
       model_side (Act k view laws j t) (arrives k j.weigher st (an_ack by to n) drop saves) j.weigher t.site.node from (drop == 0) saves m.content st.node.up t.site.node.up (is_named to st.node.name) (is_named m.to t.site.node.name) is_ack m.kind e.up named c.stands.2
       (ack_checks (Act k view laws j t) st.node.up (drop == 0) (is_named to st.node.name) saves st.node.count n x y (h.each t c.receiver).fits refl (λ is.
-      let same = text_same to st.node.name is in
+      let same = same_text to st.node.name is in
       ((ack_has j s t from by to n m h c same).counted, ack_act j s t from by to n m h c same)))

@@ -8,6 +8,7 @@ use Rattle.std.proofs.lemmas.Bool.{ne_eqb}
 use Rattle.std.proofs.lemmas.Option.{none-some, same_Some}
 use Rattle.sup_specs.specs.Values.{Bytes}
 use Rattle.sup_tables.specs.Operations.{Covers, covers}
+use Rattle.sup_tables.proofs.PointLaws.{text_itself, same_text}
 use Rattle.sup_replica.specs.declared.event.Act.TheVariants.{Event as Of}
 use Rattle.sup_replica.specs.declared.event.Event.TheVariants.{Ship}
 use Rattle.sup_replica.specs.declared.done.Reply.TheVariants.{Sent as IsSent}
@@ -23,7 +24,6 @@ use Rattle.sup_model.specs.Runs.{IsCoveredShip}
 use Rattle.sup_model.proofs.Afters.{After, after-refused_if, after-then_do, after-or_refused}
 use Rattle.sup_anti_entropy.specs.Settling.{TookIn}
 use Rattle.sup_model.specs.Settles.{known_at, Sent, Exchanged}
-use Rattle.sup_model.proofs.TopLaws.{text_itself, text_same}
 use Rattle.sup_model.proofs.CleanLaws.{kept_by_after}
 use Rattle.sup_model.proofs.OperationJoins.{operation_joins}
 use Rattle.sup_model.proofs.SettleStands.{took_delivery, took_nothing}
@@ -51,7 +51,7 @@ other-put [] t name n = refl
 other-put (x ∷ xs) t name n =
     elim (is_named t.node.name x.node.name) as (λ b. is_named t.node.name x.node.name ≡ b → cond (is_named name (if b then t else x).node.name) (Some (if b then t else x)) (find_site (put xs t) name) ≡ cond (is_named name x.node.name) (Some x) (find_site xs name)) [
       | true ↦ λ h.
-          let m : is_named name x.node.name ≡ false = subst (λ y. is_named name y ≡ false) (text_same t.node.name x.node.name h) n in
+          let m : is_named name x.node.name ≡ false = subst (λ y. is_named name y ≡ false) (same_text t.node.name x.node.name h) n in
           ap (λ c. cond c (Some t) (find_site (put xs t) name)) n ∙ other-put xs t name n ∙ sym (ap (λ c. cond c (Some x) (find_site xs name)) m)
       | false ↦ λ h. ap (λ o. cond (is_named name x.node.name) (Some x) o) (other-put xs t name n)
     ] refl
@@ -61,7 +61,7 @@ found_name : (sites : List Site) (name : Bytes) (s : Site) → find_site sites n
 found_name [] name s e = absurd (none-some s e)
 found_name (x ∷ xs) name s e =
     elim (is_named name x.node.name) as (λ b. is_named name x.node.name ≡ b → cond b (Some x) (find_site xs name) ≡ Some s → name ≡ s.node.name) [
-      | true ↦ λ t f. text_same name x.node.name t ∙ ap (λ (y : Site). y.node.name) (same_Some x s f)
+      | true ↦ λ t f. same_text name x.node.name t ∙ ap (λ (y : Site). y.node.name) (same_Some x s f)
       | false ↦ λ t f. found_name xs name s f
     ] refl e
 
@@ -83,7 +83,7 @@ module _ (w : World) (s t : Site) (name : Bytes) (found : site_of w name ≡ Som
   put_still still other =
       elim (is_named other name) as (λ b. is_named other name ≡ b → known_at (with_site w t) other ≡ known_at w other) [
         | true ↦ λ h.
-            let e : other ≡ name = text_same other name h in
+            let e : other ≡ name = same_text other name h in
             subst (λ n. known_at (with_site w t) n ≡ known_at w n) (sym e)
             (ap (option_map (λ (x : Site). x.node.known)) put_here ∙ ap (λ (k : Ops). Some k) still ∙ sym (ap (option_map (λ (x : Site). x.node.known)) found))
         | false ↦ λ h. put_there other h
@@ -139,7 +139,7 @@ deliver_after w from k now saves =
     (λ p q. record { sender = s; sends = f; message = m; there = g; receiver = r; receives = e; is = ap (acted w r) q }))))
 
 -- the last message of a node is found under its number
-get_last : {X : Type 0} (xs : List X) (x : X) → slice_get (xs ++ x ∷ []) (length xs) ≡ Some x
+pub get_last : {X : Type 0} (xs : List X) (x : X) → slice_get (xs ++ x ∷ []) (length xs) ≡ Some x
 get_last [] x = refl
 get_last (y ∷ xs) x = get_last xs x
 

@@ -12,13 +12,14 @@ use Rattle.sup_specs.specs.Rising.{rising, among}
 use Rattle.sup_specs.proofs.RisingLaws.{among-rising}
 use Rattle.sup_causal.specs.declared.dot.Dot.{Dot}
 use Rattle.sup_causal.specs.Dots.{dot_cmp, dot_eq}
+use Rattle.sup_causal.proofs.DotLemmas.{dot_eq-true}
 use Rattle.sup_tables.specs.declared.row.Row.{Row}
 use Rattle.sup_tables.specs.Rows.{Table, members, children, names, row_cmp, is_at}
 use Rattle.sup_tables.specs.Operations.{Operation, known, named, added, live, greatest}
 use Rattle.sup_tables.specs.Readers.{is_present, live_dots, entries}
 use Rattle.sup_tables.specs.Makers.{put_member, drop_member, put_child, replace_child, drop_child, put_name, drop_name, finish_child, removing}
 use Rattle.sup_tables.specs.RowLaws.{row_total, row_tie}
-use Rattle.sup_tables.proofs.AddLaws.{known_of_added}
+use Rattle.sup_tables.proofs.AddLaws.{known_of_added, row_itself}
 use Rattle.sup_tables.proofs.CoverLaws.{live-parts}
 use Rattle.sup_replica.specs.declared.refusal.Refusal.{Refusal}
 use Rattle.sup_replica.specs.declared.refusal.Refusal.TheVariants.{AlreadyPresent, NotFound, AlreadyMember, NotMember, NameTaken, NoSuchChild, NameUnknown, DotsSpent, TableFull}
@@ -29,7 +30,7 @@ use Rattle.sup_replica.specs.Commands.{Reading, next, is_full, is_spent, join, l
 use Rattle.sup_model.specs.Worlds.{Ops}
 use Rattle.sup_model.proofs.Afters.{After, after-refused_if}
 use Rattle.sup_model.specs.Laws.{IsOperation}
-use Rattle.sup_model.proofs.TopLaws.{known-greatest, dot_same, row_itself}
+use Rattle.sup_model.proofs.TopLaws.{known-greatest}
 
 pub record Issued (r : Reading) (op : Operation) : Type 0 where
   pub dot : (x : Row) → op.add ≡ Some x → x.dot ≡ next r
@@ -55,7 +56,7 @@ entry_of (y ∷ ys) p d e =
     elim (p y) as (λ b. among dot_cmp (map (λ r. r.dot) (cond b (y ∷ filter p ys) (filter p ys))) d ≡ true → (x : Row) × (among row_cmp (y ∷ ys) x ≡ true) × (d ≡ x.dot)) [
       | true ↦ λ f.
           elim (dot_eq d y.dot) as (λ b. dot_eq d y.dot ≡ b → (b || among dot_cmp (map (λ r. r.dot) (filter p ys)) d) ≡ true → (x : Row) × (among row_cmp (y ∷ ys) x ≡ true) × (d ≡ x.dot)) [
-            | true ↦ λ s _. (y, ap (λ b. b || among row_cmp ys y) (row_itself y), dot_same d y.dot s)
+            | true ↦ λ s _. (y, ap (λ b. b || among row_cmp ys y) (row_itself y), dot_eq-true d y.dot s)
             | false ↦ λ _ g. later g
           ] refl f
       | false ↦ later

@@ -19,8 +19,8 @@ use Rattle.sup_model.specs.Posts.{Post, Real, with_post, post_of}
 use Rattle.sup_model.specs.Stands.{NodeStands}
 use Rattle.sup_model.specs.Clean.{Clean}
 use Rattle.sup_model.specs.Joint.{Trio, Joint, real_of, model_of, letter_of, peer, Peers, MailStands, AllMail, TrioStands, Holds}
-use Rattle.sup_model.proofs.TopLaws.{text_same, text_itself}
 use Rattle.sup_model.proofs.CleanWorld.{in-put}
+use Rattle.sup_tables.proofs.PointLaws.{text_itself, same_text}
 
 module _ {K : Type 0} where
   -- the list with r in place of its namesakes

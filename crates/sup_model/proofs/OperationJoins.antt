@@ -22,24 +22,22 @@ use Rattle.sup_tables.specs.RowLaws.{row_total, row_tie}
 use Rattle.sup_tables.proofs.AddLaws.{known_of_added, known_of_named, added_of_known, among-added-append}
 use Rattle.sup_tables.proofs.CoverLaws.{Below, below-from_Covers, Covers-from_below, covers_itself, covers_trans, live-parts, live-from}
 use Rattle.sup_causal.proofs.GreatestLaws.{one_greatest, of_same}
+use Rattle.sup_causal.proofs.DotLemmas.{dot_eq-true}
 use Rattle.sup_tables.proofs.GreatestLaws.{greatest_is}
 use Rattle.sup_replica.specs.Nodes.{by_operations}
 use Rattle.sup_model.specs.Worlds.{Ops}
 use Rattle.sup_anti_entropy.specs.Joins.{Joins}
 use Rattle.sup_model.specs.Clean.{HasRow}
 use Rattle.sup_model.specs.Laws.{View, Laws, Alike}
-use Rattle.sup_model.proofs.TopLaws.{known-greatest, dot_same, text_same}
+use Rattle.sup_model.proofs.TopLaws.{known-greatest}
 use Rattle.sup_tables.proofs.CoverTests.{Covers-from_test, test-from_Covers}
+use Rattle.sup_tables.proofs.PointLaws.{same_text}
+use Rattle.sup_tables.proofs.OperationLaws.{both_ways}
 use Rattle.sup_model.proofs.CleanLaws.{row-append, row-left, row-right}
 
 or-cases : (x y : Bool) (P : Type 0) → (x || y) ≡ true → (x ≡ true → P) → (y ≡ true → P) → P
 or-cases true y P e f g = f refl
 or-cases false y P e f g = g e
-
-both_ways : (a b : Bool) → (a ≡ true → b ≡ true) → (b ≡ true → a ≡ true) → a ≡ b
-both_ways true b f g = sym (f refl)
-both_ways false true f g = g refl
-both_ways false false f g = refl
 
 named-append : (ops others : Ops) (d : Dot) → named (ops ++ others) d ≡ (named ops d || named others d)
 named-append ops others d = list_any-append (λ op. among dot_cmp op.removes d) ops others

@@ -7,6 +7,7 @@ use Rattle.std.proofs.lemmas.Bool.{le-leb, lt-leb, leb-true, eqb-true}
 use Rattle.std.proofs.lemmas.Option.{none-some}
 use Rattle.sup_specs.specs.Values.{Bytes, text_cmp}
 use Rattle.sup_tables.specs.Operations.{Operation, covers, Covers, NoClash}
+use Rattle.sup_tables.proofs.PointLaws.{text_itself, same_text}
 use Rattle.sup_replica.specs.declared.event.Event.{Event}
 use Rattle.sup_replica.specs.declared.event.Act.TheVariants.{Event as Of}
 use Rattle.sup_replica.specs.declared.event.Event.TheVariants.{Ship}
@@ -29,7 +30,7 @@ use Rattle.sup_replica.specs.Stations.{Station, Mail, a_delta, a_push, an_ack, M
 use Rattle.sup_anti_entropy.specs.Buffers.{Shipment}
 use Rattle.sup_model.specs.Stands.{NodeStands, OutcomeStands, Together, BothOrNone}
 use Rattle.sup_model.specs.Joint.{Trio, Joint, model_of, letter_of, peer, Peers, AllValid, MailStands, TrioStands, Holds}
-use Rattle.sup_model.proofs.TopLaws.{text_same, text_itself, Covers_of_alike}
+use Rattle.sup_model.proofs.TopLaws.{Covers_of_alike}
 use Rattle.sup_model.proofs.IssueLaws.{some_same}
 use Rattle.sup_model.proofs.CleanWorld.{no_clash}
 use Rattle.sup_model.proofs.ActLaws.{Act, trio_with, in-drop, sem-length, sem-newest}

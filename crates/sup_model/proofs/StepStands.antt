@@ -7,6 +7,7 @@ use mathlib.Core.Bool.{true≢false}
 use mathlib.Core.Logic.{◌⊎◌, inl, inr}
 use Rattle.sup_specs.specs.Values.{Bytes}
 use Rattle.sup_tables.specs.Operations.{Covers}
+use Rattle.sup_tables.proofs.PointLaws.{same_text}
 use Rattle.sup_replica.specs.declared.event.Event.{Event}
 use Rattle.sup_replica.specs.declared.event.Event.TheVariants.{Join, Leave, Start, Replace, Delete, Register, Unregister, Exit, Ship, Push, Deliver}
 use Rattle.sup_replica.specs.declared.event.Act.TheVariants.{Event as Of, Stop, Restart}
@@ -29,7 +30,6 @@ use Rattle.sup_replica.specs.Stations.{Station, Mail, a_delta, a_push, an_ack, M
 use Rattle.sup_model.specs.Posts.{Post, Real, RealAnswer, RealStepped, post_of, mail_of, real_acted, target_here, arrives, real_step}
 use Rattle.sup_model.specs.Stands.{NodeStands, Together, BothOrNone}
 use Rattle.sup_model.specs.Joint.{Trio, Joint, real_of, model_of, peer, Peers, MailStands, AllMail, TrioStands, Holds, AnswerStands}
-use Rattle.sup_model.proofs.TopLaws.{text_same}
 use Rattle.sup_model.proofs.IssueLaws.{some_same}
 use Rattle.sup_model.proofs.CleanWorld.{get-in, step_clean}
 use Rattle.sup_model.proofs.JointLaws.{with_trio, Goes, goes_holds, Names, real_put, model_put, Found, Missing, looked_up}
@@ -124,7 +124,7 @@ module _ {K : Type 0} (k : Knowledge K) (view : View K) (laws : Laws k view) whe
   ship_at j at f h to now saves (inl g) =
       let C = MayBeUpToDate (model_of j) (AtNode at (Of (Ship to)) now saves) in
       let covered : Covers g.trio.site.node.known f.trio.site.node.known → C = λ c. record { sender = f.trio.site; target = g.trio.site; is_sender = f.site; is_target = g.site; covered = c } in
-      let named = text_same to g.trio.site.node.name g.named ∙ sym (h.each g.trio g.there).node.name in
+      let named = same_text to g.trio.site.node.name g.named ∙ sym (h.each g.trio g.there).node.name in
       let both = ship_together k view laws j f.trio g.trio h f.there g.there to named now saves in
       node_part C j f.trio h f.there (is_some (post_of (real_of j) to)) (is_some (site_of (model_of j) to)) (here_same j h to) (station_step k j.codec j.weigher f.trio.post.station (Of (Ship to)) now saves)
       (kept_by saves (act_step by_operations j.weigher f.trio.site.node (Of (Ship to)) now))
@@ -232,7 +232,7 @@ module _ {K : Type 0} (k : Knowledge K) (view : View K) (laws : Laws k view) whe
         let comes : Comes k view laws j f.trio t.trio from b.mail b.message = record {
           sender = f.there;
           receiver = t.there;
-          named = text_same from f.trio.site.node.name f.named;
+          named = same_text from f.trio.site.node.name f.named;
           sent = b.sent;
           also = b.sent_also;
           stands = b.stands;

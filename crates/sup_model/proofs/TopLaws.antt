@@ -8,24 +8,15 @@ use Rattle.sup_specs.specs.OrderLaws.{text_total, text_tie}
 use Rattle.sup_causal.specs.declared.dot.Dot.{Dot}
 use Rattle.sup_causal.specs.Dots.{dot_eq}
 use Rattle.sup_causal.specs.DotLaws.{dot_exact as dot_tie}
+use Rattle.sup_causal.proofs.DotLemmas.{dot_eq-true}
 use Rattle.sup_tables.specs.declared.row.Row.{Row}
 use Rattle.sup_tables.specs.Rows.{row_cmp}
 use Rattle.sup_tables.specs.RowLaws.{row_total}
 use Rattle.sup_tables.specs.Operations.{Operation, known, Covers, greatest}
 use Rattle.sup_tables.proofs.GreatestLaws.{greatest_is}
+use Rattle.sup_tables.proofs.PointLaws.{text_itself, same_text}
+use Rattle.sup_tables.proofs.AddLaws.{row_itself}
 use Rattle.sup_model.specs.Laws.{Alike}
-
-pub text_itself : (x : Bytes) → eq_by_cmp text_cmp x x ≡ true
-text_itself x = (Equal-is _).1 (tied_itself text_total x)
-
-pub text_same : (x y : Bytes) → eq_by_cmp text_cmp x y ≡ true → x ≡ y
-text_same x y e = text_tie x y ((Equal-is _).0 e)
-
-pub dot_same : (d e : Dot) → dot_eq d e ≡ true → d ≡ e
-dot_same d e t = dot_tie d e ((Equal-is _).0 t)
-
-pub row_itself : (r : Row) → eq_by_cmp row_cmp r r ≡ true
-row_itself r = (Equal-is _).1 (tied_itself row_total r)
 
 -- a known dot is no greater than the greatest
 pub known-greatest : (ops : List Operation) (d : Dot) → known ops d ≡ true → d.counter ≤ greatest ops d.node

@@ -15,6 +15,7 @@ use Rattle.std.specs.List.Sorted.{IsStrictlySortedBy}
 use Rattle.sup_specs.specs.Rising.{rising, put_in}
 use Rattle.sup_causal.proofs.Rising.{less_from_greater}
 use Rattle.sup_causal.specs.Dots.{IsCounted}
+use Rattle.sup_causal.proofs.DotLemmas.{equal_from_is_eq}
 use Rattle.sup_tables.specs.declared.row.Row.{Row}
 use Rattle.sup_tables.specs.Rows.{Table, children, key_of, is_in, is_at}
 use Rattle.sup_tables.specs.Readers.{entries, winner, keys}
@@ -60,14 +61,10 @@ first_of : (rows : List Row) (table : Table) (key : Bytes) (r : Row) → winner 
 first_of [] table key r e = absurd cc
 first_of (q ∷ qs) table key r e =
     elim (is_at table key q) as (λ b. is_at table key q ≡ b → slice_get (cond b (q ∷ entries qs table key) (entries qs table key)) 0 ≡ Some r → key_of r.entry ≡ key) [
-      | true ↦ λ h f. let same : q ≡ r = cc in ap (λ x. key_of x.entry) (sym same) ∙ sym (text_tie key (key_of q.entry) (tie _ (and-second (is_in table q) _ h)))
+      | true ↦ λ h f. let same : q ≡ r = cc in ap (λ x. key_of x.entry) (sym same) ∙ sym (text_tie key (key_of q.entry) (equal_from_is_eq _ (and-second (is_in table q) _ h)))
       | false ↦ λ h f. first_of qs table key r f
     ] refl e
   where
-    tie : (o : Ordering) → is_eq o ≡ true → o ≡ Equal
-    tie Less h = absurd (true≢false (sym h))
-    tie Equal h = refl
-    tie Greater h = absurd (true≢false (sym h))
 
 -- what comes of one more key
 module _ (rows : List Row) (weigher : Weigher) (me : Bytes) (hosts : List Bytes) where

@@ -34,16 +34,14 @@ use Rattle.sup_replica.specs.ByTables.{by_tables}
 use Rattle.sup_node.specs.declared.change.Change.TheVariants.{Nothing, Begins, Learns}
 use Rattle.sup_node.specs.declared.change.Ready.{Ready}
 use Rattle.sup_node.specs.Changes.{Readies, checked, outcome_of, newer, learns}
+use Rattle.sup_node.proofs.PlanLaws.{not-above}
 
 lt-true : (n m : ℕ) → n + 1 ≤ m → nat_lt n m ≡ true
 lt-true n m h = grind arith
 
-lt-false : (n m : ℕ) → m ≤ n → nat_lt n m ≡ false
-lt-false n m h = grind arith
-
 -- no number passes the greatest
 pub within_greatest : (n : Node State) → n.count ≤ MAX → n.supervisor.given ≤ MAX → n.supervisor.boot ≤ MAX → passes_greatest n ≡ false
-within_greatest n a b c = λ i. lt-false MAX n.count a i || (lt-false MAX n.supervisor.given b i || lt-false MAX n.supervisor.boot c i)
+within_greatest n a b c = λ i. not-above MAX n.count a i || (not-above MAX n.supervisor.given b i || not-above MAX n.supervisor.boot c i)
 
 -- and one does
 pub count_passes : (n : Node State) → MAX + 1 ≤ n.count → passes_greatest n ≡ true

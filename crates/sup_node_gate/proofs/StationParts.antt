@@ -33,7 +33,7 @@ module _ (g : Weigher) (act : Act) (now : ℕ) where
   adds_like (Some answer) h k h' like x = (x.0, x.1 ∙ ap (λ (l : List _). l ++ entry act now answer ∷ []) like.0, subst (λ (s : Still). Goes g s act now answer (still_at h')) like.1 x.2)
   adds_like None h k h' like x = (x.0 ∙ like.0, x.1 ∙ like.1)
 
-enters : (r : Refusal) → is_entered r ≡ true → standing_of r ≡ entered
+pub enters : (r : Refusal) → is_entered r ≡ true → standing_of r ≡ entered
 enters HistoryFull e = absurd cc
 enters OutOfMemory e = absurd cc
 enters r e = refl

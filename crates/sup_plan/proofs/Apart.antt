@@ -12,7 +12,7 @@ not_both false f t = absurd (true≢false (sym f))
 
 -- d asks the same of two items as e does, whichever comes first
 module _ {K : Type 0} (e d : K → K → Bool) (same : (x y : K) → d x y ≡ e y x) where
-  unfound : (x : K) (xs : List K) → list_any (λ y. d y x) xs ≡ false → AllByRecursion (λ y. e x y ≡ false) xs
+  pub unfound : (x : K) (xs : List K) → list_any (λ y. d y x) xs ≡ false → AllByRecursion (λ y. e x y ≡ false) xs
   unfound x [] h = tt
   unfound x (y ∷ ys) h = let n = or_parts (d y x) (list_any (λ z. d z x) ys) h in (sym (same y x) ∙ n.0, unfound x ys n.1)
 

@@ -6,13 +6,14 @@ use Rattle.std.proofs.lemmas.Option.{slice_get_within}
 use Rattle.std.proofs.lemmas.Slice.Zip.{all_zipped_more}
 use Rattle.std.proofs.lemmas.Bool.{not_from_false}
 use Rattle.sup_placement.specs.declared.weigh.Weigh.{Ghosts as WeighGhosts}
+use Rattle.sup_placement.proofs.FindLaws.{Contains-filter}
 use Rattle.sup_plan.specs.declared.histories.History.{History}
 use Rattle.sup_posts.specs.Jobs.{Seat}
 use Rattle.sup_posts.specs.declared.post.Post.{Post}
 use Rattle.sup_posts.specs.declared.jobs.Arrived.{Arrived}
 use Rattle.sup_posts.proofs.Items.{all_weaken}
 use Rattle.sup_run_ends.specs.Steps.{IsSeatOf, IsArrived, Begins, Ends}
-use Rattle.sup_run_ends.proofs.Items.{all_at, contained, stands_in, get_left, get_next, same_place, contains_filter, filter_contains}
+use Rattle.sup_run_ends.proofs.Items.{all_at, contained, stands_in, get_left, get_next, same_place, filter_contains}
 use Rattle.sup_run_ends.proofs.Passes.{is_same, same_is}
 
 true_not : (b : Bool) → not b ≡ true → b ≡ true → ⊥
@@ -63,7 +64,7 @@ module _ {W : Type 0} {h : WeighGhosts W} where
 
       sort : (a : Arrived W h) → Contains arrived a → (b : Bool) → (a.to == n) ≡ b → Ends (histories ++ history ∷ []) a ⊎ Contains others a
       sort a c true t = inl (new a c (same_is a.to n t))
-      sort a c false t = inr (subst (λ l. Contains l a) (sym e) (contains_filter (λ (a : Arrived W h). not (a.to == n)) arrived a c (not_from_false (a.to == n) t)))
+      sort a c false t = inr (subst (λ l. Contains l a) (sym e) (Contains-filter (λ (a : Arrived W h). not (a.to == n)) arrived a c (not_from_false (a.to == n) t)))
 
       step : (a : Arrived W h) → Ends histories a ⊎ Contains arrived a → Ends (histories ++ history ∷ []) a ⊎ Contains others a
       step a x = elim x [ inl y ↦ inl (old a y) | inr c ↦ sort a c (a.to == n) refl ]

@@ -5,6 +5,7 @@ use Rattle.std.proofs.Common.{sym, ap, ◌∙◌, subst, arith, append-nil}
 use Rattle.std.proofs.lemmas.Option.{slice_get_within, get_or_from_slice_get, slice_get-get_or}
 use Rattle.std.proofs.lemmas.List.Elements.{Contains-append_left, Contains-append_right, All-append, filter-append}
 use Rattle.sup_posts.proofs.Items.{all_none}
+use Rattle.sup_placement.proofs.FindLaws.{Contains-filter}
 
 module _ {X : Type 0} where
   pub all_at : (P : X → Type 0) (xs : List X) → ((i : ℕ) (x : X) → slice_get xs i ≡ Some x → P x) → All P xs
@@ -39,18 +40,6 @@ module _ {X : Type 0} where
     where
       one : (a b : X) → Some a ≡ Some b → a ≡ b
       one a b q = cc
-
-  -- an item that passes a test stands among those that do
-  pub contains_filter : (p : X → Bool) (xs : List X) (x : X) → Contains xs x → p x ≡ true → Contains (filter p xs) x
-  contains_filter p [] x c t = absurd (nothing c.0 c.1)
-    where
-      nothing : (k : ℕ) → k < 0 → ⊥
-      nothing k lt = omega (arith, lt)
-  contains_filter p (y ∷ ys) x (zero, lt, e) t =
-      subst (λ b. Contains (cond b (y ∷ filter p ys) (filter p ys)) x) (sym (ap p e ∙ t)) (0, omega arith, e)
-  contains_filter p (y ∷ ys) x (suc k, lt, e) t =
-      let r = contains_filter p ys x (k, omega (arith, lt), e) t in
-      elim (p y) as (λ b. Contains (cond b (y ∷ filter p ys) (filter p ys)) x) [ true ↦ (suc r.0, omega (arith, r.1), r.2) | false ↦ r ]
 
   -- and all that do stood there
   pub filter_contains : (p : X → Bool) (xs : List X) (x : X) → Contains (filter p xs) x → Contains xs x × (p x ≡ true)

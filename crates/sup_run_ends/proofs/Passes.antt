@@ -7,9 +7,11 @@ use Rattle.std.proofs.lemmas.Grind.{flat_map-append}
 use Rattle.std.proofs.lemmas.Bool.Decides.{nat_tests}
 use Rattle.std.proofs.lemmas.Bool.{not_from_false, not_from_true}
 use Rattle.sup_placement.specs.declared.weigh.Weigh.{Ghosts as WeighGhosts}
+use Rattle.sup_placement.proofs.FindLaws.{Contains-filter}
 use Rattle.sup_node_gate.specs.declared.entry.Entry.{Entry}
 use Rattle.sup_node_gate.specs.Gates.{view_of}
 use Rattle.sup_node_gate.specs.Histories.{IsPrefix}
+use Rattle.sup_node_gate.proofs.Lists.{prefix_trans}
 use Rattle.sup_plan.specs.declared.histories.History.{History}
 use Rattle.sup_posts.specs.Jobs.{Seat}
 use Rattle.sup_posts.specs.declared.thread_fault.ThreadFault.{ThreadFault}
@@ -19,10 +21,7 @@ use Rattle.sup_posts.specs.declared.jobs.Driven.{Driven}
 use Rattle.sup_run_ends.specs.Steps.{IsSeatOf, IsArrived, Begins, HasSeen, AreTakenApart, Returns}
 use Rattle.sup_run_ends.proofs.Zips.{zip_right, zip_map}
 use Rattle.sup_posts.proofs.Items.{all_snoc, all_weaken}
-use Rattle.sup_run_ends.proofs.Items.{all_at, contained, stands_in, all_flat, contains_filter, filter_contains}
-
-pub prefix_then : (a b c : List Entry) → IsPrefix a b → IsPrefix b c → IsPrefix a c
-prefix_then a b c p q = (p.0 ++ q.0, q.1 ∙ ap (λ l. l ++ q.0) p.1 ∙ append_assoc a p.0 q.0)
+use Rattle.sup_run_ends.proofs.Items.{all_at, contained, stands_in, all_flat, filter_contains}
 
 pub is_same : (a b : ℕ) → a ≡ b → (a == b) ≡ true
 is_same a b e = grind (arith, nat_tests)
@@ -38,7 +37,7 @@ module _ {W : Type 0} {h : WeighGhosts W} where
   pub seen_more : (ys : List (Arrived W h)) (a : Arrived W h) (s s' : Seat W h) → HasSeen s s' → HasSeen a.seat s'
       → All (λ (b : Arrived W h). HasSeen b.seat s) ys → All (λ (b : Arrived W h). HasSeen b.seat s') (ys ++ a ∷ [])
   seen_more ys a s s' p q all = all_snoc (λ (b : Arrived W h). HasSeen b.seat s') ys a
-      (all_weaken (λ (b : Arrived W h). HasSeen b.seat s) (λ (b : Arrived W h). HasSeen b.seat s') (λ b r. prefix_then (view_of b.seat).seen (view_of s).seen (view_of s').seen r p) ys all) q
+      (all_weaken (λ (b : Arrived W h). HasSeen b.seat s) (λ (b : Arrived W h). HasSeen b.seat s') (λ b r. prefix_trans (view_of b.seat).seen (view_of s).seen (view_of s').seen r p) ys all) q
 
   abbrev is_here : ℕ → Arrived W h → Bool
   is_here at a = a.to == at
@@ -53,11 +52,11 @@ module _ {W : Type 0} {h : WeighGhosts W} where
   pub here_back : (Q : Arrived W h → Type 0) (at : ℕ) (arrived here : List (Arrived W h)) → here ≡ filter (λ (a : Arrived W h). a.to == at) arrived
       → All Q here → All (λ (a : Arrived W h). a.to ≡ at → Q a) arrived
   here_back Q at arrived here e all = all_at (λ (a : Arrived W h). a.to ≡ at → Q a) arrived (λ i a f same.
-      contained Q here a all (subst (λ l. Contains l a) (sym e) (contains_filter (is_here at) arrived a (stands_in arrived i a f) (is_same a.to at same))))
+      contained Q here a all (subst (λ l. Contains l a) (sym e) (Contains-filter (is_here at) arrived a (stands_in arrived i a f) (is_same a.to at same))))
 
   pub begins_all : (joined : Seat W h) (history : History) (here : List (Arrived W h)) → Begins joined history → All (λ (a : Arrived W h). HasSeen a.seat joined) here → All (λ (a : Arrived W h). Begins a.seat history) here
   begins_all joined history here b all =
-      all_weaken (λ (a : Arrived W h). HasSeen a.seat joined) (λ (a : Arrived W h). Begins a.seat history) (λ a r. prefix_then (view_of a.seat).seen (view_of joined).seen history.entries.items r b) here all
+      all_weaken (λ (a : Arrived W h). HasSeen a.seat joined) (λ (a : Arrived W h). Begins a.seat history) (λ a r. prefix_trans (view_of a.seat).seen (view_of joined).seen history.entries.items r b) here all
 
   -- one driver more
   pub taken_more : (rs : List (Result (Driven W h) ThreadFault)) (seats seats' : List (Seat W h)) (arrived arrived' : List (Arrived W h)) (r : Result (Driven W h) ThreadFault) (d : Driven W h)

@@ -6,10 +6,11 @@ use Rattle.std.proofs.Common.{sym, ap, ◌∙◌, subst}
 use Rattle.std.proofs.lemmas.Bool.{or_left, or_right}
 use Rattle.sup_specs.specs.Rising.{among}
 use Rattle.sup_causal.specs.Dots.{dot_eq}
+use Rattle.sup_causal.proofs.DotLemmas.{dot_eq-refl, dot_eq-true}
 use Rattle.sup_tables.specs.declared.row.Row.{Row}
 use Rattle.sup_tables.specs.Rows.{row_cmp}
 use Rattle.sup_tables.specs.Operations.{Operation, known, live, covers, same_rows, Covers, dots_of}
-use Rattle.sup_tables.proofs.AddLaws.{and-first, same_dot, dot_itself, row_itself}
+use Rattle.sup_tables.proofs.AddLaws.{and-first, row_itself}
 use Rattle.sup_tables.proofs.CoverLaws.{one_of_all, absorbed-true, known-append, covers-live}
 use Rattle.sup_tables.proofs.GreatestLaws.{known_among}
 
@@ -27,7 +28,7 @@ Covers-from_test ops others e = record {
       known-append ops others d
       ∙ absorbed-true (known ops d) (known others d) (λ k.
       let c = one_of_all (known ops) (dot_eq d) (flat_map dots_of others) (and-first _ _ e) (sym (known_among others d) ∙ k) in
-      subst (λ x. known ops x ≡ true) (sym (same_dot d c.0 c.2)) c.1);
+      subst (λ x. known ops x ≡ true) (sym (dot_eq-true d c.0 c.2)) c.1);
   live_stays = covers-live ops others e;
 }
 
@@ -39,7 +40,7 @@ same_rows_itself rows =
 pub test-from_Covers : (ops others : List Operation) → Covers ops others → covers ops others ≡ true
 test-from_Covers ops others c =
     let dots : list_all (known ops) (flat_map dots_of others) ≡ true =
-    all_from_each (known ops) dot_eq dot_itself (flat_map dots_of others) (λ d e.
+    all_from_each (known ops) dot_eq dot_eq-refl (flat_map dots_of others) (λ d e.
     sym (c.known_stays d) ∙ known-append ops others d ∙ or_right (known ops d) (known others d) (known_among others d ∙ e)) in
     let rows : same_rows (live (ops ++ others)) (live ops) ≡ true = ap (λ x. same_rows x (live ops)) c.live_stays ∙ same_rows_itself (live ops) in
     λ i. dots i && rows i

@@ -11,6 +11,7 @@ use Rattle.sup_specs.specs.Rising.{rising, among}
 use Rattle.sup_causal.specs.declared.dot.Dot.{Dot}
 use Rattle.sup_causal.specs.Dots.{Context, has, dot_cmp, dot_eq}
 use Rattle.sup_causal.specs.DotLaws.{dot_total}
+use Rattle.sup_causal.proofs.DotLemmas.{dot_eq-refl, dot_eq-true}
 use Rattle.sup_dot_store.specs.declared.dot_fun.DotFun.{DotFun}
 use Rattle.sup_dot_store.specs.Places.{optional_held}
 use Rattle.sup_tables.specs.declared.row.Row.{Row}
@@ -19,7 +20,6 @@ use Rattle.sup_tables.specs.States.{StandsFor}
 use Rattle.sup_dot_store.specs.RowLists.{rows_in}
 use Rattle.sup_tables.specs.Stored.{Values, Stored, value_in, stored_rows, state_of, IsOneRow}
 use Rattle.sup_dot_store.specs.Index.{count_in}
-use Rattle.sup_tables.proofs.AddLaws.{same_dot, dot_itself}
 
 -- one add that names dots, not its own among them
 pub add_stands : (context : Context) (s : Stored) (row : Row) (removes : List Dot) → stored_rows s ≡ row ∷ [] → among dot_cmp removes row.dot ≡ false
@@ -42,7 +42,7 @@ pub no_rows : {V : Type 0} (make : Bytes → Dot → V → Row) (es : Values V) 
 no_rows make es e = ap (rows_in make) e
 
 covered_value : (context : Context) {V : Type 0} (d : Dot) (v : V) (e : Dot) (b : Bool) → is_key (dot_cmp e) d ≡ b → has context d ≡ true → IsSome (cond {A = Option V} b (Some v) None) → has context e ≡ true
-covered_value context d v e true same h some = ap (has context) (same_dot e d same) ∙ h
+covered_value context d v e true same h some = ap (has context) (dot_eq-true e d same) ∙ h
 covered_value context d v e false same h some = absurd (false≢true some)
 
 covered_key : (context : Context) {V : Type 0} (f : DotFun V) (d : Dot) (v : V) (e : Dot) (b : Bool) → f.values.entries ≡ (d, v) ∷ [] → has context d ≡ true
@@ -57,12 +57,12 @@ pub none_covered : {V : Type 0} (context : Context) (es : Values V) → es ≡ [
 none_covered context es empty e l some = absurd (false≢true (subst (λ fs. IsSome (value_in fs e l)) empty some))
 
 pub own_dot : (context : Context) (dot : Dot) (removes : List Dot) → ((d : Dot) → has context d ≡ (dot_eq dot d || among dot_cmp removes d)) → has context dot ≡ true
-own_dot context dot removes knows = knows dot ∙ ap (λ b. b || among dot_cmp removes dot) (dot_itself dot)
+own_dot context dot removes knows = knows dot ∙ ap (λ b. b || among dot_cmp removes dot) (dot_eq-refl dot)
 
 -- one value is a row
 pub one_value : {V : Type 0} (f : DotFun V) (d : Dot) (v : V) → f.values.entries ≡ (d, v) ∷ [] → lookup (is_key (dot_cmp d)) f.values.entries ≡ None → ⊥
 one_value f d v row none =
-    let found : Some v ≡ None = (λ i. cond (sym (dot_itself d) i) (Some v) None) ∙ ap (lookup (is_key (dot_cmp d))) (sym row) ∙ none in
+    let found : Some v ≡ None = (λ i. cond (sym (dot_eq-refl d) i) (Some v) None) ∙ ap (lookup (is_key (dot_cmp d))) (sym row) ∙ none in
     absurd cc
 
 -- one value is one row, and no value none

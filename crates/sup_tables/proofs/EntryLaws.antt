@@ -21,6 +21,7 @@ use Rattle.sup_dot_store.specs.declared.dot_fun.DotFun.{DotFun}
 use Rattle.sup_tables.specs.declared.row.Row.{Row}
 use Rattle.sup_tables.specs.Rows.{Table, members, children, names, is_at, row_cmp}
 use Rattle.sup_causal.specs.Dots.{has, dot_cmp}
+use Rattle.sup_causal.proofs.DotLemmas.{dot_eq-true}
 use mathlib.Core.Bool.{true≢false}
 use Rattle.sup_specs.specs.Rising.{among}
 use Rattle.std.specs.Prelude.{All}
@@ -28,7 +29,7 @@ use Rattle.std.proofs.lemmas.List.Elements.{All-from_recursion, filter-append}
 use Rattle.std.proofs.lemmas.Bool.{or_left, or_right}
 use Rattle.std.proofs.lemmas.List.{append-nil}
 use Rattle.sup_tables.specs.States.{State, IsKept}
-use Rattle.sup_tables.proofs.AddLaws.{row_itself, same_dot}
+use Rattle.sup_tables.proofs.AddLaws.{row_itself}
 use Rattle.sup_tables.specs.Readers.{entries, live_dots}
 use Rattle.sup_dot_store.specs.RowLists.{rows_in}
 use Rattle.sup_tables.specs.Stored.{Values, Stored, member_row, child_row, name_row, state_of, values_under}
@@ -147,7 +148,7 @@ among_none context [] all d h = refl
 among_none context (x ∷ xs) all d h = at (eq_by_cmp dot_cmp d x) refl (among_none context xs all.1 d h)
   where
     at : (b : Bool) → eq_by_cmp dot_cmp d x ≡ b → among dot_cmp xs d ≡ false → (b || among dot_cmp xs d) ≡ false
-    at true e rest = absurd (true≢false (sym all.0 ∙ ap (has context) (sym (same_dot d x e)) ∙ h))
+    at true e rest = absurd (true≢false (sym all.0 ∙ ap (has context) (sym (dot_eq-true d x e)) ∙ h))
     at false e rest = rest
 
 -- a dot that the context lacks is none of the live dots

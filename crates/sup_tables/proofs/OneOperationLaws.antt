@@ -22,7 +22,7 @@ use Rattle.sup_tables.proofs.AddLaws.{same_row}
 use Rattle.sup_tables.proofs.GreatestLaws.{known_among}
 use Rattle.sup_tables.proofs.OneForm.{has_among, has_rising, dots_again, kept_of_stands, same_of_stands}
 
-row_of_option : (o : Option Row) (r : Row) → among row_cmp (cons_option o []) r ≡ true → o ≡ Some r
+pub row_of_option : (o : Option Row) (r : Row) → among row_cmp (cons_option o []) r ≡ true → o ≡ Some r
 row_of_option None r e = absurd (true≢false (sym e))
 row_of_option (Some q) r e = ap Some (sym (same_row r q (sym (or-false (eq_by_cmp row_cmp r q)) ∙ e)))
 

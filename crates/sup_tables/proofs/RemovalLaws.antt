@@ -28,14 +28,11 @@ use Rattle.sup_tables.proofs.OperationLaws.{both_ways}
 use Rattle.sup_tables.proofs.PointLaws.{same_text, text_itself}
 use Rattle.sup_tables.proofs.OrderedRows.{all_rows, stored_is}
 use Rattle.sup_tables.proofs.EntryLaws.{each_filtered, filter_none}
-
-cond_or : (b a : Bool) → cond b true a ≡ (a || b)
-cond_or true a = sym (or-true a)
-cond_or false a = sym (or-false a)
+use Rattle.sup_indexed.proofs.PlaceLaws.{or_put}
 
 -- one dot more is among them
 pub one_more : (a : Bool) (e d : Dot) → cond (eq_by_cmp dot_cmp e d) true a ≡ (a || eq_by_cmp dot_cmp d e)
-one_more a e d = cond_or (eq_by_cmp dot_cmp e d) a ∙ ap (λ b. a || b) ((eq_by_cmp_equiv dot_total).symm e d)
+one_more a e d = or_put (eq_by_cmp dot_cmp e d) a ∙ ap (λ b. a || b) ((eq_by_cmp_equiv dot_total).symm e d)
 
 -- texts are equal where they compare so
 pub same_id : (k l : Bytes) → bytes_eq k l ≡ eq_by_cmp text_cmp k l

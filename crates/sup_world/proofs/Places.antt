@@ -12,12 +12,7 @@ use Rattle.sup_model.specs.Posts.{Post}
 use Rattle.sup_model.specs.Follows.{Apart, Distinct}
 use Rattle.sup_world.specs.Seen.{Seen}
 use Rattle.sup_world.specs.Telling.{SiteStands}
-
-pub named_itself : (x : Bytes) → is_named x x ≡ true
-named_itself x = (Equal-is _).1 (tied_itself text_total x)
-
-pub named_same : (x y : Bytes) → is_named x y ≡ true → x ≡ y
-named_same x y e = text_tie x y ((Equal-is _).0 e)
+use Rattle.sup_node.proofs.PlanLaws.{named_itself, named_same}
 
 -- the place of the first of the name
 abbrev pub place : List Seen → Bytes → ℕ

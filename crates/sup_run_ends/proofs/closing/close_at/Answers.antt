@@ -1,14 +1,15 @@
 use Rattle.sup_node_gate.specs.Gates.{view_of}
+use Rattle.sup_node_gate.proofs.Lists.{prefix_trans}
 use Rattle.sup_posts.specs.declared.jobs.Arrived.{Arrived}
 use Rattle.sup_run_ends.specs.Steps.{IsSeatOf, Begins}
-use Rattle.sup_run_ends.proofs.Passes.{here_all, here_back, begins_all, prefix_then}
+use Rattle.sup_run_ends.proofs.Passes.{here_all, here_back, begins_all}
 use Rattle.sup_run_ends.proofs.closing.close_at.Goals as goal
 
 pub join_all-seat-requires-clause-others : goal.join_all-seat-requires-clause-others
 join_all-seat-requires-clause-others g c = here_all (λ (a : Arrived g.row.W.Denot g.W.Weigh). IsSeatOf c.args.post a.seat) c.args.at c.args.arrived.items c.in_ok-here.here.items c.in_ok-here.ensures.here c.requires.arrived
 
 pub returns-clause-own : goal.returns-clause-own
-returns-clause-own g c = prefix_then (view_of c.args.seat).seen (view_of c.join_all-seat.result).seen c.in_ok-history.history.entries.items c.join_all-seat.ensures.own c.in_ok-history.ensures.begins
+returns-clause-own g c = prefix_trans (view_of c.args.seat).seen (view_of c.join_all-seat.result).seen c.in_ok-history.history.entries.items c.join_all-seat.ensures.own c.in_ok-history.ensures.begins
 
 pub returns-clause-here : goal.returns-clause-here
 returns-clause-here g c =

@@ -1,10 +1,11 @@
 use Rattle.std.proofs.Common.{rules, ◌++◌, [], ◌∷◌, ap, sym, ◌∙◌, append_assoc, subst, All}
 use Rattle.std.proofs.lemmas.List.Elements.{All-rest}
 use Rattle.sup_node_gate.specs.Gates.{view_of}
+use Rattle.sup_node_gate.proofs.Lists.{prefix_trans}
 use Rattle.sup_posts.specs.declared.jobs.Arrived.{Arrived}
 use Rattle.sup_run_ends.specs.Steps.{IsSeatOf, HasSeen}
 use Rattle.sup_posts.proofs.Items.{none_left}
-use Rattle.sup_run_ends.proofs.Passes.{prefix_then, seen_more}
+use Rattle.sup_run_ends.proofs.Passes.{seen_more}
 use Rattle.sup_run_ends.proofs.joining.join_all.Goals as goal
 
 pub loop-pass-preserved : goal.loop-pass-preserved
@@ -12,7 +13,7 @@ loop-pass-preserved g c = (
   append_assoc c.loop-pass.yielded (c.in-Some.pass ∷ []) c.next.new.self.rest.items ∙ (ap (λ l. c.loop-pass.yielded ++ l) (sym (search rules)) ∙ c.loop-pass.invariant.0),
   All-rest (λ (a : Arrived g.row.W.Denot g.W.Weigh). IsSeatOf c.args.post.now a.seat) c.in-Some.pass _ _ (search rules) c.loop-pass.invariant.1,
   c.join-seat.ensures.of,
-  prefix_then (view_of c.args.seat).seen (view_of c.loop-pass.seat).seen (view_of c.join-seat.result).seen c.loop-pass.invariant.3 c.join-seat.ensures.joined.begins,
+  prefix_trans (view_of c.args.seat).seen (view_of c.loop-pass.seat).seen (view_of c.join-seat.result).seen c.loop-pass.invariant.3 c.join-seat.ensures.joined.begins,
   seen_more c.loop-pass.yielded c.in-Some.pass c.loop-pass.seat c.join-seat.result c.join-seat.ensures.joined.begins c.join-seat.ensures.joined.others c.loop-pass.invariant.4,
 )
 
