@@ -1,21 +1,19 @@
 -- Orders with one entry more.
-use Rattle.std.specs.Prelude.{◌≡◌, ◌<◌, ℕ, ◌+◌, suc, Bool, true, false, cond, ◌||◌, List, [], ◌∷◌, ◌++◌, map, filter, length, take, slice_index, slice_index_or, slice_set, refl}
+use Rattle.std.specs.Prelude.{◌≡◌, ◌<◌, ℕ, ◌+◌, suc, true, false, cond, ◌||◌, List, [], ◌∷◌, ◌++◌, map, filter, length, take, slice_index, slice_index_or, slice_set, refl}
 use Prim.Native.Nat.{zero}
 use Rattle.std.specs.List.{AllZip}
-use Rattle.std.specs.Cmp.{Equal-is, tied_itself}
 use Rattle.std.proofs.Common.{sym, ap, ◌∙◌, subst, arith}
 use Rattle.std.proofs.lemmas.List.{take_more, take_all, append-nil}
 use Rattle.std.specs.List.{AllByRecursion}
 use Rattle.std.proofs.lemmas.Bool.{or_right}
 use Rattle.sup_specs.specs.Values.{Bytes}
-use Rattle.sup_specs.specs.OrderLaws.{text_total, text_tie}
 use Rattle.sup_replica.specs.Nodes.{is_named}
 use Rattle.sup_node_gate.specs.declared.entry.Entry.{Entry}
 use Rattle.sup_plan.specs.declared.histories.History.{History}
 use Rattle.sup_model.specs.Follows.{Apart, Distinct}
 use Rattle.sup_certify.specs.Orders.{Placed, of_node, is_among}
 use Rattle.sup_certify.specs.Progress.{IsPlaced, IsWhole}
-use Rattle.sup_node.proofs.PlanLaws.{named_itself, named_same}
+use Rattle.sup_node.proofs.PlanLaws.{named_itself}
 
 -- one entry more
 pub of_node_more : (name : Bytes) (order : List Placed) (p : Placed) → of_node name (order ++ p ∷ []) ≡ of_node name order ++ of_node name (p ∷ [])

@@ -4,7 +4,6 @@ use Rattle.std.proofs.Common.{sym, ap, ◌∙◌, subst, inl, inr, append_assoc,
 use Rattle.std.proofs.lemmas.List.{append-nil, length-append, reverse-append}
 use Rattle.std.proofs.lemmas.Option.{same_Some, slice_get-get_or}
 use Rattle.std.proofs.Math.Seq.{get_or-append_seam}
-use mathlib.Core.Bool.{false≢true, true≢false}
 use Rattle.sup_specs.specs.Exact.{IsExact}
 use Rattle.sup_dot_store.proofs.IndexLaws.{same}
 use Rattle.std.specs.declared.cmp.Ordering.{Ordering}

@@ -6,12 +6,11 @@ use Rattle.sup_placement.specs.Place.{Weigher}
 use Rattle.sup_replica.specs.declared.event.Act.{Act}
 use Rattle.sup_replica.specs.declared.event.Act.TheVariants.{Event as Of}
 use Rattle.sup_replica.specs.declared.event.Event.TheVariants.{Deliver}
-use Rattle.sup_replica.specs.declared.refusal.Refusal.{Refusal}
 use Rattle.sup_replica.specs.declared.refusal.Refusal.TheVariants.{OutOfMemory, HistoryFull}
 use Rattle.sup_station.specs.Stills.{Still}
 use Rattle.sup_node_gate.specs.declared.entry.Entry.{Entry}
 use Rattle.sup_node_gate.specs.declared.view.View.{View}
-use Rattle.sup_node_gate.specs.Histories.{Answer, Standing, entered, standing_of, is_entered, may_enter, entry}
+use Rattle.sup_node_gate.specs.Histories.{Answer, Standing, may_enter, entry}
 use Rattle.sup_node_gate.specs.Calls.{Enters, Refuses, Acts}
 use Rattle.sup_node_gate.proofs.StationParts.{enters}
 use Rattle.sup_plan.specs.Calls.{brought, deliveries}

@@ -1,7 +1,6 @@
 pub mod Calls
 pub mod Rounds
 pub mod Puts
-pub mod Names
 pub mod Places
 pub mod Gathers
 pub mod Launches

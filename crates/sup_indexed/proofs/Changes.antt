@@ -6,8 +6,7 @@ use Rattle.std.specs.declared.cmp.Ordering.{Ordering}
 use Rattle.std.specs.Ordering.{eq_by_cmp}
 use Rattle.std.specs.BTreeMap.{BTreeMap, get}
 use Rattle.std.specs.BTreeSet.{BTreeSet}
-use Rattle.std.proofs.lemmas.Bool.{or_left, or_right}
-use Rattle.std.proofs.Math.Bool.{or-true, and-true}
+use Rattle.std.proofs.Math.Bool.{and-true}
 use Rattle.sup_specs.specs.Exact.{IsExact}
 use Rattle.sup_causal.specs.declared.dot.Dot.{Dot}
 use Rattle.sup_dot_store.specs.declared.dot_fun.DotFun.{DotFun}

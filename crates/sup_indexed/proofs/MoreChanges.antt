@@ -18,7 +18,6 @@ use Rattle.sup_dot_store.specs.Index.{value_of, value_under}
 use Rattle.std.proofs.lemmas.Option.{same_Some}
 use Rattle.std.proofs.Math.Bool.{or-true}
 use Rattle.std.proofs.lemmas.Bool.{and_parts}
-use Rattle.std.proofs.lemmas.List.{nil_from_length}
 use Rattle.sup_dot_store.proofs.IndexLaws.{same, tie}
 use Rattle.sup_indexed.specs.declared.place.Place.{Place}
 use Rattle.sup_indexed.specs.Listed.{listed, stands, stands_in, ListsAll}

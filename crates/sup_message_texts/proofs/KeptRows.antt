@@ -13,7 +13,7 @@ use Rattle.std.specs.List.Sorted.{IsStrictlySortedBy}
 use Rattle.sup_specs.specs.Rising.{among}
 use Rattle.sup_causal.specs.Dots.{Context, has, dot_cmp}
 use Rattle.sup_tables.specs.declared.row.Row.{Row}
-use Rattle.sup_tables.specs.Rows.{table_place, table_of, key_of, place_cmp, value_cmp, row_cmp, AreInOrder}
+use Rattle.sup_tables.specs.Rows.{table_place, table_of, key_of, place_cmp, row_cmp, AreInOrder}
 use Rattle.sup_tables.specs.RowLaws.{place_total}
 use Rattle.sup_tables.specs.States.{HasDotsOf, row_at, is_point, IsKept}
 use Rattle.sup_tables.proofs.AddLaws.{same_row}

@@ -14,7 +14,6 @@ use Rattle.std.proofs.lemmas.Bool.{le-leb, lt-leb, leb-true}
 use Rattle.sup_specs.specs.Values.{Bytes, text_cmp}
 use Rattle.sup_tables.specs.Operations.{Operation}
 use Rattle.sup_tables.specs.Makers.{drop_member, finish_child}
-use Rattle.sup_tables.proofs.PointLaws.{text_itself, same_text}
 use Rattle.sup_local_sup.specs.declared.effect.Effect.{Effect}
 use Rattle.sup_local_sup.specs.Supervising.{Supervisor, with_all, forgotten, wanted_after, wanted_effects, others}
 use Rattle.sup_replica.specs.declared.event.Event.{Event}

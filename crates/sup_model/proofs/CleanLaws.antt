@@ -9,7 +9,7 @@ use Rattle.sup_local_sup.specs.declared.leaving.Leaving.{Leaving}
 use Rattle.std.specs.Prelude.{◌≡◌, ◌≢◌, ℕ, zero, suc, ◌+◌, ◌-◌, ◌==◌, ◌≤◌, ◌<◌, Bool, true, false, cond, not, ◌||◌, ◌&&◌, List, [], ◌∷◌, ◌++◌, map, filter, find, refl, Option, Some, None, Result, Ok, Err, length, nat_le, slice_get, unwrap_or, if◌then◌else◌}
 use Rattle.std.specs.List.{list_any, list_all, cons_option}
 use Rattle.std.specs.Ordering.{eq_by_cmp}
-use Rattle.std.proofs.Common.{sym, ap, ◌∙◌, subst, arith}
+use Rattle.std.proofs.Common.{sym, ◌∙◌, subst, arith}
 use Rattle.std.proofs.lemmas.Bool.{or_left, or_right}
 use Rattle.std.proofs.lemmas.Option.{none-some}
 use mathlib.Core.Bool.{true≢false}
@@ -23,8 +23,6 @@ use Rattle.sup_tables.specs.Rows.{row_cmp}
 use Rattle.sup_tables.specs.Operations.{Operation, known, named, added, live, greatest, covers}
 use Rattle.sup_tables.specs.Makers.{finish_child, drop_member}
 use Rattle.sup_tables.proofs.AddLaws.{among-added-append}
-use Rattle.sup_tables.specs.RowLaws.{row_tie}
-use Rattle.sup_tables.proofs.PointLaws.{text_itself, same_text}
 use Rattle.sup_tables.proofs.OneOperationLaws.{row_of_option}
 use Rattle.sup_local_sup.specs.declared.effect.Effect.{Effect}
 use Rattle.sup_local_sup.specs.Supervising.{Supervisor, with_all, forgotten, wanted_after, wanted_effects, others}

@@ -5,7 +5,6 @@ use mathlib.Core.Bool.{true≢false}
 use mathlib.Core.Logic.{◌⊎◌, inl, inr}
 use Rattle.std.proofs.lemmas.Bool.{le-leb, lt-leb, leb-true, eqb-true}
 use Rattle.std.specs.Ordering.{eq_by_cmp}
-use Rattle.std.proofs.lemmas.Option.{none-some}
 use Rattle.sup_specs.specs.Values.{Bytes, text_cmp}
 use Rattle.sup_tables.specs.declared.row.Row.{Row}
 use Rattle.sup_tables.specs.Operations.{Operation, covers, Covers, NoClash}
@@ -33,7 +32,7 @@ use Rattle.sup_model.specs.Stands.{NodeStands, MessageStands, OutcomeStands, Tog
 use Rattle.sup_model.specs.Joint.{Trio, Joint, model_of, letter_of, peer, Peers, MailStands, TrioStands, Holds}
 use Rattle.sup_model.proofs.TopLaws.{alike_of_Covers}
 use Rattle.sup_tables.proofs.CoverTests.{Covers-from_test, test-from_Covers}
-use Rattle.sup_tables.proofs.PointLaws.{text_itself, same_text}
+use Rattle.sup_tables.proofs.PointLaws.{same_text}
 use Rattle.sup_tables.proofs.OperationLaws.{both_ways}
 use Rattle.sup_model.proofs.IssueLaws.{some_same}
 use Rattle.sup_model.proofs.CleanWorld.{no_clash}

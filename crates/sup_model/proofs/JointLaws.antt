@@ -20,7 +20,7 @@ use Rattle.sup_model.specs.Stands.{NodeStands}
 use Rattle.sup_model.specs.Clean.{Clean}
 use Rattle.sup_model.specs.Joint.{Trio, Joint, real_of, model_of, letter_of, peer, Peers, MailStands, AllMail, TrioStands, Holds}
 use Rattle.sup_model.proofs.CleanWorld.{in-put}
-use Rattle.sup_tables.proofs.PointLaws.{text_itself, same_text}
+use Rattle.sup_tables.proofs.PointLaws.{text_itself}
 
 module _ {K : Type 0} where
   -- the list with r in place of its namesakes

@@ -39,7 +39,6 @@ use Rattle.sup_model.specs.Stands.{NodeStands, MessageStands, OutcomeStands, Tog
 use Rattle.sup_model.specs.Joint.{Trio, Joint, real_of, model_of, letter_of, peer, Peers, MailStands, AllMail, TrioStands, Holds}
 use Rattle.sup_model.proofs.TopLaws.{alike_of_Covers, Covers_of_alike}
 use Rattle.sup_tables.proofs.CoverTests.{Covers-from_test, test-from_Covers}
-use Rattle.sup_tables.proofs.PointLaws.{text_itself, same_text}
 use Rattle.sup_model.proofs.IssueLaws.{some_same}
 use Rattle.sup_model.proofs.SimLaws.{both-refused_if, both-then_do, act_stands, kept_stands}
 use Rattle.sup_model.proofs.ActLaws.{IsOwn, now_still, Act, Moved, of_moved, own_act, kept_after, kept_fits, trio_with, in-letters}

@@ -22,7 +22,6 @@ use Rattle.sup_tables.specs.RowLaws.{row_total, row_tie}
 use Rattle.sup_tables.proofs.AddLaws.{known_of_added, known_of_named, added_of_known, among-added-append}
 use Rattle.sup_tables.proofs.CoverLaws.{Below, below-from_Covers, Covers-from_below, covers_itself, covers_trans, live-parts, live-from}
 use Rattle.sup_causal.proofs.GreatestLaws.{one_greatest, of_same}
-use Rattle.sup_causal.proofs.DotLemmas.{dot_eq-true}
 use Rattle.sup_tables.proofs.GreatestLaws.{greatest_is}
 use Rattle.sup_replica.specs.Nodes.{by_operations}
 use Rattle.sup_model.specs.Worlds.{Ops}
@@ -31,7 +30,6 @@ use Rattle.sup_model.specs.Clean.{HasRow}
 use Rattle.sup_model.specs.Laws.{View, Laws, Alike}
 use Rattle.sup_model.proofs.TopLaws.{known-greatest}
 use Rattle.sup_tables.proofs.CoverTests.{Covers-from_test, test-from_Covers}
-use Rattle.sup_tables.proofs.PointLaws.{same_text}
 use Rattle.sup_tables.proofs.OperationLaws.{both_ways}
 use Rattle.sup_model.proofs.CleanLaws.{row-append, row-left, row-right}
 

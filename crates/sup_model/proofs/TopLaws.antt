@@ -1,21 +1,9 @@
 -- Texts and dots that the tests call equal are equal; and what covering is, as operations that are alike.
 use Rattle.std.specs.Prelude.{◌≡◌, ℕ, ◌≤◌, true, List, ◌++◌}
-use Rattle.std.specs.Ordering.{eq_by_cmp}
-use Rattle.std.specs.Cmp.{Equal-is, tied_itself}
 use Rattle.std.proofs.Common.{sym}
-use Rattle.sup_specs.specs.Values.{Bytes, text_cmp}
-use Rattle.sup_specs.specs.OrderLaws.{text_total, text_tie}
 use Rattle.sup_causal.specs.declared.dot.Dot.{Dot}
-use Rattle.sup_causal.specs.Dots.{dot_eq}
-use Rattle.sup_causal.specs.DotLaws.{dot_exact as dot_tie}
-use Rattle.sup_causal.proofs.DotLemmas.{dot_eq-true}
-use Rattle.sup_tables.specs.declared.row.Row.{Row}
-use Rattle.sup_tables.specs.Rows.{row_cmp}
-use Rattle.sup_tables.specs.RowLaws.{row_total}
 use Rattle.sup_tables.specs.Operations.{Operation, known, Covers, greatest}
 use Rattle.sup_tables.proofs.GreatestLaws.{greatest_is}
-use Rattle.sup_tables.proofs.PointLaws.{text_itself, same_text}
-use Rattle.sup_tables.proofs.AddLaws.{row_itself}
 use Rattle.sup_model.specs.Laws.{Alike}
 
 -- a known dot is no greater than the greatest

@@ -5,7 +5,6 @@ use Rattle.std.proofs.Common.{sym, ap, ◌∙◌, subst, arith, append-nil}
 use Rattle.std.proofs.lemmas.Option.{slice_get_within, get_or_from_slice_get, slice_get-get_or}
 use Rattle.std.proofs.lemmas.List.Elements.{Contains-append_left, Contains-append_right, All-append, filter-append}
 use Rattle.sup_posts.proofs.Items.{all_none}
-use Rattle.sup_placement.proofs.FindLaws.{Contains-filter}
 
 module _ {X : Type 0} where
   pub all_at : (P : X → Type 0) (xs : List X) → ((i : ℕ) (x : X) → slice_get xs i ≡ Some x → P x) → All P xs

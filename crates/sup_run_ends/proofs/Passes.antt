@@ -1,16 +1,13 @@
 -- Passes that come back, and what they have seen.
-use Rattle.std.specs.Prelude.{◌≡◌, ◌≢◌, ◌==◌, ℕ, Bool, true, false, not, List, [], ◌∷◌, ◌++◌, map, flat_map, All, Contains, Result, Ok, refl}
+use Rattle.std.specs.Prelude.{◌≡◌, ◌≢◌, ◌==◌, ℕ, Bool, true, false, List, [], ◌∷◌, ◌++◌, map, flat_map, All, Contains, Result, Ok, refl}
 use Rattle.std.specs.List.{AllZip, filter}
-use Rattle.std.proofs.Common.{sym, ap, ◌∙◌, subst, arith, append_assoc, append-nil}
+use Rattle.std.proofs.Common.{sym, ap, ◌∙◌, subst, arith, append-nil}
 use Rattle.std.proofs.lemmas.List.{map-append}
 use Rattle.std.proofs.lemmas.Grind.{flat_map-append}
 use Rattle.std.proofs.lemmas.Bool.Decides.{nat_tests}
-use Rattle.std.proofs.lemmas.Bool.{not_from_false, not_from_true}
 use Rattle.sup_placement.specs.declared.weigh.Weigh.{Ghosts as WeighGhosts}
 use Rattle.sup_placement.proofs.FindLaws.{Contains-filter}
-use Rattle.sup_node_gate.specs.declared.entry.Entry.{Entry}
 use Rattle.sup_node_gate.specs.Gates.{view_of}
-use Rattle.sup_node_gate.specs.Histories.{IsPrefix}
 use Rattle.sup_node_gate.proofs.Lists.{prefix_trans}
 use Rattle.sup_plan.specs.declared.histories.History.{History}
 use Rattle.sup_posts.specs.Jobs.{Seat}

@@ -1,11 +1,9 @@
 -- The node that a name leads to, among those that are seen and those that they stand for.
 use Rattle.std.specs.Prelude.{◌≡◌, ℕ, ◌+◌, ◌<◌, true, false, cond, not, List, [], ◌∷◌, length, map, find, slice_index_or, slice_set, suc, Option, Some, None, refl, if◌then◌else◌}
 use Rattle.std.specs.List.{AllZip, position_or_len}
-use Rattle.std.specs.Cmp.{Equal-is, tied_itself}
 use Rattle.std.proofs.Common.{sym, ap, ◌∙◌, subst, arith}
 use Rattle.std.proofs.lemmas.Option.{same_Some}
 use Rattle.sup_specs.specs.Values.{Bytes}
-use Rattle.sup_specs.specs.OrderLaws.{text_total, text_tie}
 use Rattle.sup_tables.specs.States.{State}
 use Rattle.sup_replica.specs.Nodes.{is_named}
 use Rattle.sup_model.specs.Posts.{Post}
