@@ -1,9 +1,5 @@
 -- Laws of runs and of entries.
-use Rattle.std.proofs.Common.{◌≡◌, ℕ, suc, zero, ◌+◌, ◌<◌, Bool, true, false, ◌||◌, ◌&&◌, cond, leb, eqb, List, [], ◌∷◌, ◌++◌, length, get_or, refl, sym, ap, ◌∙◌, subst, arith, unwrap_or, Some, inl, inr}
-use Rattle.std.specs.Prelude.{bytes_eq}
-use Rattle.std.specs.Cmp.Lexicographic.{texts_ties}
-use Rattle.std.proofs.lemmas.Bool.Decides.{nat_tests}
-use Rattle.sup_causal.proofs.Sorted.{dots_tie}
+use Rattle.std.proofs.Common.{◌≡◌, ℕ, suc, zero, ◌+◌, ◌<◌, Bool, true, false, ◌||◌, ◌&&◌, cond, leb, List, [], ◌∷◌, ◌++◌, length, get_or, refl, sym, ap, ◌∙◌, subst, arith, unwrap_or, Some, inl, inr}
 use Rattle.std.specs.declared.cmp.Ordering.TheVariants.{Less, Equal}
 use Rattle.std.specs.Ordering.{is_eq, eq_by_cmp}
 use Rattle.std.specs.Map.{lookup}
@@ -11,18 +7,15 @@ use Rattle.std.specs.List.{AllByRecursion}
 use Rattle.std.proofs.lemmas.Bool.{cases_order}
 use Rattle.std.proofs.lemmas.Cmp.{nat_list_cmp_total, tied_back, eq_by_cmp_equiv}
 use Rattle.std.proofs.lemmas.List.Elements.{All-from_recursion}
-use Rattle.std.proofs.lemmas.List.Folds.{list_any-append}
 use Rattle.std.proofs.lemmas.Map.Lookups.{exact_bytes}
 use Rattle.std.proofs.Math.Bool.{or-false}
 use mathlib.Core.Bool.{false≢true}
 use Rattle.std.specs.List.Sorted.{IsStrictlySortedBy}
-use Rattle.sup_specs.specs.Rising.{among}
 use Rattle.sup_causal.specs.declared.dot.Dot.{Dot}
-use Rattle.sup_causal.specs.Dots.{dot_cmp, dot_eq}
 use Rattle.sup_specs.specs.Values.{text_cmp}
-use Rattle.sup_causal.specs.Cut.{entry, IsRun, in_run, in_runs}
+use Rattle.sup_causal.specs.Cut.{entry, IsRun, in_runs}
 use Rattle.sup_causal.proofs.Rising.{greater_from_less}
-use Rattle.sup_causal.proofs.DotLemmas.{among_first, or_assoc, equal_from_is_eq}
+use Rattle.sup_causal.proofs.DotLemmas.{equal_from_is_eq}
 
 -- one run
 pub run_is_one : (holds : Dot → Bool) (node : List ℕ) (n m : ℕ) → IsRun holds node n → IsRun holds node m → n ≡ m
@@ -93,24 +86,3 @@ in_runs_is (e ∷ es) s d = turn (eq_by_cmp text_cmp d.node e.0) refl (in_runs_i
 pub each_push : {K : Type 0} (P : K → Type 0) (xs : List K) (x : K) → AllByRecursion P xs → P x → AllByRecursion P (xs ++ x ∷ [])
 each_push P [] x all here = (here, tt)
 each_push P (y ∷ ys) x all here = (all.0, each_push P ys x all.1 here)
-
--- one more of a run
-more_counted : (n c : ℕ) → ((leb 1 c && leb c n) || eqb (n + 1) c) ≡ (leb 1 c && leb c (n + 1))
-more_counted n c = grind (arith, nat_tests)
-
-and_or : (b p q : Bool) → ((b && p) || (q && b)) ≡ (b && (p || q))
-and_or true p true = refl
-and_or true p false = refl
-and_or false p true = refl
-and_or false p false = refl
-
-pub run_push : (items olds : List Dot) (node : List ℕ) (n : ℕ) (d : Dot) → among dot_cmp items d ≡ (among dot_cmp olds d || in_run node n d)
-    → among dot_cmp (items ++ record { counter = n + 1; node = node } ∷ []) d ≡ (among dot_cmp olds d || in_run node (n + 1) d)
-run_push items olds node n d so_far =
-    list_any-append (dot_eq d) items (record { counter = n + 1; node = node } ∷ [])
-    ∙ (λ k. so_far k || (among_first (record { counter = n + 1; node = node }) [] d ∙ or-false (dot_eq (record { counter = n + 1; node = node }) d) ∙ sym (dots_tie (record { counter = n + 1; node = node }) d)) k)
-    ∙ or_assoc (among dot_cmp olds d) (in_run node n d) (eqb (n + 1) d.counter && bytes_eq node d.node)
-    ∙ ap (λ b. among dot_cmp olds d || b) (
-    ap (λ b. in_run node n d || (eqb (n + 1) d.counter && b)) (texts_ties node d.node ∙ (eq_by_cmp_equiv nat_list_cmp_total).symm node d.node)
-    ∙ and_or (eq_by_cmp text_cmp d.node node) (leb 1 d.counter && leb d.counter n) (eqb (n + 1) d.counter)
-    ∙ ap (λ b. eq_by_cmp text_cmp d.node node && b) (more_counted n d.counter))

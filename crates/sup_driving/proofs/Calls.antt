@@ -1,47 +1,17 @@
 -- What a call does to a pass.
-use Rattle.std.proofs.Common.{◌≡◌, ℕ, true, List, [], ◌∷◌, ◌++◌, Ok, Err, append_assoc, append-nil, refl, ap, ◌∙◌, sym, subst}
+use Rattle.std.proofs.Common.{◌≡◌, ℕ, List, [], ◌∷◌, ◌++◌, append_assoc, append-nil, ap, ◌∙◌, sym, subst}
 use Rattle.std.proofs.lemmas.Grind.{flat_map-append}
 use Rattle.sup_specs.specs.Values.{Bytes}
-use Rattle.sup_placement.specs.Place.{Weigher}
 use Rattle.sup_replica.specs.declared.event.Act.{Act}
 use Rattle.sup_replica.specs.declared.event.Act.TheVariants.{Event as Of}
 use Rattle.sup_replica.specs.declared.event.Event.TheVariants.{Deliver}
-use Rattle.sup_replica.specs.declared.refusal.Refusal.TheVariants.{OutOfMemory, HistoryFull}
-use Rattle.sup_station.specs.Stills.{Still}
 use Rattle.sup_node_gate.specs.declared.entry.Entry.{Entry}
 use Rattle.sup_node_gate.specs.declared.view.View.{View}
-use Rattle.sup_node_gate.specs.Histories.{Answer, Standing, may_enter, entry}
-use Rattle.sup_node_gate.specs.Calls.{Enters, Refuses, Acts}
-use Rattle.sup_node_gate.proofs.StationParts.{enters}
+use Rattle.sup_node_gate.specs.Histories.{entry}
 use Rattle.sup_plan.specs.Calls.{brought, deliveries}
 use Rattle.sup_plan.specs.Sublists.{Sublist}
-use Rattle.sup_posts.specs.Rounds.{effects_of}
-use Rattle.sup_posts.specs.declared.thread_fault.ThreadFault.{ThreadFault}
-use Rattle.sup_posts.specs.declared.thread_fault.ThreadFault.TheVariants.{HistoryFull as Full, LinkClosed as Shut, OutOfMemory as Wants}
-use Rattle.sup_driving.specs.Called.{Called, SeesMore, IsFaultIn, NotEntered, StopsCalling, letter_of}
+use Rattle.sup_driving.specs.Called.{Called, SeesMore}
 use Rattle.sup_posts.proofs.Sublists.{sub_more, sub_both}
-
-entered_called : (g : Weigher) (s : Still) (v : View) (a : Act) (now : ℕ) (r : Answer) (v' : View) → Enters g s v (entry a now r) v' → Called v a now (effects_of r) (letter_of r) v'
-entered_called g s v a now r v' e = record { answer = r; before = e.before; begins = e.begins; ends = e.ends; own = e.calls; effects_are = refl; letter_is = refl }
-
--- a call whose answer is entered
-pub acts_called : (g : Weigher) (s : Still) (bound : ℕ) (v : View) (a : Act) (now : ℕ) (r : Answer) (v' : View) → Acts g s bound v a now r v' → may_enter r ≡ true → Called v a now (effects_of r) (letter_of r) v'
-acts_called g s bound v a now (Ok done) v' acts may = entered_called g s v a now (Ok done) v' acts
-acts_called g s bound v a now (Err r) v' acts may =
-    entered_called g s v a now (Err r) v' (subst (λ (k : Standing). Refuses k g s bound v (entry a now (Err r)) v') (enters r may) acts)
-
--- a call whose answer isn't entered
-pub acts_refused : (g : Weigher) (s : Still) (bound : ℕ) (v : View) (a : Act) (now : ℕ) (r : Answer) (v' : View) (f : ThreadFault)
-    → Acts g s bound v a now r v' → IsFaultIn r f → NotEntered g s bound v v' f
-acts_refused g s bound v a now (Ok done) v' f acts is = absurd is
-acts_refused g s bound v a now (Err HistoryFull) v' f acts is = subst (NotEntered g s bound v v') (sym is) acts
-acts_refused g s bound v a now (Err OutOfMemory) v' f acts is = subst (NotEntered g s bound v v') (sym is) acts
-acts_refused g s bound v a now (Err r) v' f acts is = absurd is
-
-pub stops_calling : (g : Weigher) (s : Still) (bound : ℕ) (v v' : View) (f : ThreadFault) → NotEntered g s bound v v' f → StopsCalling bound v' f
-stops_calling g s bound v v' Full n = n.0
-stops_calling g s bound v v' Shut n = n
-stops_calling g s bound v v' Wants n = tt
 
 pub more_then : (u v w : View) → SeesMore u v → SeesMore v w → SeesMore u w
 more_then u v w p q = (p.0 ++ q.0, q.1 ∙ (ap (λ l. l ++ q.0) p.1 ∙ append_assoc u.seen p.0 q.0))

@@ -1,6 +1,6 @@
 -- Ends of links that met.
-use Rattle.std.specs.Prelude.{◌≡◌, ◌≤◌, ◌⊎◌, List, [], ◌∷◌, ◌++◌, length, All, Contains, Option, Some, None, Result, Ok, Err, IsOk, IfOk, IfErr, IfSome, IfNone, refl}
-use Rattle.std.proofs.Common.{sym, subst, arith, inl, inr}
+use Rattle.std.specs.Prelude.{◌≡◌, ◌≤◌, List, [], ◌∷◌, ◌++◌, length, All, Option, Some, None, Result, Ok, Err, IsOk, IfOk, IfErr, IfSome, IfNone, refl}
+use Rattle.std.proofs.Common.{arith}
 use Rattle.std.specs.List.{AllZip}
 use Rattle.sup_placement.specs.declared.weigh.Weigh.{Ghosts as WeighGhosts}
 use Rattle.sup_links.specs.declared.link_in.Sent.{Sent}
@@ -9,9 +9,9 @@ use Rattle.sup_posts.specs.declared.jobs.Driven.{Driven}
 use Rattle.sup_posts.specs.declared.thread_fault.ThreadFault.{ThreadFault}
 use Rattle.sup_posts.specs.Faults.{IsBelow, IsGravest, gravity}
 use Rattle.sup_posts.proofs.Items.{all_weaken}
-use Rattle.sup_posts.proofs.ToldFaults.{good_below, is_below, other_below}
+use Rattle.sup_posts.proofs.ToldFaults.{good_below, other_below}
 use Rattle.sup_crew.specs.declared.team.Team.{Team}
-use Rattle.sup_driving.specs.Gathering.{Steering, Reception, Met, AllMet, IsGathered, IsGravestOfTeam, IsFaultOfTeam, Gathers}
+use Rattle.sup_driving.specs.Gathering.{Steering, Reception, Met, AllMet, IsGathered, IsFaultOfTeam, Gathers}
 
 pub none_paired : {A B : Type 0} (R : A → B → Type 0) (xs : List A) (ys : List B) → AllZip R xs ys → length ys ≡ 0 → length xs ≡ 0
 none_paired R [] ys h e = refl
@@ -31,26 +31,6 @@ module _ {W : Type 0} {h : WeighGhosts W} where
   gathers_as done (Ok driven) good bad = good
   gathers_as done (Err fault) good bad = bad
 
-  -- the fault of a driver, or a graver one of its receivers
-  pub lead_fault : (done : Team (Steering W h) (Reception W h)) (worst : Option ThreadFault) (f g : ThreadFault) → done.lead ≡ Err f
-      → IfSome worst (IsGravest done.others.items) → IfNone worst (All IsOk done.others.items)
-      → (g ≡ f) ⊎ (worst ≡ Some g) → gravity f ≤ gravity g → IfSome worst (λ w. gravity w ≤ gravity g) → IsGravestOfTeam done g
-  lead_fault done worst f g is some none either above below = record {
-    stands = stands_of worst some either;
-    lead = subst (IsBelow g) (sym is) (is_below f g above);
-    others = others_of worst some none below;
-  }
-    where
-      stands_of : (w : Option ThreadFault) → IfSome w (IsGravest done.others.items) → (g ≡ f) ⊎ (w ≡ Some g) → (done.lead ≡ Err g) ⊎ Contains done.others.items (Err g)
-      stands_of w s (inl e) = inl (subst (λ x. done.lead ≡ Err x) (sym e) is)
-      stands_of w s (inr e) =
-          let there : IsGravest done.others.items g = subst (λ v. IfSome v (IsGravest done.others.items)) e s in
-          inr there.stands
-
       others_of : (w : Option ThreadFault) → IfSome w (IsGravest done.others.items) → IfNone w (All IsOk done.others.items) → IfSome w (λ v. gravity v ≤ gravity g) → All (IsBelow g) done.others.items
       others_of (Some v) s n b = all_weaken (IsBelow v) (IsBelow g) (other_below v g b) done.others.items s.gravest
       others_of None s n b = all_weaken IsOk (IsBelow g) (good_below g) done.others.items n
-
-  -- the gravest of its receivers, where it is well itself
-  pub other_fault : (done : Team (Steering W h) (Reception W h)) (g : ThreadFault) → IsOk done.lead → IsGravest done.others.items g → IsGravestOfTeam done g
-  other_fault done g well s = record { stands = inr s.stands; lead = good_below g done.lead well; others = s.gravest }

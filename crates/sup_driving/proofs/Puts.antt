@@ -1,5 +1,5 @@
 -- The links of a driver, once more was put.
-use Rattle.std.proofs.Common.{◌≡◌, ℕ, List, [], ◌∷◌, ◌++◌, length, take, drop, true, Result, Ok, Err, None, inl, inr, append_assoc, append-nil, refl, ap, ◌∙◌, sym, subst}
+use Rattle.std.proofs.Common.{◌≡◌, ℕ, List, [], ◌∷◌, ◌++◌, length, take, drop, Ok, Err, None, append_assoc, append-nil, refl, ap, ◌∙◌, sym, subst}
 use Rattle.std.specs.List.{AllZip}
 use Rattle.std.proofs.lemmas.List.{map-append}
 use Rattle.std.proofs.lemmas.Grind.{flat_map-append}
@@ -8,7 +8,7 @@ use Rattle.sup_replica.specs.declared.event.Act.{Act}
 use Rattle.sup_node_gate.specs.declared.entry.Entry.{Entry}
 use Rattle.sup_node_gate.specs.declared.view.View.{View}
 use Rattle.sup_node_gate.specs.Histories.{Answer, entry}
-use Rattle.sup_links.specs.Ends.{put_of, is_closed}
+use Rattle.sup_links.specs.Ends.{put_of}
 use Rattle.sup_plan.specs.Calls.{Call, call_of, text_to, letter_to, letters_to}
 use Rattle.sup_plan.specs.Sublists.{Sublist}
 use Rattle.sup_driving.specs.declared.wires.Wire.{Wire}
@@ -16,12 +16,7 @@ use Rattle.sup_driving.specs.Called.{Called, SeesMore, letter_of}
 use Rattle.sup_links.specs.declared.link_in.Sent.{Sent}
 use Rattle.sup_links.specs.Ends.{sent_put}
 use Rattle.sup_driving.specs.Teams.{HasSent}
-use Rattle.sup_driving.specs.Wires.{IsLater, HasPut, Each, HasLetters, IsEnded, Did, StopsPutting}
-use Rattle.sup_links.specs.declared.link_in.PutFault.{PutFault}
-use Rattle.sup_links.specs.declared.link_in.PutFault.TheVariants.{Closed, OutOfMemory as NoMemory}
-use Rattle.sup_posts.specs.Faults.{of_put}
-use Rattle.sup_posts.specs.declared.thread_fault.ThreadFault.{ThreadFault}
-use Rattle.sup_posts.specs.declared.thread_fault.ThreadFault.TheVariants.{HistoryFull, LinkClosed, OutOfMemory}
+use Rattle.sup_driving.specs.Wires.{IsLater, HasPut, Each, HasLetters, IsEnded, Did}
 use Rattle.sup_posts.proofs.Sublists.{sub_more, sub_both}
 
 pub later_same : (w : Wire) → IsLater w w
@@ -141,19 +136,3 @@ whole [] [] p = refl
 whole [] (v ∷ vs) p = absurd p
 whole (u ∷ us) [] p = absurd p
 whole (u ∷ us) (v ∷ vs) p = ap (λ l. v ∷ l) (whole us vs p.1)
-
--- a put that failed
-pub stops_put : (w : Wire) (r : Result (Unit {0}) PutFault) (e : PutFault) → r ≡ Err e → (r ≡ Err Closed → is_closed w.entry ≡ true) → StopsPutting (w ∷ []) (of_put e)
-stops_put w r Closed is shut = inl (shut is)
-stops_put w r NoMemory is shut = tt
-
-pub stops_first : (w : Wire) (ws : List Wire) (f : ThreadFault) → StopsPutting (w ∷ []) f → StopsPutting (w ∷ ws) f
-stops_first w ws HistoryFull s = s
-stops_first w ws LinkClosed (inl s) = inl s
-stops_first w ws LinkClosed (inr s) = absurd s
-stops_first w ws OutOfMemory s = tt
-
-pub stops_later : (w : Wire) (ws : List Wire) (f : ThreadFault) → StopsPutting ws f → StopsPutting (w ∷ ws) f
-stops_later w ws HistoryFull s = s
-stops_later w ws LinkClosed s = inr s
-stops_later w ws OutOfMemory s = tt

@@ -27,9 +27,6 @@ fail_skip : (now : ℕ) (run : Run) (runs : List Run) (es : List Entry) → Fail
 fail_skip now run runs [] f = tt
 fail_skip now run runs (e ∷ es) f = (f.0, run ∷ f.1, f.2, ap (λ l. run ∷ l) f.3, f.4, f.5)
 
-pub tells_none : (now : ℕ) (v : View) → Tells now [] v v
-tells_none now v = record { exits = []; are = tt; own = sym (append-nil (calls_of v)) }
-
 started : (now : ℕ) (effect : Effect) (later : List Effect) (w : List (List Effect)) (v u : View) → Tells now (runs_of later ++ runs_in w) v u → Tells now (runs_of (effect ∷ later) ++ runs_in w) v u
 started now (Stop id inc) later w v u t = t
 started now (Start id inc spec) later w v u t = record { exits = t.exits; are = fail_skip now (id, inc) (runs_of later ++ runs_in w) t.exits t.are; own = t.own }

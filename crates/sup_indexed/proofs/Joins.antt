@@ -17,11 +17,6 @@ use Rattle.sup_dot_store.specs.Contents.{values_of}
 use Rattle.sup_dot_store.specs.Points.{standing, higher, value_at}
 use Rattle.sup_dot_store.specs.Index.{value_under}
 use Rattle.sup_dot_store.proofs.IndexLaws.{same}
-use Rattle.std.specs.BTreeSet.{BTreeSet}
-use Rattle.std.proofs.lemmas.Bool.{false_from_ne_true}
-use Rattle.sup_indexed.specs.declared.place.Place.{Place}
-use Rattle.sup_indexed.specs.Listed.{listed, stands}
-use Rattle.sup_indexed.specs.Changed.{changed_at, changed_value}
 
 -- no value has changed yet, and the functions that are to change have the wanted values
 pub record IsChangingTo {K V : Type 0} (cmp : K → K → Ordering) (wanted : K → Dot → Option V) (old now changed : BTreeMap K (DotFun V)) : Type 0 where
@@ -29,9 +24,6 @@ pub record IsChangingTo {K V : Type 0} (cmp : K → K → Ordering) (wanted : K 
   pub as_wanted : (k : K) (f : DotFun V) → get cmp changed k ≡ Some f → (d : Dot) → at_dot (values_of f) d ≡ wanted k d
 
 module _ {K V : Type 0} {cmp : K → K → Ordering} (wanted : K → Dot → Option V) (old now changed : BTreeMap K (DotFun V)) where
-  pub changing_first : ((k : K) → get cmp changed k ≡ None) → IsChangingTo cmp wanted old old changed
-  changing_first none = record { same_values = λ k d. refl; as_wanted = λ k f is d. absurd (cc (none k, is)) }
-
   pub changing_more : IsExact cmp → (key : K) (f : DotFun V) (now' more : BTreeMap K (DotFun V)) → ((k : K) (d : Dot) → value_under cmp now' k d ≡ value_under cmp now k d)
       → ((k : K) → get cmp more k ≡ cond (eq_by_cmp cmp key k) (Some f) (get cmp changed k)) → ((d : Dot) → at_dot (values_of f) d ≡ wanted key d) → IsChangingTo cmp wanted old now changed → IsChangingTo cmp wanted old now' more
   changing_more exact key f now' more stay put is changing = record {
@@ -42,14 +34,6 @@ module _ {K V : Type 0} {cmp : K → K → Ordering} (wanted : K → Dot → Opt
       at : (k : K) (h : DotFun V) (d : Dot) (b : Bool) → eq_by_cmp cmp key k ≡ b → cond b (Some f) (get cmp changed k) ≡ Some h → at_dot (values_of h) d ≡ wanted k d
       at k h d true e found = ap (λ f. at_dot (values_of f) d) (sym (same_Some f h found)) ∙ is d ∙ ap (λ k. wanted k d) (same exact key k e)
       at k h d false e found = changing.as_wanted k h found d
-
-  -- once each key is changed where the wanted values differ, all values are the wanted ones
-  pub changing_done : IsChangingTo cmp wanted old now changed → ((k : K) (d : Dot) → get cmp changed k ≡ None → value_under cmp old k d ≡ wanted k d) → (k : K) (d : Dot) → changed_value cmp changed now k d ≡ wanted k d
-  changing_done changing rest k d = at (get cmp changed k) refl
-    where
-      at : (o : Option (DotFun V)) → get cmp changed k ≡ o → changed_at o (value_under cmp now k d) d ≡ wanted k d
-      at None e = changing.same_values k d ∙ rest k d e
-      at (Some f) e = changing.as_wanted k f e d
 
 -- a value that the other neither has nor knows of stays, and where neither has one there is none
 pub untouched : {V : Type 0} (lesser : V → V → V) (m t : Bool) (x y : Option V) → (IsSome x → m ≡ true) → (IsSome x → t ≡ false) → y ≡ None → x ≡ value_at (higher lesser (standing m x) (standing t y))
@@ -67,17 +51,6 @@ untouched {V = V} lesser m t x y mine theirs none = at m t x mine theirs ∙ ap 
 absent : {V : Type 0} (o : Option V) → (is_some o ≡ true → ⊥) → o ≡ None
 absent None never = refl
 absent (Some x) never = absurd (never refl)
-
--- the values under a key that is not touched are those of the join
-pub left_alone : {K V : Type 0} (cmp : K → K → Ordering) (lesser : V → V → V) (mine theirs : Dot → Bool) (old other : BTreeMap K (DotFun V)) (index : BTreeSet (Place K)) (touched : Bool) (k : K) (d : Dot)
-    → (touched ≡ true → ⊥)
-    → (stands cmp old k d ≡ true → listed cmp index k d ≡ true)
-    → (stands cmp other k d ≡ true → touched ≡ true)
-    → (listed cmp index k d ≡ true → mine d ≡ true → theirs d ≡ true → touched ≡ true)
-    → (IsSome (value_under cmp old k d) → mine d ≡ true)
-    → value_under cmp old k d ≡ value_at (higher lesser (standing (mine d) (value_under cmp old k d)) (standing (theirs d) (value_under cmp other k d)))
-left_alone cmp lesser mine theirs old other index touched k d not lists there here covers =
-    untouched lesser (mine d) (theirs d) (value_under cmp old k d) (value_under cmp other k d) covers (λ s. false_from_ne_true (theirs d) (λ t. not (here (lists s) (covers s) t))) (absent (value_under cmp other k d) (λ s. not (there s)))
 
 pub done_more : {K V : Type 0} {cmp : K → K → Ordering} → IsTotalOrder cmp → (changed more : BTreeMap K (DotFun V)) (key : K) (f : DotFun V) (rest : List K) (k : K) → get cmp more k ≡ cond (eq_by_cmp cmp key k) (Some f) (get cmp changed k)
     → IsSome (get cmp changed k) ⊎ (among cmp (key ∷ rest) k ≡ true) → IsSome (get cmp more k) ⊎ (among cmp rest k ≡ true)

@@ -21,7 +21,7 @@ use Rattle.std.proofs.lemmas.Bool.{and_parts}
 use Rattle.sup_dot_store.proofs.IndexLaws.{same, tie}
 use Rattle.sup_indexed.specs.declared.place.Place.{Place}
 use Rattle.sup_indexed.specs.Listed.{listed, stands, stands_in, ListsAll}
-use Rattle.sup_indexed.specs.Changed.{IsOpen, IsReady, changed_value, changed_at}
+use Rattle.sup_indexed.specs.Changed.{IsOpen, IsReady}
 use Rattle.sup_indexed.proofs.Exchanges.{at_function}
 
 or_weaker : (a b c : Bool) → (b ≡ true → c ≡ true) → (a || b) ≡ true → (a || c) ≡ true
@@ -102,24 +102,8 @@ module _ {K V : Type 0} (cmp : K → K → Ordering) (stores changed : BTreeMap 
   pub closed_none_empty : IsOpen cmp stores index changed → NoneEmpty value_of cmp stores
   closed_none_empty opened k s is = opened.none_empty k s (none_changes k) is
 
-  pub closed_value : (k : K) (d : Dot) → changed_value cmp changed stores k d ≡ value_under cmp stores k d
-  closed_value k d = ap (λ o. changed_at o (value_under cmp stores k d) d) (none_changes k)
-
 -- a map of which nothing is to change yet
 module _ {K V : Type 0} (cmp : K → K → Ordering) (stores changed : BTreeMap K (DotFun V)) (index : BTreeSet (Place K)) where
-  pub open_first : ListsAll cmp index stores → NoneEmpty value_of cmp stores → IsOpen cmp stores index changed
-  open_first lists none_empty = record {
-    lists_stores = λ k d s. lists k d ∙ s;
-    lists_no_more = λ k d l. ap (λ s. s || stands cmp changed k d) (sym (lists k d) ∙ l);
-    none_empty = λ k s none is. none_empty k s is;
-  }
-
-  pub ready_first : changed.entries ≡ [] → IsReady cmp stores index changed
-  ready_first none = record {
-    lists_changed = λ k d s. absurd (false≢true (sym (ap (λ es. is_some (at_function (lookup (is_at (cmp k)) es) d)) none) ∙ s));
-    has_room = λ k s. absurd (false≢true (sym (ap (λ es. is_some (lookup (is_at (cmp k)) es)) none) ∙ s));
-  }
-
 module _ {K V : Type 0} {cmp : K → K → Ordering} (total : IsTotalOrder cmp) (changed more : BTreeMap K (DotFun V)) (key : K) (f : DotFun V) (put : (q : K) → get cmp more q ≡ cond (eq_by_cmp cmp key q) (Some f) (get cmp changed q)) where
   got : get cmp more key ≡ Some f
   got = put key ∙ ap (λ b. cond b (Some f) (get cmp changed key)) (tie total key key refl)

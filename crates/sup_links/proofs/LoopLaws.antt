@@ -1,7 +1,7 @@
 -- The loops over those that wait, one step on.
-use Rattle.std.proofs.Common.{◌≡◌, ◌≢◌, ℕ, zero, suc, ◌+◌, ◌-◌, ◌<◌, ◌≤◌, Bool, true, false, List, [], ◌∷◌, ◌++◌, length, take, drop, set, get_or, refl, ap, ◌∙◌, sym, subst, arith, append-nil, append_assoc, not}
+use Rattle.std.proofs.Common.{◌≡◌, ◌≢◌, ℕ, zero, suc, ◌+◌, ◌-◌, ◌<◌, Bool, true, false, List, [], ◌∷◌, ◌++◌, length, take, drop, set, get_or, refl, ap, ◌∙◌, sym, subst, arith, append_assoc, not}
 use Rattle.std.specs.Prelude.{◌==◌, filter, if◌then◌else◌}
-use Rattle.std.proofs.lemmas.List.{at_drop_more, drop-set-lt, drop_all}
+use Rattle.std.proofs.lemmas.List.{at_drop_more, drop-set-lt}
 use Rattle.std.proofs.lemmas.Bool.{eq-eqb}
 use Rattle.std.proofs.lemmas.Bool.Decides.{nat_tests}
 use Rattle.sup_links.specs.declared.held.Held.{Held}
@@ -75,6 +75,3 @@ went_none was now i d gone lt a before = record {
   order = before.order ∙ ap (λ l. gone ++ l) (due_head now i d lt ∙ ap (λ t. (if t then (get_or now i d).text.items ∷ [] else []) ++ due (waiting (drop (i + 1) now))) (not_zero (get_or now i d).left a));
   others = before.others;
 }
-
-pub went_all : (was now : List Held) (i : ℕ) (gone : List Bytes) → length now ≤ i → Went was now i gone → due (waiting was) ≡ gone
-went_all was now i gone all before = before.order ∙ (ap (λ hs. gone ++ due (waiting hs)) (drop_all i now all) ∙ append-nil gone)

@@ -2,7 +2,7 @@
 use Rattle.std.proofs.Common.{◌≡◌, ◌≢◌, ℕ, zero, suc, true, false, true≢false, List, [], ◌∷◌, ◌++◌, length, set, sym, refl, ap, ◌∙◌, subst, ⊎_elim, append_assoc}
 use mathlib.Core.Option.{some, some-ne-none}
 use lib.ListN.{get_elem?}
-use Rattle.crossbeam_channel.specs.Fifo.{Pushes, Pops, Forks, Merges, Learns}
+use Rattle.crossbeam_channel.specs.Fifo.{Pushes, Pops, Forks, Merges}
 use Rattle.atomic_table.proofs.Lists.{at_set, at_snoc}
 use Rattle.sup_links.specs.declared.channel.Seen.{Seen}
 use Rattle.sup_links.specs.declared.channel.Parcel.{Parcel}
@@ -86,6 +86,3 @@ parts port v a b items views h at = let l : Seen = log false true [] v.taken in 
       λ j u e. ⊎_elim (λ x. ((λ p. absurd ((old j u x).0 p)), (old j u x).1))
           (λ (is : r ≡ u). ((λ p. (at_end vs r u j (λ x. (old j u x).0 p) e, ap (λ (y : Seen). y.put) (sym is) ∙ (mine.0 a).1)), λ p. absurd (true≢false (sym (ap (λ (y : Seen). y.takes) is ∙ p))))) (at_snoc vs r u j e),
     )
-
-pub totals : (port : ℕ) (v : Seen) → v.puts ≡ true → v.takes ≡ true → Learns Relayed port v (λ items. v.put ≡ v.taken ++ items)
-totals port v a b items views h at = let mine = h.5 port v at in (mine.0 a).1 ∙ h.4 ∙ ap (λ l. l ++ items) (sym (mine.1 b).1)

@@ -23,7 +23,7 @@ use Rattle.sup_replica.specs.declared.done.Reply.TheVariants.{Sent, Acked, Boot}
 use Rattle.sup_replica.specs.declared.event.Act.TheVariants.{Event as Of, Restart}
 use Rattle.sup_replica.specs.declared.letter.Letter.{Letter}
 use Rattle.sup_replica.specs.declared.refusal.Refusal.{Refusal}
-use Rattle.sup_replica.specs.declared.refusal.Refusal.TheVariants.{OutOfMemory, KeepFailed, CountSpent, Down, UnknownNode, UpToDate, NothingToPush, BadMessage, WrongReceiver}
+use Rattle.sup_replica.specs.declared.refusal.Refusal.TheVariants.{OutOfMemory, KeepFailed, CountSpent, Down, UnknownNode, BadMessage, WrongReceiver}
 use Rattle.sup_replica.specs.Checks.{refused_if, then_do}
 use Rattle.sup_replica.specs.Nodes.{Node, Outcome, Message, push, is_named}
 use Rattle.sup_replica.specs.Acts.{act_step, kept_by, absorbs, deliver, takes}
@@ -277,17 +277,6 @@ module _ (g : Weigher) (s : Station State) (from : Bytes) (m : Message State) (m
       fits = fits-of s m.content p.change (within o takes-of e) image of;
     }
 
-    pub taken-refused : (r : Refusal) → (checked takes-of ≡ Err r) ⊎ ((r ≡ OutOfMemory) × IsOk takes-of) → (taken true ≡ Err r) ⊎ (r ≡ OutOfMemory)
-    taken-refused r (inl e) = inl (taken-is true ∙ ap (go-on taken-move) (kept-err takes-of r e))
-    taken-refused r (inr f) = inr f.0
-
--- mail for another node
-pub misdirected : (g : Weigher) (s : Station State) (from : Bytes) (m : Message State) (mail : Option (Mail State)) → s.node.up ≡ true → is_named m.to s.node.name ≡ false
-    → taken_with by_tables g s from m true mail ≡ Err WrongReceiver
-misdirected g s from m mail up other =
-    ap (λ b. go-on (λ o. moved by_tables o (notes by_tables s o.node m.content) mail) (kept_by true (refused_if (not b) Down (refused_if (not (is_named m.to s.node.name)) WrongReceiver (Ok (takes by_tables g s.node from m.kind m.content)))))) up
-    ∙ ap (λ b. go-on (λ o. moved by_tables o (notes by_tables s o.node m.content) mail) (kept_by true (refused_if (not b) WrongReceiver (Ok (takes by_tables g s.node from m.kind m.content))))) other
-
 -- ---- acknowledgements
 
 module _ (g : Weigher) (s : Station State) (from to : Bytes) (n : ℕ) (up : s.node.up ≡ true) where
@@ -296,12 +285,6 @@ module _ (g : Weigher) (s : Station State) (from to : Bytes) (n : ℕ) (up : s.n
 
   abbrev ack-step : Bool → Bool → Bool → Result (Move State) Refusal
   ack-step a b c = refused_if (not a) Down (refused_if (not b) WrongReceiver (refused_if c BadMessage (Ok acked-move)))
-
-  pub ack-other : is_named to s.node.name ≡ false → (saved : Bool) → mail_step by_tables g s (an_ack from to n) saved ≡ Err WrongReceiver
-  ack-other e saved = λ i. ack-step (up i) (e i) (nat_lt s.node.count n)
-
-  pub ack-above : is_named to s.node.name ≡ true → nat_lt s.node.count n ≡ true → (saved : Bool) → mail_step by_tables g s (an_ack from to n) saved ≡ Err BadMessage
-  ack-above e f saved = λ i. ack-step (up i) (e i) (f i)
 
   ack-taken : is_named to s.node.name ≡ true → nat_lt s.node.count n ≡ false → (saved : Bool) → mail_step by_tables g s (an_ack from to n) saved ≡ Ok acked-move
   ack-taken e f saved = λ i. ack-step (up i) (e i) (f i)
@@ -321,12 +304,6 @@ shipped-as b n to me x e m h =
 module _ (g : Weigher) (s : Station State) (to : Bytes) (now : ℕ) (up : s.node.up ≡ true) where
   abbrev ships : Option (Mail State) → Bool → Bool → Result (Move State) Refusal
   ships mail a b = refused_if (not a) Down (refused_if b UnknownNode (ship_step by_tables s mail))
-
-  pub ship-itself : is_named to s.node.name ≡ true → (saved : Bool) → stepped g s (Ship to) now None saved ≡ Err UnknownNode
-  ship-itself e saved = λ i. ships (shipped by_tables s to) (up i) (e i)
-
-  pub ship-known : is_named to s.node.name ≡ false → shipped by_tables s to ≡ None → (saved : Bool) → stepped g s (Ship to) now None saved ≡ Err UpToDate
-  ship-known e f saved = λ i. ships (f i) (up i) (e i)
 
   ship-sent : (mail : Mail State) → is_named to s.node.name ≡ false → shipped by_tables s to ≡ Some mail → (saved : Bool)
       → stepped g s (Ship to) now None saved ≡ Ok (record { done = record { reply = Sent; effects = [] }; letter = Some mail; station = s })
@@ -349,13 +326,6 @@ module _ (g : Weigher) (s : Station State) (to : Bytes) (now : ℕ) (up : s.node
 
   abbrev push-step : Option State → Bool → Result (Outcome State) Refusal
   push-step newest b = refused_if b UnknownNode (push_step s.node to newest)
-
-  pub push-itself : is_named to s.node.name ≡ true → stepped g s (Push to) now None true ≡ Err UnknownNode
-  push-itself e = own-is g s (Push to) now up true ∙ ap (λ b. go-on (own-move g s (Push to) now up) (kept_by true (push-step s.node.newest b))) e
-
-  pub push-nothing : is_named to s.node.name ≡ false → s.node.newest ≡ None → stepped g s (Push to) now None true ≡ Err NothingToPush
-  push-nothing e f =
-      own-is g s (Push to) now up true ∙ (λ i. go-on (own-move g s (Push to) now up) (kept_by true (push-step (f i) (e i))))
 
   abbrev pushes : State → Outcome State
   pushes own = only s.node Sent [] (Some (record { to = to; kind = push; content = own }))

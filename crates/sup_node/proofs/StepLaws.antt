@@ -1,10 +1,7 @@
 -- What the checks of a step say, and what a step makes ready.
-use Rattle.std.specs.Prelude.{◌≡◌, ℕ, ◌+◌, ◌<◌, ◌≤◌, Bool, true, false, ◌||◌, nat_lt, is_ok, length, List, [], Option, Result, Ok, Err, refl}
-use Rattle.std.specs.Str.{bytes_eq}
-use Rattle.std.specs.Map.{lookup}
+use Rattle.std.specs.Prelude.{◌≡◌, ℕ, ◌+◌, ◌<◌, ◌≤◌, Bool, true, false, ◌||◌, nat_lt, is_ok, length, List, [], Option, Result, Ok, Err}
 use Rattle.std.proofs.Common.{None, sym, ap, ◌∙◌, arith, subst}
 use Rattle.std.proofs.Math.Bool.{or-true}
-use mathlib.Core.Bool.{true≢false}
 use mathlib.Core.Logic.{inl, inr}
 use Rattle.sup_specs.specs.Values.{Bytes}
 use Rattle.sup_specs.specs.declared.limits.TheConstants.{MAX}
@@ -18,22 +15,21 @@ use Rattle.sup_local_sup.specs.declared.effect.Effect.{Effect}
 use Rattle.sup_local_sup.specs.declared.wanted.Wanted.{Wanted}
 use Rattle.sup_local_sup.specs.declared.leaving.Leaving.{Leaving}
 use Rattle.sup_local_sup.specs.declared.leaving.Leaving.TheVariants.{Nobody}
-use Rattle.sup_local_sup.specs.declared.leaving.Ruling.TheVariants.{Restart}
 use Rattle.sup_local_sup.specs.Keeping.{newly}
 use Rattle.sup_local_sup.specs.Supervising.{Supervisor}
-use Rattle.sup_local_sup.specs.Planning.{Plan, plan_of, carried_out, kept_of_leaving, restart_effects, restarted}
+use Rattle.sup_local_sup.specs.Planning.{Plan, plan_of, carried_out, kept_of_leaving, restarted}
 use Rattle.sup_replica.specs.declared.refusal.Refusal.{Refusal}
 use Rattle.sup_replica.specs.declared.refusal.Refusal.TheVariants.{CountSpent}
 use Rattle.sup_replica.specs.declared.done.Reply.{Reply}
 use Rattle.sup_replica.specs.declared.done.Reply.TheVariants.{Added, Removed, Replaced, Restarted, Known}
 use Rattle.sup_replica.specs.Checks.{refused_if}
 use Rattle.sup_replica.specs.Nodes.{Node, Outcome, wanted_at}
-use Rattle.sup_replica.specs.Steps.{passes_greatest, only, issues, command, exit_step}
+use Rattle.sup_replica.specs.Steps.{passes_greatest, only, issues, command}
 use Rattle.sup_replica.specs.Acts.{absorbs}
 use Rattle.sup_replica.specs.ByTables.{by_tables}
-use Rattle.sup_node.specs.declared.change.Change.TheVariants.{Nothing, Begins, Learns}
+use Rattle.sup_node.specs.declared.change.Change.TheVariants.{Nothing, Learns}
 use Rattle.sup_node.specs.declared.change.Ready.{Ready}
-use Rattle.sup_node.specs.Changes.{Readies, checked, outcome_of, newer, learns}
+use Rattle.sup_node.specs.Changes.{Readies, checked, newer, learns}
 use Rattle.sup_node.proofs.PlanLaws.{not-above}
 
 lt-true : (n m : ℕ) → n + 1 ≤ m → nat_lt n m ≡ true
@@ -43,17 +39,8 @@ lt-true n m h = grind arith
 pub within_greatest : (n : Node State) → n.count ≤ MAX → n.supervisor.given ≤ MAX → n.supervisor.boot ≤ MAX → passes_greatest n ≡ false
 within_greatest n a b c = λ i. not-above MAX n.count a i || (not-above MAX n.supervisor.given b i || not-above MAX n.supervisor.boot c i)
 
--- and one does
-pub count_passes : (n : Node State) → MAX + 1 ≤ n.count → passes_greatest n ≡ true
-count_passes n a = λ i. lt-true MAX n.count a i || (nat_lt MAX n.supervisor.given || nat_lt MAX n.supervisor.boot)
-
 pub given_passes : (n : Node State) → MAX + 1 ≤ n.supervisor.given → passes_greatest n ≡ true
 given_passes n a = (λ i. nat_lt MAX n.count || (lt-true MAX n.supervisor.given a i || nat_lt MAX n.supervisor.boot)) ∙ or-true (nat_lt MAX n.count)
-
-pub boot_passes : (n : Node State) → MAX + 1 ≤ n.supervisor.boot → passes_greatest n ≡ true
-boot_passes n a =
-    (λ i. nat_lt MAX n.count || (nat_lt MAX n.supervisor.given || lt-true MAX n.supervisor.boot a i))
-    ∙ ap (λ b. nat_lt MAX n.count || b) (or-true (nat_lt MAX n.supervisor.given)) ∙ or-true (nat_lt MAX n.count)
 
 -- an outcome whose numbers are in their limits is told, and another isn't
 pub is_told : (o : Outcome State) → passes_greatest o.node ≡ false → checked (Ok o) ≡ Ok o
@@ -110,19 +97,6 @@ module _ (w : Weigher) (n : Node State) (id : Bytes) (now : ℕ) where
   abbrev again : List Effect → Outcome State
   again effects = record { done = record { reply = Restarted; effects = effects }; node = record n { supervisor = restarted n.supervisor id now }; letter = None; saves = false }
 
-  pub restart_ready : (copy : Bytes) (effects : List Effect) → copy ≡ id → effects ≡ restart_effects n.supervisor id (lookup (bytes_eq id) n.supervisor.kept)
-      → n.count ≤ MAX → n.supervisor.given < MAX → n.supervisor.boot ≤ MAX
-      → Readies (exit_step by_tables w n id now Restart) n (Ok (record { reply = Restarted; effects = effects; change = Begins copy now }))
-  restart_ready copy effects ce ee a b c = (
-    ap (λ e. checked (Ok (again e))) (sym ee) ∙ is_told (again effects) (within_greatest (again effects).node a (omega (arith, b)) c)
-        ∙ ap (λ x. Ok (outcome_of n (record { reply = Restarted; effects = effects; change = Begins x now }))) (sym ce),
-    tt,
-  )
-
-  pub restart_spent : MAX ≤ n.supervisor.given → checked (exit_step by_tables w n id now Restart) ≡ Err CountSpent
-  restart_spent h =
-      is_untold (again (restart_effects n.supervisor id (lookup (bytes_eq id) n.supervisor.kept))) (given_passes (record n { supervisor = restarted n.supervisor id now }) (omega (arith, h)))
-
 -- a delta that brings nothing new
 pub known_ready : (w : Weigher) (n : Node State) (delta : State) (covered : Bool) (effects : List Effect) → covered ≡ true → join_states n.known delta ≡ n.known → effects ≡ [] → passes_greatest n ≡ false
     → Readies (Ok (absorbs by_tables w n delta None covered)) n (Ok (record { reply = Known; effects = effects; change = Nothing }))
@@ -150,16 +124,3 @@ module _ (w : Weigher) (n : Node State) where
   pub replaces : (checks : Result Operation Refusal) (op : Operation) (dot : Dot) (dots : List Dot) (delta : State) → checks ≡ Ok op → dot ≡ next_at n.known n.name → dots ≡ op.removes → delta ≡ state_of_one op
       → command by_tables w n checks (λ op. Replaced (next_at n.known n.name) op.removes) ≡ Ok (issues by_tables w n (Replaced dot dots) Nobody delta)
   replaces checks op dot dots delta e ne de se = ap (λ r. command by_tables w n r (λ op. Replaced (next_at n.known n.name) op.removes)) e ∙ (λ i. Ok (issues by_tables w n (Replaced (sym ne i) (sym de i)) Nobody (sym se i)))
-
--- what is ready is within the limits, so it can be carried out
-pub told_within : (b : Bool) (made o : Outcome State) → passes_greatest made.node ≡ b → refused_if b CountSpent (Ok made) ≡ Ok o → passes_greatest o.node ≡ false
-told_within true made o e h = absurd (true≢false (ap is_ok (sym h)))
-told_within false made o e h = ap (λ (r : Result (Outcome State) Refusal). passes_of r) (sym h) ∙ e
-  where
-    passes_of : Result (Outcome State) Refusal → Bool
-    passes_of (Ok m) = passes_greatest m.node
-    passes_of (Err r) = false
-
-pub ready_is_within : (step : Result (Outcome State) Refusal) (o : Outcome State) → checked step ≡ Ok o → passes_greatest o.node ≡ false
-ready_is_within (Ok made) o h = told_within (passes_greatest made.node) made o refl h
-ready_is_within (Err r) o h = absurd (true≢false (ap is_ok (sym h)))

@@ -10,9 +10,6 @@ module _ {X : Type 0} where
   pub all_at : (P : X → Type 0) (xs : List X) → ((i : ℕ) (x : X) → slice_get xs i ≡ Some x → P x) → All P xs
   all_at P xs f k d lt = f k (slice_index_or xs k d) (slice_get-get_or xs k d lt)
 
-  pub at_all : (P : X → Type 0) (xs : List X) (i : ℕ) (x : X) → All P xs → slice_get xs i ≡ Some x → P x
-  at_all P xs i x h e = subst P (get_or_from_slice_get xs i x x e) (h i x (slice_get_within xs i x e))
-
   pub contained : (P : X → Type 0) (xs : List X) (x : X) → All P xs → Contains xs x → P x
   contained P xs x h c = subst P c.2 (h c.0 x c.1)
 

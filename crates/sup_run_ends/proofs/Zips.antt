@@ -1,31 +1,20 @@
 -- Lists that agree place by place.
-use Rattle.std.specs.Prelude.{◌≡◌, ℕ, ◌+◌, ◌<◌, ◌≤◌, zero, suc, List, [], ◌∷◌, ◌++◌, length, map, take, drop, get_or, Some, slice_get, refl}
+use Rattle.std.specs.Prelude.{◌≡◌, ℕ, ◌+◌, ◌<◌, zero, suc, List, [], ◌∷◌, ◌++◌, length, map, take, drop, get_or, Some, slice_get, refl}
 use Rattle.std.specs.List.{AllZip}
 use Rattle.std.proofs.Common.{sym, ap, ◌∙◌, subst, arith}
-use Rattle.std.proofs.lemmas.List.{drop_more, take_more, take_all}
+use Rattle.std.proofs.lemmas.List.{drop_more, take_more}
 use Rattle.std.proofs.lemmas.Slice.Zip.{all_zipped_more}
 use Rattle.std.proofs.lemmas.Option.{none-some, same_Some}
 
 module _ {A B : Type 0} (R : A → B → Type 0) where
-  -- what is left of both, where the first is gone through by place
-  pub zip_here : (xs : List A) (i : ℕ) (x : A) (y : B) (ys : List B) → i < length xs → x ≡ get_or xs i x → AllZip R (drop i xs) (y ∷ ys) → R x y
-  zip_here xs i x y ys lt is h = subst (λ z. R z y) (sym is) (subst (λ zs. AllZip R zs (y ∷ ys)) (drop_more xs i x lt) h).0
-
   pub zip_next : (xs : List A) (i : ℕ) (y : B) (ys : List B) → i < length xs → AllZip R (drop i xs) (y ∷ ys) → AllZip R (drop (i + 1) xs) ys
   zip_next [] i y ys lt h = absurd (omega (arith, lt))
   zip_next (x ∷ xs) i y ys lt h = (subst (λ zs. AllZip R zs (y ∷ ys)) (drop_more (x ∷ xs) i x lt) h).1
-
-  pub zip_none : (xs : List A) (i : ℕ) → i < length xs → AllZip R (drop i xs) [] → ⊥
-  zip_none [] i lt h = omega (arith, lt)
-  zip_none (x ∷ xs) i lt h = subst (λ zs. AllZip R zs []) (drop_more (x ∷ xs) i x lt) h
 
   pub zip_taken : (xs : List A) (i : ℕ) (x : A) (ys : List B) (y : B) → i < length xs → x ≡ get_or xs i x → AllZip R (take i xs) ys → R x y → AllZip R (take (i + 1) xs) (ys ++ y ∷ [])
   zip_taken xs i x ys y lt is h r =
       subst (λ zs. AllZip R zs (ys ++ y ∷ [])) (sym (take_more xs i x lt ∙ ap (λ z. take i xs ++ z ∷ []) (sym is)))
       (all_zipped_more R (take i xs) ys x y h r)
-
-  pub zip_whole : (xs : List A) (i : ℕ) (ys : List B) → length xs ≤ i → AllZip R (take i xs) ys → AllZip R xs ys
-  zip_whole xs i ys lt h = subst (λ zs. AllZip R zs ys) (take_all i xs lt) h
 
   -- by place
   pub zip_left : (xs : List A) (ys : List B) (i : ℕ) (x : A) → AllZip R xs ys → slice_get xs i ≡ Some x → (y : B) × (slice_get ys i ≡ Some y) × R x y

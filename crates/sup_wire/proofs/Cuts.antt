@@ -6,12 +6,12 @@ use Rattle.sup_specs.specs.Values.{Bytes}
 use Rattle.sup_specs.specs.Rising.{among}
 use Rattle.sup_causal.specs.declared.dot.Dot.{Dot}
 use Rattle.sup_causal.specs.Dots.{has, dot_cmp, IsCounted}
-use Rattle.sup_causal.specs.Cut.{entry, IsVector, IsCloud, IsCanonical, in_parts}
+use Rattle.sup_causal.specs.Cut.{entry, IsVector, IsCloud, in_parts}
 use Rattle.sup_causal.proofs.CutLemmas.{run_is_one}
 use Rattle.sup_causal.proofs.CutLaws.{cut_canonical}
 use Rattle.sup_tables.specs.declared.row.Row.{Row}
 use Rattle.sup_tables.specs.Rows.{AreInOrder}
-use Rattle.sup_tables.specs.States.{State, HasDotsOf}
+use Rattle.sup_tables.specs.States.{State}
 use Rattle.sup_tables.proofs.OperationLaws.{both_ways}
 use Rattle.sup_tables.proofs.OneForm.{same_parts, same_state}
 use Rattle.sup_wire.specs.Drafts.{Parts, IsCut, IsWhole, AreCanonical}
@@ -51,11 +51,3 @@ one_state s t p ws cs wt ct =
     same_state s t ws.tables wt.tables (same_parts s t
     (λ d. has_cut (has s.context) ws.counted p.vector p.cloud cs.vector cs.cloud d ∙ sym (has_cut (has t.context) wt.counted p.vector p.cloud ct.vector ct.cloud d))
     (sym cs.rows ∙ ct.rows))
-
--- parts that a context and rows were made of: canonical, or not
-pub sound_from : (p : Parts) → IsCanonical p.vector p.cloud → AreInOrder p.rows → (context : List Dot) → ((d : Dot) → has context d ≡ in_parts p.vector p.cloud d) → HasDotsOf context p.rows → AreCanonical p
-sound_from p context in_order dots same covered = record {
-  context = context;
-  in_order = in_order;
-  covered = λ k d lt. sym (same _) ∙ covered k d lt;
-}

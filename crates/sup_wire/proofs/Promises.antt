@@ -22,10 +22,6 @@ module _ {M : Type 0} (IsDraft : M → Draft → Type 0) (Whole : M → Type 0) 
       record { draft = decodes.1.0; same = decodes.1.2; formed = t.1; json = subst (IsJson text) t.0 is }
   decode_ok text d (Err e) is decodes = tt
 
-  pub decode_whole : (d : Data) (r : Result M WireFault) → Decodes IsDraft Whole r (version_at d) (at d) → IfOk r Whole
-  decode_whole d (Ok m) decodes = decodes.1.3
-  decode_whole d (Err e) decodes = tt
-
   module _ (again : (x : Draft) → Kind x → IsFormed x → at (value_of x) ≡ Some x) where
     misformed : (d : Data) → (version_at d ≡ None) ⊎ ((version_at d ≡ Some 1) × (at d ≡ None)) → IsMisformed Kind d
     misformed d (inl none) = inl none

@@ -92,9 +92,6 @@ module _ (weigher : Weigher) (model : World) (a b : Bytes) (old : Tally) where
     pub mid : World
     mid = h.after
 
-    pub mid_stands : StandsFor weigher shipped h.after
-    mid_stands = h.stands
-
     ship : Noted model (ship_of a b) h.expected h.after old (Some k) sent
     ship = noted model (ship_of a b) h.expected h.after old (Some k) sent h.allows h.noted
 
@@ -137,9 +134,6 @@ module _ (weigher : Weigher) (model : World) (a b : Bytes) (old : Tally) where
     module _ (n : ℕ) (brought : Tally) (came : List Seen) (d : Comes weigher h.after a k sent (Ok (Some n)) brought came) where
       pub last : World
       last = d.0.after
-
-      pub last_stands : StandsFor weigher came d.0.after
-      last_stands = d.0.stands
 
       told_arrival : Noted h.after (arrival a k) d.0.expected d.0.after sent (Some n) brought
       told_arrival = arrives (Some n) brought came d

@@ -1,6 +1,6 @@
 -- Lists of nodes as they are seen, of which one changes.
-use Rattle.std.specs.Prelude.{◌≡◌, ℕ, ◌+◌, ◌<◌, ◌≤◌, Bool, true, false, cond, not, List, [], ◌∷◌, ◌++◌, length, map, take, drop, slice_index_or, slice_set, Option, Some, Result, Ok, Err, OnErr, refl}
-use Rattle.std.specs.List.{AllZip, position_or_len}
+use Rattle.std.specs.Prelude.{◌≡◌, ℕ, ◌+◌, ◌<◌, ◌≤◌, true, false, cond, not, List, [], ◌∷◌, ◌++◌, length, map, take, drop, slice_index_or, slice_set, Option, Some, Result, Ok, Err, OnErr, refl}
+use Rattle.std.specs.List.{AllZip}
 use Prim.Native.Nat.{zero, suc}
 use Rattle.std.specs.Option.{option_map, unwrap_or}
 use Rattle.std.proofs.Common.{sym, ap, ◌∙◌, subst, arith}
@@ -24,10 +24,6 @@ module _ {A B : Type 0} (f : A → B) where
   map_index [] (suc i) d = refl
   map_index (y ∷ ys) zero d = refl
   map_index (y ∷ ys) (suc i) d = map_index ys i d
-
-  pub map_position : (p : B → Bool) (xs : List A) → position_or_len p (map f xs) ≡ position_or_len (λ x. p (f x)) xs
-  map_position p [] = refl
-  map_position p (y ∷ ys) = ap (λ n. cond (not (p (f y))) (1 + n) 0) (map_position p ys)
 
   pub map_length : (xs : List A) → length (map f xs) ≡ length xs
   map_length [] = refl
