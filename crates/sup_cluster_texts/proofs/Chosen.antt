@@ -19,9 +19,6 @@ not_err e x h = cc
 pub same_ok : {A E : Type 0} (x y : A) → ◌≡◌ {A = Result A E} (Ok x) (Ok y) → x ≡ y
 same_ok x y h = cc
 
--- d asks the same of two items as e does, whichever comes first
-module _ {K : Type 0} (e d : K → K → Bool) (same : (x y : K) → d x y ≡ e y x) where
-
 -- a test that is the same and_parts ways
 module _ {K : Type 0} (e : K → K → Bool) (turns : (x y : K) → e x y ≡ e y x) where
   alone : (x y : K) (ys : List K) → AllByRecursion (λ z. e y z ≡ false) ys → e x y ≡ false → AllByRecursion (λ z. e y z ≡ false) (ys ++ x ∷ [])
