@@ -19,7 +19,7 @@ not_err e x h = cc
 pub same_ok : {A E : Type 0} (x y : A) → ◌≡◌ {A = Result A E} (Ok x) (Ok y) → x ≡ y
 same_ok x y h = cc
 
--- a test that is the same and_parts ways
+-- a test that is the same both ways
 module _ {K : Type 0} (e : K → K → Bool) (turns : (x y : K) → e x y ≡ e y x) where
   alone : (x y : K) (ys : List K) → AllByRecursion (λ z. e y z ≡ false) ys → e x y ≡ false → AllByRecursion (λ z. e y z ≡ false) (ys ++ x ∷ [])
   alone x y [] h n = (sym (turns x y) ∙ n, tt)

@@ -12,6 +12,6 @@ use Rattle.sup_causal.proofs.DotLemmas.{equal_from_is_eq}
 pub same : {X : Type 0} {cmp : X → X → Ordering} → IsExact cmp → (x y : X) → eq_by_cmp cmp x y ≡ true → x ≡ y
 same {X} {cmp} exact x y e = exact x y (equal_from_is_eq (cmp x y) e)
 
--- a value is equal_from_is_eq to what it is
+-- a value is tied to what it is
 pub tie : {X : Type 0} {cmp : X → X → Ordering} → IsTotalOrder cmp → (x y : X) → x ≡ y → eq_by_cmp cmp x y ≡ true
 tie {X} {cmp} total x y e = subst (λ y. eq_by_cmp cmp x y ≡ true) e (ap is_eq (tied_itself total x))

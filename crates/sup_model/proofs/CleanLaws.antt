@@ -69,7 +69,7 @@ pub record Takes (P : Row → Type 0) (n : Node Ops) (o : Outcome Ops) : Type 0 
   pub name : o.node.name ≡ n.name
   pub reply : (d : Dot) → In (dot_of o.done.reply) d → (d ≡ commands.next (reading by_operations n)) × ((x : Row) × (new ≡ Some x))
 
-or-cases : (x y : Bool) (P : Type 0) → (x || y) ≡ true → (x ≡ true → P) → (y ≡ true → P) → P
+pub or-cases : (x y : Bool) (P : Type 0) → (x || y) ≡ true → (x ≡ true → P) → (y ≡ true → P) → P
 or-cases true y P e f g = f refl
 or-cases false y P e f g = g e
 

@@ -1,34 +1,25 @@
--- Lists of operations are a lattice, and stand for themselves: the laws hold of the model's own knowledge.
-use Rattle.std.specs.Prelude.{◌≡◌, ◌≢◌, ℕ, ◌+◌, ◌≤◌, Bool, true, false, cond, not, ◌||◌, ◌&&◌, max, List, [], ◌∷◌, ◌++◌, map, filter, flat_map, refl, Option, Some, None, Contains}
+-- Lists of operations are a lattice, and two that cover one another are alike.
+use Rattle.std.specs.Prelude.{◌≡◌, ◌≢◌, ◌+◌, true, false, not, ◌||◌, [], ◌++◌, filter, refl}
 use Rattle.std.specs.List.{list_any}
-use Rattle.std.specs.Ordering.{eq_by_cmp}
-use Rattle.std.proofs.Common.{sym, ◌∙◌, arith}
+use Rattle.std.proofs.Common.{sym, ◌∙◌}
 use mathlib.Core.Bool.{true≢false}
-use mathlib.Core.Logic.{◌⊎◌, inl, inr}
 use Rattle.std.proofs.lemmas.List.Folds.{list_any-append}
 use Rattle.std.proofs.lemmas.Bool.{or_left, or_right, or_parts}
-use Rattle.sup_specs.specs.Values.{text_cmp}
-use Rattle.sup_specs.specs.Rising.{rising, among}
+use Rattle.sup_specs.specs.Rising.{among}
 use Rattle.sup_specs.proofs.RisingLaws.{rising_same, among-rising}
 use Rattle.sup_causal.specs.declared.dot.Dot.{Dot}
-use Rattle.sup_causal.specs.Dots.{dot_cmp, dot_eq}
+use Rattle.sup_causal.specs.Dots.{dot_cmp}
 use Rattle.sup_tables.specs.declared.row.Row.{Row}
 use Rattle.sup_tables.specs.Rows.{row_cmp}
-use Rattle.sup_tables.specs.Operations.{Operation, known, named, added, live, covers, Covers, NoClash, dots_of}
+use Rattle.sup_tables.specs.Operations.{known, named, added, live, Covers}
 use Rattle.sup_tables.specs.RowLaws.{row_total, row_tie}
-use Rattle.sup_tables.proofs.AddLaws.{known_of_added, among-added-append}
-use Rattle.sup_tables.proofs.CoverLaws.{Below, below-from_Covers, Covers-from_below, covers_itself, covers_trans, live-parts, live-from}
+use Rattle.sup_tables.proofs.CoverLaws.{below-from_Covers, Covers-from_below, covers_itself, covers_trans, live-parts, live-from}
 use Rattle.sup_model.specs.Worlds.{Ops}
 use Rattle.sup_anti_entropy.specs.Joins.{Joins}
 use Rattle.sup_model.specs.Clean.{HasRow}
-use Rattle.sup_model.specs.Laws.{View, Alike}
-use Rattle.sup_model.proofs.TopLaws.{known-greatest}
+use Rattle.sup_model.specs.Laws.{Alike}
 use Rattle.sup_tables.proofs.OperationLaws.{both_ways}
-use Rattle.sup_model.proofs.CleanLaws.{row-append, row-left, row-right}
-
-or-cases : (x y : Bool) (P : Type 0) → (x || y) ≡ true → (x ≡ true → P) → (y ≡ true → P) → P
-or-cases true y P e f g = f refl
-or-cases false y P e f g = g e
+use Rattle.sup_model.proofs.CleanLaws.{row-append, row-left, row-right, or-cases}
 
 named-append : (ops others : Ops) (d : Dot) → named (ops ++ others) d ≡ (named ops d || named others d)
 named-append ops others d = list_any-append (λ op. among dot_cmp op.removes d) ops others
@@ -104,7 +95,3 @@ covers_alike a b h g = record {
   dots = λ d. both_ways (known a d) (known b d) ((below-from_Covers b a h).dots d) ((below-from_Covers a b g).dots d);
   rows = sym g.live_stays ∙ live_equal (a ++ b) (b ++ a) (swap_half a b) (swap_half b a) ∙ h.live_stays;
 }
-
--- so the laws are met
-abbrev pub operation_view : View Ops
-operation_view = record { S = Ops; joins = operation_joins; sem = λ a. a; valid = λ a. Unit {0}; stands = Alike; window = λ held all. held ≡ all }

@@ -73,9 +73,6 @@ restarts restart spec = record spec { restart = restart }
 abbrev pub labelled : Bytes → MemberInfo
 labelled label = record { label = label }
 
-abbrev pub unlabelled : MemberInfo
-unlabelled = labelled []
-
 -- what a world is made with: the options of the command line, or what stands for one that is left out
 abbrev pub weighed : Weigher → Options
 weighed weight = record { setting = record { weigher = weight; intensity = 1; period = 5 }; room = 64; messages = [] }

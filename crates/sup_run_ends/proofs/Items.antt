@@ -1,8 +1,8 @@
 -- Items of lists.
-use Rattle.std.specs.Prelude.{◌≡◌, ℕ, ◌<◌, zero, suc, Bool, true, false, cond, List, [], ◌∷◌, ◌++◌, length, flat_map, Some, None, slice_get, slice_index_or, All, Contains, refl}
+use Rattle.std.specs.Prelude.{◌≡◌, ℕ, ◌<◌, zero, suc, Bool, true, false, cond, List, [], ◌∷◌, ◌++◌, length, flat_map, Some, slice_get, slice_index_or, All, Contains, refl}
 use Rattle.std.specs.List.{filter}
 use Rattle.std.proofs.Common.{sym, ap, ◌∙◌, subst, arith, append-nil}
-use Rattle.std.proofs.lemmas.Option.{slice_get_within, get_or_from_slice_get, slice_get-get_or}
+use Rattle.std.proofs.lemmas.Option.{slice_get_within, get_or_from_slice_get, slice_get-get_or, none-some, same_Some}
 use Rattle.std.proofs.lemmas.List.Elements.{Contains-append_left, Contains-append_right, All-append, filter-append}
 use Rattle.sup_posts.proofs.Items.{all_none}
 
@@ -20,10 +20,7 @@ module _ {X : Type 0} where
   stands_in xs i x e = (i, slice_get_within xs i x e, get_or_from_slice_get xs i x x e)
 
   pub get_left : (xs ys : List X) (i : ℕ) (x : X) → slice_get xs i ≡ Some x → slice_get (xs ++ ys) i ≡ Some x
-  get_left [] ys i x e = absurd (none_some x e)
-    where
-      none_some : (y : X) → None ≡ Some y → ⊥
-      none_some y q = cc
+  get_left [] ys i x e = absurd (none-some x e)
   get_left (z ∷ xs) ys zero x e = e
   get_left (z ∷ xs) ys (suc i) x e = get_left xs ys i x e
 
@@ -32,10 +29,7 @@ module _ {X : Type 0} where
   get_next (z ∷ xs) ys x = get_next xs ys x
 
   pub same_place : (xs : List X) (i j : ℕ) (x y : X) → slice_get xs i ≡ Some x → slice_get xs j ≡ Some y → i ≡ j → x ≡ y
-  same_place xs i j x y e f same = one x y (sym e ∙ ap (slice_get xs) same ∙ f)
-    where
-      one : (a b : X) → Some a ≡ Some b → a ≡ b
-      one a b q = cc
+  same_place xs i j x y e f same = same_Some x y (sym e ∙ ap (slice_get xs) same ∙ f)
 
   -- and all that do stood there
   pub filter_contains : (p : X → Bool) (xs : List X) (x : X) → Contains (filter p xs) x → Contains xs x × (p x ≡ true)
@@ -58,14 +52,8 @@ module _ {X : Type 0} where
 
 -- what stands in a part stands in the whole
 pub flat_contains : {X Y : Type 0} (f : X → List Y) (xs : List X) (i : ℕ) (x : X) (y : Y) → slice_get xs i ≡ Some x → Contains (f x) y → Contains (flat_map f xs) y
-flat_contains f [] i x y e c = absurd (none_some x e)
-  where
-    none_some : {Z : Type 0} (z : Z) → None ≡ Some z → ⊥
-    none_some z q = cc
-flat_contains f (z ∷ zs) zero x y e c = Contains-append_left (f z) (flat_map f zs) y (subst (λ w. Contains (f w) y) (sym (one z x e)) c)
-  where
-    one : {Z : Type 0} (a b : Z) → Some a ≡ Some b → a ≡ b
-    one a b q = cc
+flat_contains f [] i x y e c = absurd (none-some x e)
+flat_contains f (z ∷ zs) zero x y e c = Contains-append_left (f z) (flat_map f zs) y (subst (λ w. Contains (f w) y) (sym (same_Some z x e)) c)
 flat_contains f (z ∷ zs) (suc i) x y e c = Contains-append_right (f z) (flat_map f zs) y (flat_contains f zs i x y e c)
 
 pub all_flat : {X Y : Type 0} (P : Y → Type 0) (f : X → List Y) (xs : List X) → ((i : ℕ) (x : X) → slice_get xs i ≡ Some x → All P (f x)) → All P (flat_map f xs)
