@@ -1,4 +1,4 @@
--- Texts and dots that the tests call equal are equal; and what covering is, as operations that are alike.
+-- A known dot is no greater than the greatest; and what covering is, as operations that are alike.
 use Rattle.std.specs.Prelude.{◌≡◌, ℕ, ◌≤◌, true, List, ◌++◌}
 use Rattle.std.proofs.Common.{sym}
 use Rattle.sup_causal.specs.declared.dot.Dot.{Dot}
