@@ -1,5 +1,5 @@
 -- Ends of links that met.
-use Rattle.std.specs.Prelude.{◌≡◌, ◌≤◌, List, [], ◌∷◌, ◌++◌, length, All, Option, Some, None, Result, Ok, Err, IsOk, IfOk, IfErr, IfSome, IfNone, refl}
+use Rattle.std.specs.Prelude.{◌≡◌, List, [], ◌∷◌, ◌++◌, length, Result, Ok, Err, IfOk, IfErr, refl}
 use Rattle.std.proofs.Common.{arith}
 use Rattle.std.specs.List.{AllZip}
 use Rattle.sup_placement.specs.declared.weigh.Weigh.{Ghosts as WeighGhosts}
@@ -7,9 +7,6 @@ use Rattle.sup_links.specs.declared.link_in.Sent.{Sent}
 use Rattle.sup_posts.specs.declared.jobs.Arrived.{Arrived}
 use Rattle.sup_posts.specs.declared.jobs.Driven.{Driven}
 use Rattle.sup_posts.specs.declared.thread_fault.ThreadFault.{ThreadFault}
-use Rattle.sup_posts.specs.Faults.{IsBelow, IsGravest, gravity}
-use Rattle.sup_posts.proofs.Items.{all_weaken}
-use Rattle.sup_posts.proofs.ToldFaults.{good_below, other_below}
 use Rattle.sup_crew.specs.declared.team.Team.{Team}
 use Rattle.sup_driving.specs.Gathering.{Steering, Reception, Met, AllMet, IsGathered, IsFaultOfTeam, Gathers}
 
@@ -30,7 +27,3 @@ module _ {W : Type 0} {h : WeighGhosts W} where
   pub gathers_as : (done : Team (Steering W h) (Reception W h)) (r : Result (Driven W h) ThreadFault) → IfOk r (IsGathered done) → IfErr r (IsFaultOfTeam done) → Gathers done r
   gathers_as done (Ok driven) good bad = good
   gathers_as done (Err fault) good bad = bad
-
-      others_of : (w : Option ThreadFault) → IfSome w (IsGravest done.others.items) → IfNone w (All IsOk done.others.items) → IfSome w (λ v. gravity v ≤ gravity g) → All (IsBelow g) done.others.items
-      others_of (Some v) s n b = all_weaken (IsBelow v) (IsBelow g) (other_below v g b) done.others.items s.gravest
-      others_of None s n b = all_weaken IsOk (IsBelow g) (good_below g) done.others.items n

@@ -57,11 +57,6 @@ renewed_counted p (k ∷ kept) e a c =
 -- what is found under an id is kept
 pub found_counted : (p : Bytes → Bool) (kept : List Kept) (e : Entry) → lookup p kept ≡ Some e → KeepsCounted kept → IsCounted e.dot
 found_counted p [] e is a = absurd (none-some e is)
-  where
-    Nothing : Option Entry → Type 0
-    Nothing None = Unit {0}
-    Nothing (Some e) = ⊥
-
 found_counted p (k ∷ kept) e is a =
     elim (p k.0) as (λ b. cond b (Some k.1) (lookup p kept) ≡ Some e → IsCounted e.dot) [
       | true ↦ λ h. subst (λ o. counted_if o) h a.0

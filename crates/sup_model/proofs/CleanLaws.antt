@@ -119,7 +119,7 @@ only_take P n o name k w l keeps none = record {
   keeps = keeps;
   name = name;
   reply = λ d h. absurd (none d h);
-} where
+}
 
 -- what a node has: its operations and its newest own
 pub record Has (P : Row → Type 0) (n : Node Ops) : Type 0 where

@@ -62,7 +62,6 @@ first_of (q ∷ qs) table key r e =
       | true ↦ λ h f. let same : q ≡ r = cc in ap (λ x. key_of x.entry) (sym same) ∙ sym (text_tie key (key_of q.entry) (equal_from_is_eq _ (and-second (is_in table q) _ h)))
       | false ↦ λ h f. first_of qs table key r f
     ] refl e
-  where
 
 -- what comes of one more key
 module _ (rows : List Row) (weigher : Weigher) (me : Bytes) (hosts : List Bytes) where

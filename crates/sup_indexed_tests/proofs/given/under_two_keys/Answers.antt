@@ -1,5 +1,5 @@
 -- Two rows under two keys rise.
-use Rattle.std.proofs.Common.{◌≡◌, List, [], ◌∷◌, Ordering, refl}
+use Rattle.std.proofs.Common.{◌≡◌, [], ◌∷◌, Ordering, refl}
 use Rattle.std.specs.declared.cmp.Ordering.TheVariants.{Less}
 use Rattle.std.specs.List.Sorted.{IsStrictlySortedBy}
 use Rattle.sup_indexed_tests.proofs.given.under_two_keys.Goals as goal
