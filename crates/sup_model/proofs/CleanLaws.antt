@@ -22,7 +22,7 @@ use Rattle.sup_tables.specs.declared.row.Row.{Row}
 use Rattle.sup_tables.specs.Rows.{row_cmp}
 use Rattle.sup_tables.specs.Operations.{Operation, known, named, added, live, greatest, covers}
 use Rattle.sup_tables.specs.Makers.{finish_child, drop_member}
-use Rattle.sup_tables.proofs.AddLaws.{among-added-append}
+use Rattle.sup_tables.proofs.AddLaws.{among-added-append, row_itself}
 use Rattle.sup_tables.proofs.OneOperationLaws.{row_of_option}
 use Rattle.sup_local_sup.specs.declared.effect.Effect.{Effect}
 use Rattle.sup_local_sup.specs.Supervising.{Supervisor, with_all, forgotten, wanted_after, wanted_effects, others}
@@ -87,7 +87,7 @@ pub row-one : (op : Operation) (x : Row) → HasRow (op ∷ []) x → op.add ≡
 row-one op x e = row_of_option op.add x e
 
 row_of-some : (o : Option Row) (x : Row) → o ≡ Some x → among row_cmp (cons_option o []) x ≡ true
-row_of-some o x e = subst (λ o. among row_cmp (cons_option o []) x ≡ true) (sym e) (or_left (eq_by_cmp row_cmp x x) false (Rattle.sup_model.proofs.TopLaws.row_itself x))
+row_of-some o x e = subst (λ o. among row_cmp (cons_option o []) x ≡ true) (sym e) (or_left (eq_by_cmp row_cmp x x) false (row_itself x))
 
 issues_take : (P : Row → Type 0) (s : Weigher) (n : Node Ops) (reply : Reply) (leaving : Leaving) (op : Operation)
     → ((x : Row) → HasRow n.known x → P x) → Issued (reading by_operations n) op
