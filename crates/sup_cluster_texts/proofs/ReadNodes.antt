@@ -2,6 +2,7 @@
 use Rattle.std.proofs.Common.{◌≡◌, ℕ, ◌≤◌, suc, Bool, true, false, ◌&&◌, not, nat_le, List, [], ◌∷◌, length, Option, Some, None, refl, sym, ap, ◌∙◌, subst, codes, arith}
 use Rattle.std.specs.List.{list_any, IsDistinct}
 use Rattle.std.specs.Str.{bytes_eq}
+use Rattle.std.specs.Cmp.Lexicographic.{nat_list_eq_equiv}
 use Rattle.std.proofs.lemmas.Bool.Decides.{nat_tests}
 use Rattle.std.proofs.lemmas.Option.{none-some, same_Some, option_and_then_some}
 use Rattle.std.proofs.lemmas.Map.Keys.{IsDistinct-cons}
@@ -13,14 +14,13 @@ use Rattle.sup_lines.specs.Script.{is_plain, words_of}
 use Rattle.sup_cluster_lines.specs.Nodes.{few_nodes_of, opening_of}
 use Rattle.sup_cluster_texts.proofs.Chosen.{chosen}
 use Rattle.sup_plan.proofs.Apart.{unfound}
-use Rattle.sup_plan.proofs.Names.{turned}
 
 differ : (names : List Name) → are_distinct names ≡ true → IsDistinct bytes_eq names
 unfolding IsDistinct
 differ [] h = tt
 differ (name ∷ names) h =
     let parts = and_parts (not (list_any (λ other. bytes_eq other name) names)) (are_distinct names) h in
-    IsDistinct-cons bytes_eq name names (unfound bytes_eq bytes_eq turned name names (not-true _ parts.0)) (differ names parts.1)
+    IsDistinct-cons bytes_eq name names (unfound bytes_eq bytes_eq nat_list_eq_equiv.symm name names (not-true _ parts.0)) (differ names parts.1)
 
 counted : (words : List Word) (names : List Name) → names_of words ≡ Some names → length names ≡ length words
 counted [] names h = ap length (sym (same_Some [] names h))

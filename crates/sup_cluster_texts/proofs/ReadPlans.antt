@@ -2,6 +2,7 @@
 use Rattle.std.proofs.Common.{◌≡◌, ℕ, Bool, true, false, ◌&&◌, All, List, [], ◌∷◌, ◌++◌, map, Option, Some, None, Result, Ok, Err, refl, sym, ap, ap₂, ◌∙◌, subst}
 use Rattle.std.specs.List.{AllPass, IsDistinct, list_any}
 use Rattle.std.specs.Str.{bytes_eq}
+use Rattle.std.specs.Cmp.Lexicographic.{nat_list_eq_equiv}
 use Rattle.std.proofs.lemmas.Option.{none-some, same_Some, option_and_then_some}
 use Rattle.std.proofs.lemmas.List.Elements.{All-nil, All-cons, All-head, All-push, All-tail}
 use Rattle.sup_specs.specs.Values.{Bytes}
@@ -11,7 +12,6 @@ use Rattle.sup_plan.specs.declared.plan.Plan.{Plan}
 use Rattle.sup_plan.specs.declared.plan.Route.{Route}
 use Rattle.sup_plan.specs.Plans as plans
 use Rattle.sup_plan.specs.Plans.{IsPlan, may_tell, is_same_link}
-use Rattle.sup_plan.proofs.Names.{turned}
 use Rattle.sup_lines.specs.Words.{Name, ◌>>=◌}
 use Rattle.sup_lines.specs.Script.{numbered_lines}
 use Rattle.sup_cluster_lines.specs.Nodes.{opening_of}
@@ -29,7 +29,7 @@ record CanDo (nodes : List Bytes) (asked : Asked) : Type 0 where
   single : IsDistinct is_same_pair asked.0
 
 pair_turns : (k l : Link) → is_same_pair k l ≡ is_same_pair l k
-pair_turns k l = ap₂ (λ a b. a && b) (turned k.0 l.0) (turned k.1.0 l.1.0)
+pair_turns k l = ap₂ (λ a b. a && b) (nat_list_eq_equiv.symm k.0 l.0) (nat_list_eq_equiv.symm k.1.0 l.1.0)
 
 nothing : (nodes : List Bytes) → CanDo nodes ([], [])
 unfolding IsDistinct

@@ -1,6 +1,6 @@
 -- The links of a driver, once more was put.
 use Rattle.std.proofs.Common.{◌≡◌, ℕ, List, [], ◌∷◌, ◌++◌, length, take, drop, Ok, Err, None, append_assoc, append-nil, refl, ap, ◌∙◌, sym, subst}
-use Rattle.std.specs.List.{AllZip}
+use Rattle.std.specs.List.{AllZip, AllByRecursion}
 use Rattle.std.proofs.lemmas.List.{map-append}
 use Rattle.std.proofs.lemmas.Grind.{flat_map-append}
 use Rattle.sup_specs.specs.Values.{Bytes}
@@ -16,7 +16,7 @@ use Rattle.sup_driving.specs.Called.{Called, SeesMore, letter_of}
 use Rattle.sup_links.specs.declared.link_in.Sent.{Sent}
 use Rattle.sup_links.specs.Ends.{sent_put}
 use Rattle.sup_driving.specs.Teams.{HasSent}
-use Rattle.sup_driving.specs.Wires.{IsLater, HasPut, Each, HasLetters, IsEnded, Did}
+use Rattle.sup_driving.specs.Wires.{IsLater, HasPut, HasLetters, IsEnded, Did}
 use Rattle.sup_posts.proofs.Sublists.{sub_more, sub_both}
 
 pub later_same : (w : Wire) → IsLater w w
@@ -74,7 +74,7 @@ one_more es a now r letter u v w is p q h =
     (subst (Sublist (letters_to u.to es)) (sym p.put) (sub_more (letters_to u.to es) (put_of u.entry) p.rest h)))))
 
 each_more : (es : List Entry) (a : Act) (now : ℕ) (r : Answer) (letter : _) (us vs ws : List Wire) → letter_of r ≡ letter → AllZip IsLater us vs → AllZip (HasPut letter) vs ws
-    → Each (HasLetters es) us → Each (HasLetters (es ++ entry a now r ∷ [])) ws
+    → AllByRecursion (HasLetters es) us → AllByRecursion (HasLetters (es ++ entry a now r ∷ [])) ws
 each_more es a now r letter [] [] [] is p q h = tt
 each_more es a now r letter [] [] (w ∷ ws) is p q h = absurd q
 each_more es a now r letter [] (v ∷ vs) ws is p q h = absurd p
@@ -94,7 +94,7 @@ did_more cs v a now effects letter v' v'' us ts ws c p later put d = let e = ent
   put = each_more d.entries a now c.answer letter us ts ws c.letter_is later put d.put;
 }
 
-each_none : (ws : List Wire) → Each (HasLetters []) ws
+each_none : (ws : List Wire) → AllByRecursion (HasLetters []) ws
 each_none [] = tt
 each_none (w ∷ ws) = (tt, each_none ws)
 
@@ -104,7 +104,7 @@ did_none seen ws = record { entries = []; are = refl; stand = tt; put = each_non
 one_later : (es : List Entry) (u v : Wire) → IsLater u v → HasLetters es u → HasLetters es v
 one_later es u v p h = subst (λ n. Sublist (letters_to n es) (put_of v.entry)) (sym p.to) (subst (Sublist (letters_to u.to es)) (sym p.put) (sub_more (letters_to u.to es) (put_of u.entry) p.rest h))
 
-each_later : (es : List Entry) (us vs : List Wire) → AllZip IsLater us vs → Each (HasLetters es) us → Each (HasLetters es) vs
+each_later : (es : List Entry) (us vs : List Wire) → AllZip IsLater us vs → AllByRecursion (HasLetters es) us → AllByRecursion (HasLetters es) vs
 each_later es [] [] p h = tt
 each_later es [] (v ∷ vs) p h = absurd p
 each_later es (u ∷ us) [] p h = absurd p
@@ -122,7 +122,7 @@ sent_one es u v s p e h = record {
 }
 
 -- what was sent, once the links are ended
-pub sent_all : (es : List Entry) (us vs : List Wire) (ss : List Sent) → AllZip IsLater us vs → AllZip IsEnded vs ss → Each (HasLetters es) vs → AllZip (HasSent es) us ss
+pub sent_all : (es : List Entry) (us vs : List Wire) (ss : List Sent) → AllZip IsLater us vs → AllZip IsEnded vs ss → AllByRecursion (HasLetters es) vs → AllZip (HasSent es) us ss
 sent_all es [] [] [] p e h = tt
 sent_all es [] [] (s ∷ ss) p e h = absurd e
 sent_all es [] (v ∷ vs) ss p e h = absurd p

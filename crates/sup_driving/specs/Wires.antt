@@ -1,5 +1,6 @@
 -- The links of a driver, and what its node's calls put into them (this project).
 use Rattle.std.specs.Prelude.{◌≡◌, ◌⊎◌, true, List, [], ◌∷◌, ◌++◌, map, Option}
+use Rattle.std.specs.List.{AllByRecursion}
 use Rattle.sup_specs.specs.Values.{Bytes}
 use Rattle.sup_replica.specs.declared.letter.Letter.{Letter}
 use Rattle.sup_node_gate.specs.declared.entry.Entry.{Entry}
@@ -24,11 +25,6 @@ pub record HasPut (letter : Option Letter) (old new : Wire) : Type 0 where
   pub later : IsLater old new
   pub put : put_of new.entry ≡ put_of old.entry ++ text_to old.to letter
 
--- each of these has it
-abbrev pub Each : {X : Type 0} → (X → Type 0) → List X → Type 0
-Each P [] = Unit {0}
-Each P (x ∷ xs) = P x × Each P xs
-
 -- the letters of these entries were put, in their order
 abbrev pub HasLetters : List Entry → Wire → Type 0
 HasLetters entries wire = Sublist (letters_to wire.to entries) (put_of wire.entry)
@@ -38,7 +34,7 @@ pub record Did (calls : List Call) (seen : List Entry) (wires : List Wire) : Typ
   pub entries : List Entry
   pub are : map call_of entries ≡ calls
   pub stand : Sublist entries seen
-  pub put : Each (HasLetters entries) wires
+  pub put : AllByRecursion (HasLetters entries) wires
 
 -- the link was ended with all that was put
 pub record IsEnded (wire : Wire) (sent : Sent) : Type 0 where

@@ -246,13 +246,9 @@ new_clean setting is_message names = record {
 
 -- no dot twice
 in-at : {X : Type 0} (xs : List X) (k : ℕ) (d : X) → k < length xs → In xs (slice_index_or xs k d)
-in-at [] k d h = absurd (none k h) where
-  none : (k : ℕ) → k < 0 → ⊥
-  none k h = omega (arith, h)
+in-at [] k d h = absurd (omega (arith, h))
 in-at (x ∷ xs) zero d h = inl refl
-in-at (x ∷ xs) (suc k) d h = inr (in-at xs k d (lower k (length xs) h)) where
-  lower : (k n : ℕ) → suc k < suc n → k < n
-  lower k n h = omega (arith, h)
+in-at (x ∷ xs) (suc k) d h = inr (in-at xs k d (omega (arith, h)))
 
 all-in : {X : Type 0} (P : X → Type 0) (xs : List X) → ((x : X) → In xs x → P x) → All P xs
 all-in P xs f k d h = f (slice_index_or xs k d) (in-at xs k d h)

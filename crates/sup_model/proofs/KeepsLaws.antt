@@ -1,6 +1,6 @@
 -- After any list of steps each up node keeps exactly what is placed on it.
 use Rattle.std.specs.Prelude.{◌≡◌, ℕ, zero, suc, ◌+◌, ◌==◌, Bool, true, false, cond, not, ◌||◌, ◌&&◌, List, [], ◌∷◌, ◌++◌, filter, map, find, Contains, Option, Some, None, Result, Ok, Err, refl, slice_get, length, ◌<◌, if◌then◌else◌, unwrap_or}
-use Rattle.std.specs.List.{list_any, list_all}
+use Rattle.std.specs.List.{list_any, list_all, AllByRecursion}
 use Rattle.std.proofs.Common.{sym, ap, ◌∙◌, subst, arith}
 use mathlib.Core.Bool.{true≢false}
 use Rattle.sup_specs.specs.Values.{Bytes}
@@ -183,12 +183,7 @@ kept_by_good : (s : Weigher) (saves : Bool) (x : Result (Outcome Ops) Refusal) �
 kept_by_good s saves x good =
     after-then_do (GoodOutcome s) (GoodOutcome s) x _ good (λ o g. after-refused_if (GoodOutcome s) (passes_greatest o.node) CountSpent _ (after-refused_if (GoodOutcome s) (o.saves && not saves) KeepFailed (Ok o) g))
 
--- each site of a list
-abbrev pub Each : {X : Type 0} → (X → Type 0) → List X → Type 0
-Each P [] = Unit {0}
-Each P (x ∷ xs) = P x × Each P xs
-
-each-find : {X : Type 0} (P : X → Type 0) (p : X → Bool) (xs : List X) (x : X) → Each P xs → find p xs ≡ Some x → P x
+each-find : {X : Type 0} (P : X → Type 0) (p : X → Bool) (xs : List X) (x : X) → AllByRecursion P xs → find p xs ≡ Some x → P x
 each-find P p [] x h e = absurd (true≢false (ap Rattle.std.specs.Prelude.is_none e))
 each-find P p (y ∷ ys) x h e =
     elim (p y) as (λ b. cond b (Some y) (find p ys) ≡ Some x → P x) [
@@ -196,24 +191,18 @@ each-find P p (y ∷ ys) x h e =
       | false ↦ λ f. each-find P p ys x h.1 f
     ] e
 
-each-put : {X : Type 0} (P : X → Type 0) (p : X → Bool) (new : X) → P new → (xs : List X) → Each P xs → Each P (map (λ x. if p x then new else x) xs)
+each-put : {X : Type 0} (P : X → Type 0) (p : X → Bool) (new : X) → P new → (xs : List X) → AllByRecursion P xs → AllByRecursion P (map (λ x. if p x then new else x) xs)
 each-put P p new n [] h = tt
 each-put P p new n (x ∷ xs) h =
     (elim (p x) as (λ b. P (if b then new else x)) [ true ↦ n | false ↦ h.0 ], each-put P p new n xs h.1)
 
-not-lt-zero : (k : ℕ) → ¬ (k < 0)
-not-lt-zero k l = omega (arith, l)
-
-lt-of-suc : (k n : ℕ) → suc k < suc n → k < n
-lt-of-suc k n l = omega (arith, l)
-
-each-Contains : {X : Type 0} (P : X → Type 0) (xs : List X) → Each P xs → (k : ℕ) (d : X) → k < length xs → P (Rattle.std.specs.Prelude.slice_index_or xs k d)
-each-Contains P [] h k d l = absurd (not-lt-zero k l)
+each-Contains : {X : Type 0} (P : X → Type 0) (xs : List X) → AllByRecursion P xs → (k : ℕ) (d : X) → k < length xs → P (Rattle.std.specs.Prelude.slice_index_or xs k d)
+each-Contains P [] h k d l = absurd (omega (arith, l))
 each-Contains P (x ∷ xs) h zero d l = h.0
-each-Contains P (x ∷ xs) h (suc k) d l = each-Contains P xs h.1 k d (lt-of-suc k (length xs) l)
+each-Contains P (x ∷ xs) h (suc k) d l = each-Contains P xs h.1 k d (omega (arith, l))
 
 abbrev pub GoodWorld : World → Type 0
-GoodWorld w = Each (λ (s : Site). Good w.weigher s.node) w.sites
+GoodWorld w = AllByRecursion (λ (s : Site). Good w.weigher s.node) w.sites
 
 abbrev GoodStep : Stepped → Type 0
 GoodStep x = GoodWorld x.world
@@ -270,7 +259,7 @@ pub new_good : (setting : Setting) (is_message : Bytes → Bool) (names : List B
 new_good setting is_message [] = tt
 new_good setting is_message (name ∷ names) = (λ up. record { none_more = refl; none_less = refl }, new_good setting is_message names)
 
-each-of : {X : Type 0} (P : X → Type 0) (xs : List X) → Each P xs → (x : X) → Contains xs x → P x
+each-of : {X : Type 0} (P : X → Type 0) (xs : List X) → AllByRecursion P xs → (x : X) → Contains xs x → P x
 each-of P xs h x c = subst P c.2 (each-Contains P xs h c.0 x c.1)
 
 pub main : MainTheorem
