@@ -1,11 +1,11 @@
 -- One node (this project). What it knows of the tables is a K: in the model the operations that it absorbed, in the code their joined state.
-use Rattle.std.specs.Prelude.{ℕ, Bool, true, false, List, [], ◌∷◌, ◌++◌, map, flat_map, Option, Some, None, if◌then◌else◌}
+use Rattle.std.specs.Prelude.{ℕ, Bool, true, false, List, [], ◌∷◌, ◌++◌, flat_map, Option, Some, None, if◌then◌else◌}
 use Rattle.std.specs.Ordering.{eq_by_cmp}
 use Rattle.sup_specs.specs.Values.{Bytes, text_cmp}
 use Rattle.sup_tables.specs.declared.row.Row.{Row}
-use Rattle.sup_tables.specs.Rows.{members, children, key_of, spec_of}
+use Rattle.sup_tables.specs.Rows.{children, key_of, spec_of}
 use Rattle.sup_tables.specs.Operations.{Operation, live, greatest, covers}
-use Rattle.sup_tables.specs.Readers.{winners}
+use Rattle.sup_tables.specs.Readers.{winners, eligible}
 use Rattle.sup_placement.specs.Place.{Weigher, place}
 use Rattle.sup_local_sup.specs.declared.wanted.Wanted.{Wanted}
 use Rattle.sup_local_sup.specs.Windows.{Window}
@@ -65,10 +65,6 @@ is_named = eq_by_cmp text_cmp
 abbrev pub is_placed_on : Bytes → Option Bytes → Bool
 is_placed_on me None = false
 is_placed_on me (Some m) = is_named m me
-
--- the members that children are placed on
-abbrev pub eligible : List Row → List Bytes
-eligible rows = map (λ r. key_of r.entry) (winners rows members)
 
 -- a child that is to run here
 abbrev pub wanted_of : Row → Wanted

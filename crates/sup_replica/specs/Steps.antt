@@ -16,14 +16,14 @@ use Rattle.sup_local_sup.specs.Planning.{ruling, leaving_after, leaving_effects,
 use Rattle.std.specs.Str.{bytes_eq}
 use Rattle.std.specs.Map.{lookup}
 use Rattle.sup_replica.specs.declared.event.Event.{Event}
-use Rattle.sup_replica.specs.declared.event.Event.TheVariants.{Join, Leave, Start, Replace, Delete, Register, Unregister, Exit, Ship, Push, Deliver}
+use Rattle.sup_replica.specs.declared.event.Event.TheVariants.{Join, Leave, Drain, Start, Replace, Delete, Register, Unregister, Exit, Ship, Push, Deliver}
 use Rattle.sup_replica.specs.declared.done.Reply.{Reply}
 use Rattle.sup_replica.specs.declared.done.Reply.TheVariants.{Added, Replaced, Removed, Restarted, Finished, GaveUp, Sent}
 use Rattle.sup_replica.specs.declared.refusal.Refusal.{Refusal}
 use Rattle.sup_replica.specs.declared.refusal.Refusal.TheVariants.{Down, UnknownNode, StaleExit, BadMessage, OutOfMemory, CountSpent, NothingToPush}
 use Rattle.sup_replica.specs.Checks.{refused_if, then_do}
 use Rattle.sup_replica.specs.Nodes.{Knowledge, Node, delta, push, Message, Told, Outcome, is_named, wanted_at}
-use Rattle.sup_replica.specs.Commands.{Reading, next, join, leave, start, replace, delete, register, unregister}
+use Rattle.sup_replica.specs.Commands.{Reading, next, join, leave, drain, start, replace, delete, register, unregister}
 
 module _ {K : Type 0} where
   -- no operation, no change of the tables
@@ -75,6 +75,7 @@ module _ {K : Type 0} (k : Knowledge K) (weigher : Weigher) where
   abbrev pub up_step : Node K → Event → ℕ → Result (Outcome K) Refusal
   up_step n (Join label) now = command n (join (reading k n) label) (λ op. Added (next (reading k n)))
   up_step n (Leave m) now = command n (leave (reading k n) m) (λ op. Removed op.removes)
+  up_step n (Drain m) now = command n (drain (reading k n) m) (λ op. Replaced (next (reading k n)) op.removes)
   up_step n (Start id spec) now = command n (start (reading k n) id spec) (λ op. Added (next (reading k n)))
   up_step n (Replace id spec) now = command n (replace (reading k n) id spec) (λ op. Replaced (next (reading k n)) op.removes)
   up_step n (Delete id) now = command n (delete (reading k n) id) (λ op. Removed op.removes)

@@ -13,6 +13,8 @@ pub enum Event {
     Join(Text),
     /// A member is taken out.
     Leave(NodeName),
+    /// A member stays, and no child is placed on it any more.
+    Drain(NodeName),
     /// A child is added.
     Start(ChildId, ChildSpec),
     /// A child is taken out, and each name that stands for it.
@@ -49,6 +51,7 @@ impl Event {
         Ok(match self {
             Event::Join(label) => Event::Join(label.try_clone(alloc)?),
             Event::Leave(member) => Event::Leave(*member),
+            Event::Drain(member) => Event::Drain(*member),
             Event::Start(id, spec) => Event::Start(id.try_clone(alloc)?, spec.try_clone(alloc)?),
             Event::Delete(id) => Event::Delete(id.try_clone(alloc)?),
             Event::Replace(id, spec) => {

@@ -52,10 +52,12 @@ pub enum Refusal {
     CountSpent,
     #[error("there is no own operation since the boot")]
     NothingToPush,
+    #[error("the member is draining already")]
+    AlreadyDraining,
 }
 
 impl Refusal {
-    /// The refusal's number, from 1 to 22.
+    /// The refusal's number, from 1 to 23.
     pub fn number(self) -> u64
         ensures { result ≡ number_of self }
     {
@@ -82,6 +84,7 @@ impl Refusal {
             Refusal::HistoryFull => 20,
             Refusal::CountSpent => 21,
             Refusal::NothingToPush => 22,
+            Refusal::AlreadyDraining => 23,
         }
     }
 }
