@@ -4,7 +4,7 @@ use Rattle.std.specs.Str.{bytes_eq}
 use Rattle.sup_specs.specs.declared.limits.TheConstants.{MAX}
 use Rattle.sup_specs.specs.Reasons.{reason_of}
 use Rattle.sup_replica.specs.declared.event.Act.TheVariants.{Event, Stop, Restart}
-use Rattle.sup_replica.specs.declared.event.Event.TheVariants.{Join, Leave, Start, Delete, Replace, Register, Unregister, Exit, Ship, Push}
+use Rattle.sup_replica.specs.declared.event.Event.TheVariants.{Join, Leave, Drain, Start, Delete, Replace, Register, Unregister, Exit, Ship, Push}
 use Rattle.sup_lines.specs.declared.deed.Deed.{Deed}
 use Rattle.sup_lines.specs.declared.deed.Deed.TheVariants.{At, Delivery}
 use Rattle.sup_lines.specs.Words.{Word, ◌>>=◌}
@@ -26,6 +26,14 @@ leave_of (node ∷ member ∷ words) = do
   gone ← node_name_of member
   Some (At name (Event (Leave gone)), words)
 leave_of _ = None
+
+-- drain N MEMBER
+unfoldable pub drain_of : List Word → Option (Deed × List Word)
+drain_of (node ∷ member ∷ words) = do
+  name ← node_name_of node
+  drained ← node_name_of member
+  Some (At name (Event (Drain drained)), words)
+drain_of _ = None
 
 -- start N ID [kind=K] [arg=TEXT] [restart=R] [shutdown=S]
 unfoldable pub start_of : List Word → Option (Deed × List Word)
@@ -128,6 +136,7 @@ deed_of [] = None
 deed_of (verb ∷ words) =
     if bytes_eq verb (codes "join") then join_of words else
     (if bytes_eq verb (codes "leave") then leave_of words else
+    (if bytes_eq verb (codes "drain") then drain_of words else
     (if bytes_eq verb (codes "start") then start_of words else
     (if bytes_eq verb (codes "replace") then replace_of words else
     (if bytes_eq verb (codes "delete") then delete_of words else
@@ -138,4 +147,4 @@ deed_of (verb ∷ words) =
     (if bytes_eq verb (codes "push") then push_of words else
     (if bytes_eq verb (codes "deliver") then deliver_of words else
     (if bytes_eq verb (codes "stop") then stop_of words else
-    (if bytes_eq verb (codes "restart") then reboot_of words else None))))))))))))
+    (if bytes_eq verb (codes "restart") then reboot_of words else None)))))))))))))

@@ -4,7 +4,7 @@
 
 ghost use Rattle.std.specs.Prelude.{◌≡◌, IfErr};
 ghost use Rattle.sup_lines.specs.Words.{Reads, and_rest, texts};
-ghost use Rattle.sup_lines.specs.Forms.{delete_of, join_of, leave_of, register_of, replace_of, start_of, unregister_of};
+ghost use Rattle.sup_lines.specs.Forms.{delete_of, drain_of, join_of, leave_of, register_of, replace_of, start_of, unregister_of};
 
 use crate::deed::Deed;
 use crate::fault::LineFault;
@@ -45,6 +45,23 @@ pub fn read_leave<'a>(words: &'a [&'a str]) -> Result<(Deed, &'a [&'a str]), Lin
             let node = read_node_name(node)?;
             let member = read_node_name(member)?;
             let act = Act::Event(Event::Leave(member));
+            Ok((Deed::At { node, act }, rest))
+        }
+        _ => Err(LineFault::Bad),
+    }
+}
+
+/// A member stays, and no child is placed on it any more.
+#[tactic(auto, unfolding(crate::specs::Forms::drain_of))]
+pub fn read_drain<'a>(words: &'a [&'a str]) -> Result<(Deed, &'a [&'a str]), LineFault>
+    ensures deed { Reads and_rest result (drain_of (texts words.entry.now)) }
+    ensures bad { IfErr result (λ e. e ≡ LineFault.Bad) }
+{
+    match words {
+        [node, member, rest @ ..] => {
+            let node = read_node_name(node)?;
+            let member = read_node_name(member)?;
+            let act = Act::Event(Event::Drain(member));
             Ok((Deed::At { node, act }, rest))
         }
         _ => Err(LineFault::Bad),

@@ -4,7 +4,8 @@ ghost use Rattle.sup_lines.specs.Words.{Reads, and_rest, texts};
 ghost use Rattle.sup_lines.specs.Forms.{deed_of};
 
 use crate::commands::{
-    read_delete, read_join, read_leave, read_register, read_replace, read_start, read_unregister,
+    read_delete, read_drain, read_join, read_leave, read_register, read_replace, read_start,
+    read_unregister,
 };
 use crate::deed::Deed;
 use crate::events::{read_deliver, read_exit, read_push, read_reboot, read_ship, read_stop};
@@ -25,6 +26,7 @@ pub fn read_deed<'a>(
     match *verb {
         "join" => read_join(alloc, words),
         "leave" => read_leave(words),
+        "drain" => read_drain(words),
         "start" => read_start(alloc, words),
         "replace" => read_replace(alloc, words),
         "delete" => read_delete(alloc, words),

@@ -16,12 +16,12 @@ use Rattle.sup_causal.specs.Dots.{IsCounted}
 use Rattle.sup_causal.proofs.DotLemmas.{equal_from_is_eq}
 use Rattle.sup_tables.specs.declared.row.Row.{Row}
 use Rattle.sup_tables.specs.Rows.{Table, children, key_of, is_in, is_at}
-use Rattle.sup_tables.specs.Readers.{entries, winner, keys}
+use Rattle.sup_tables.specs.Readers.{entries, winner, keys, eligible}
 use Rattle.sup_tables.proofs.AddLaws.{and-second}
 use Rattle.sup_placement.specs.Place.{Weigher, place}
 use Rattle.sup_local_sup.specs.declared.wanted.Wanted.{Wanted}
 use Rattle.sup_local_sup.specs.Keeping.{by_id, IdsRise, AreCounted}
-use Rattle.sup_replica.specs.Nodes.{eligible, is_placed_on, wanted_of, wanted_row, wanted_at}
+use Rattle.sup_replica.specs.Nodes.{is_placed_on, wanted_of, wanted_row, wanted_at}
 
 abbrev Below : {X : Type 0} → (X → X → Ordering) → X → List X → Type 0
 Below cmp x xs = AllByRecursion (λ y. cmp x y ≡ Less) xs

@@ -18,7 +18,7 @@ use Rattle.sup_local_sup.specs.declared.effect.Effect.{Effect}
 use Rattle.sup_replica.specs.Configs.{Config}
 use Rattle.sup_anti_entropy.specs.Buffers.{Buffer, Shipment, shipment_of, holds_more, shipped as shipment}
 use Rattle.sup_replica.specs.declared.event.Event.{Event}
-use Rattle.sup_replica.specs.declared.event.Event.TheVariants.{Join, Leave, Start, Replace, Delete, Register, Unregister, Exit, Ship, Push, Deliver}
+use Rattle.sup_replica.specs.declared.event.Event.TheVariants.{Join, Leave, Drain, Start, Replace, Delete, Register, Unregister, Exit, Ship, Push, Deliver}
 use Rattle.sup_replica.specs.declared.done.Reply.TheVariants.{Sent, Acked, Boot}
 use Rattle.sup_replica.specs.declared.event.Act.TheVariants.{Event as Of, Restart}
 use Rattle.sup_replica.specs.declared.letter.Letter.{Letter}
@@ -378,6 +378,7 @@ module _ (g : Weigher) (s : Station State) (now : ℕ) (p : Planned) where
   pub may-lack : (event : Event) → IsPlanOf g s event now p → MayLack g s event now
   may-lack (Join label) x = planned-lacks _ x.ready.move x.ready.moves
   may-lack (Leave m) x = planned-lacks _ x.ready.move x.ready.moves
+  may-lack (Drain m) x = planned-lacks _ x.ready.move x.ready.moves
   may-lack (Start id spec) x = planned-lacks _ x.ready.move x.ready.moves
   may-lack (Delete id) x = planned-lacks _ x.ready.move x.ready.moves
   may-lack (Replace id spec) x = planned-lacks _ x.ready.move x.ready.moves

@@ -1,5 +1,5 @@
 -- What the checks of a step say, and what a step makes ready.
-use Rattle.std.specs.Prelude.{◌≡◌, ℕ, ◌+◌, ◌<◌, ◌≤◌, Bool, true, false, ◌||◌, nat_lt, is_ok, length, List, [], Option, Result, Ok, Err}
+use Rattle.std.specs.Prelude.{◌≡◌, ℕ, ◌+◌, ◌<◌, ◌≤◌, Bool, true, false, ◌||◌, nat_lt, is_ok, is_some, length, List, [], Option, Some, Result, Ok, Err, refl}
 use Rattle.std.proofs.Common.{None, sym, ap, ◌∙◌, arith, subst}
 use Rattle.std.proofs.Math.Bool.{or-true}
 use mathlib.Core.Logic.{inl, inr}
@@ -7,6 +7,10 @@ use Rattle.sup_specs.specs.Values.{Bytes}
 use Rattle.sup_specs.specs.declared.limits.TheConstants.{MAX}
 use Rattle.sup_causal.specs.declared.dot.Dot.{Dot}
 use Rattle.sup_placement.specs.Place.{Weigher}
+use Rattle.sup_tables.specs.declared.row.Row.{Row}
+use Rattle.sup_tables.specs.Rows.{members}
+use Rattle.sup_tables.specs.Readers.{winner, is_present, live_dots}
+use Rattle.sup_tables.specs.Makers.{drain_over, drain_member}
 use Rattle.sup_tables.specs.Operations.{Operation}
 use Rattle.sup_tables.specs.States.{State}
 use Rattle.sup_tables.specs.Joined.{join_states}
@@ -106,6 +110,14 @@ known_ready w n delta covered effects ce je ee pe = (
       ∙ is_told (only n Known effects None) pe,
   tt,
 )
+
+-- where there is such a member, what a drain names are its dots
+drained : (dot : Dot) (m : Bytes) (dots : List Dot) (won : Option Row) → is_some won ≡ true → (drain_over dot m dots won).removes ≡ dots
+drained dot m dots None e = absurd cc
+drained dot m dots (Some won) e = refl
+
+pub drained_dots : (rows : List Row) (dot : Dot) (m : Bytes) → is_present rows members m ≡ true → (drain_member rows dot m).removes ≡ live_dots rows members m
+drained_dots rows dot m there = drained dot m (live_dots rows members m) (winner rows members m) there
 
 -- a check that is passed
 pub passed : {A : Type 0} (b : Bool) (refusal : Refusal) (rest result : Result A Refusal) → b ≡ false → rest ≡ result → refused_if b refusal rest ≡ result

@@ -7,7 +7,7 @@ use Rattle.sup_placement.specs.Place.{Weigher}
 use Rattle.sup_wire.specs.declared.image.Image.{Image}
 use Rattle.sup_replica.specs.Configs.{Config}
 use Rattle.sup_replica.specs.declared.event.Event.{Event}
-use Rattle.sup_replica.specs.declared.event.Event.TheVariants.{Join, Leave, Start, Replace, Delete, Register, Unregister, Exit, Ship, Push, Deliver}
+use Rattle.sup_replica.specs.declared.event.Event.TheVariants.{Join, Leave, Drain, Start, Replace, Delete, Register, Unregister, Exit, Ship, Push, Deliver}
 use Rattle.sup_replica.specs.declared.event.Act.TheVariants.{Event as Of, Restart}
 use Rattle.sup_local_sup.specs.declared.effect.Effect.{Effect}
 use Rattle.sup_replica.specs.declared.done.Done.{Done}
@@ -28,6 +28,7 @@ use Rattle.sup_node.specs.Texts.{IsReadAs, IsDoneOf, reads_as}
 abbrev pub Reads : Event → Option (Mail State) → Type 0
 Reads (Join label) mail = Unit {0}
 Reads (Leave m) mail = Unit {0}
+Reads (Drain m) mail = Unit {0}
 Reads (Start id spec) mail = Unit {0}
 Reads (Delete id) mail = Unit {0}
 Reads (Replace id spec) mail = Unit {0}

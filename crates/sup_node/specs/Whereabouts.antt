@@ -3,14 +3,13 @@ use Rattle.std.specs.Prelude.{List, Option, Some, None, if◌then◌else◌}
 use Rattle.sup_specs.specs.Values.{Bytes}
 use Rattle.sup_tables.specs.declared.row.Row.{Row}
 use Rattle.sup_tables.specs.Rows.{children, names, target_of}
-use Rattle.sup_tables.specs.Readers.{winner, is_present}
+use Rattle.sup_tables.specs.Readers.{winner, is_present, eligible}
 use Rattle.sup_placement.specs.Place.{Weigher, place}
-use Rattle.sup_replica.specs.Nodes.{eligible}
 
 pub data Where : Type 0 where
   unknown : Where  -- no such name
   gone : Bytes → Where  -- its child isn't there
-  unplaced : Bytes → Where  -- there is no member
+  unplaced : Bytes → Where  -- no member is open
   on : Bytes → Bytes → Where  -- the child, and the member
 
 abbrev pub where_placed : Bytes → Option Bytes → Where

@@ -3,7 +3,7 @@ ghost use Rattle.std.specs.Prelude.{◌≡◌, ◌++◌, IfOk, OnOk};
 ghost use Rattle.sup_tables.specs.Stored.{child_row};
 ghost use Rattle.sup_local_sup.specs.Keeping.{IdsRise, AreCounted};
 ghost use Rattle.sup_placement.specs.Place.{place};
-ghost use Rattle.sup_replica.specs.Nodes.{eligible, is_placed_on, wanted_row, wanted_at};
+ghost use Rattle.sup_replica.specs.Nodes.{is_placed_on, wanted_row, wanted_at};
 
 use std::alloc::{AllocError, Global};
 use sup_local_sup::Wanted;
@@ -12,7 +12,7 @@ use sup_specs::{ChildId, ChildSpec, NodeName, Plain};
 use sup_tables::{Tables, Winner};
 
 // The children that are placed on this node, by id, each with its winning dot. One pass over the children's winners,
-// with a weighing of all members for each.
+// with a weighing of all open members for each.
 pub(crate) fn wanted_at<W: Weigh>(
     alloc: Global,
     weigher: &W,
@@ -36,7 +36,7 @@ fn listed<W: Weigh>(
     ensures items { IfOk result (λ wanted. wanted.items ≡ wanted_at W.weight_of me.now tables.now.rows) }
     ensures counted { IfOk result (λ wanted. AreCounted wanted.items) }
 {
-    let hosts = eligible(alloc, tables)?;
+    let hosts = tables.eligible()?;
     let winners = tables.children()?;
     let mut wanted = Vec::new(alloc);
     for winner in &winners {
@@ -75,16 +75,4 @@ fn is_here<W: Weigh>(weigher: &W, me: &NodeName, hosts: &[NodeName], id: &ChildI
         Some(member) => member.cmp(me).is_eq(),
         None => false,
     }
-}
-
-// The members that children are placed on.
-pub(crate) fn eligible(alloc: Global, tables: &Tables) -> Result<Vec<NodeName>, AllocError>
-    ensures { IfOk result (λ found. found.items ≡ eligible tables.now.rows) }
-{
-    let winners = tables.members()?;
-    let mut names = Vec::new(alloc);
-    for winner in &winners {
-        names.push(*winner.key)?;
-    }
-    Ok(names)
 }

@@ -24,6 +24,7 @@ impl NodeState {
         match event {
             Event::Join(label) => planned(replica.join(label, weigher)),
             Event::Leave(member) => planned(replica.leave(member, weigher)),
+            Event::Drain(member) => planned(replica.drain(member, weigher)),
             Event::Start(id, spec) => planned(replica.start(id, spec, weigher)),
             Event::Delete(id) => planned(replica.delete(id, weigher)),
             Event::Replace(id, spec) => planned(replica.replace(id, spec, weigher)),

@@ -5,7 +5,6 @@ ghost use Rattle.sup_node.specs.Contents.{station_of, where_told};
 ghost use Rattle.sup_node.specs.Whereabouts.{where_is};
 
 use crate::node::Node;
-use crate::placing::eligible;
 use crate::whereis::Whereis;
 use indexmap::IndexMap;
 use std::alloc::AllocError;
@@ -98,7 +97,7 @@ impl<W: Weigh> Node<W> {
                 if tables.child(id).is_none() {
                     return Ok(Whereis::Gone(id));
                 }
-                let hosts = eligible(self.state.replica.alloc(), tables)?;
+                let hosts = tables.eligible()?;
                 match place(weigher, &hosts, id) {
                     None => Ok(Whereis::Unplaced(id)),
                     Some(member) => Ok(Whereis::On(id, member)),

@@ -9,7 +9,7 @@ pub enum Whereis<'a> {
     Unknown,
     /// Its child isn't there.
     Gone(&'a ChildId),
-    /// Its child is there, and no member is.
+    /// Its child is there, and no member is open.
     Unplaced(&'a ChildId),
     /// Its child is placed on this member.
     On(&'a ChildId, NodeName),

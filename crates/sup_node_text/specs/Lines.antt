@@ -3,6 +3,8 @@ use Rattle.std.specs.Prelude.{ℕ, List, [], ◌∷◌, codes, Option, Some, Non
 use Rattle.sup_specs.specs.Values.{Bytes}
 use Rattle.sup_specs.specs.declared.child.ChildSpec.{ChildSpec}
 use Rattle.sup_specs.specs.declared.child.MemberInfo.{MemberInfo}
+use Rattle.sup_specs.specs.declared.child.Status.{Status}
+use Rattle.sup_specs.specs.declared.child.Status.TheVariants.{Open, Draining}
 use Rattle.sup_causal.specs.declared.dot.Dot.{Dot}
 use Rattle.sup_tables.specs.Rows.{Table, members, children, names}
 use Rattle.sup_local_sup.specs.Keeping.{Kept}
@@ -27,9 +29,14 @@ lead_text (gone id) = text (id ∷ codes " gone" ∷ [])
 lead_text (unplaced id) = text (id ∷ codes " " ∷ place_text None ∷ [])
 lead_text (on id member) = text (id ∷ codes " " ∷ place_text (Some member) ∷ [])
 
--- member M DOT label=TEXT
+-- what is said of a member that isn't open, with a space behind it
+abbrev pub status_text : Status → List ℕ
+status_text Open = []
+status_text Draining = codes "draining "
+
+-- member M DOT label=TEXT, of a draining one member M DOT draining label=TEXT
 abbrev pub member_line : Bytes → Dot → MemberInfo → List ℕ
-member_line member dot info = text (codes "member " ∷ member ∷ codes " " ∷ dot_text dot ∷ codes " label=" ∷ info.label ∷ codes "\n" ∷ [])
+member_line member dot info = text (codes "member " ∷ member ∷ codes " " ∷ dot_text dot ∷ codes " " ∷ status_text info.status ∷ codes "label=" ∷ info.label ∷ codes "\n" ∷ [])
 
 -- child ID DOT KIND RESTART SHUTDOWN arg=TEXT, and where it is
 abbrev pub child_line : Bytes → Dot → ChildSpec → Option Bytes → List ℕ

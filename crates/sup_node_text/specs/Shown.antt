@@ -6,11 +6,10 @@ use Rattle.std.specs.List.{flat_map}
 use Rattle.sup_specs.specs.Values.{Bytes}
 use Rattle.sup_tables.specs.declared.row.Row.{Row}
 use Rattle.sup_tables.specs.Rows.{Table, members, children, names, key_of, info_of, spec_of, target_of}
-use Rattle.sup_tables.specs.Readers.{winners, losers}
+use Rattle.sup_tables.specs.Readers.{winners, losers, eligible}
 use Rattle.sup_tables.specs.States.{State}
 use Rattle.sup_placement.specs.Place.{Weigher, place}
 use Rattle.sup_local_sup.specs.Keeping.{Kept}
-use Rattle.sup_replica.specs.Nodes.{eligible}
 use Rattle.sup_replica.specs.Stations.{Station}
 use Rattle.sup_node.specs.declared.node.Node.{Node}
 use Rattle.sup_node.specs.Contents.{station_of}

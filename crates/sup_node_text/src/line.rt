@@ -1,12 +1,12 @@
 //! The lines of winners.
 
 ghost use Rattle.std.specs.Prelude.{Some};
-ghost use Rattle.sup_node_text.specs.Lines.{child_line, member_line};
+ghost use Rattle.sup_node_text.specs.Lines.{child_line, member_line, status_text};
 
 use crate::place::PlaceText;
 use std::fmt;
 use sup_causal::Dot;
-use sup_specs::{ChildId, ChildSpec, MemberInfo, NodeName};
+use sup_specs::{ChildId, ChildSpec, MemberInfo, NodeName, Status};
 use sup_text::{DotText, SpecText};
 
 // The line of a member.
@@ -23,8 +23,24 @@ impl fmt::Display for MemberLine<'_> {
     fn fmt<W: fmt::Write>(&self, f: &mut fmt::Formatter<W>) -> fmt::Result {
         let member = self.member.as_str();
         let dot = DotText(self.dot);
+        let status = StatusText(self.info.status);
         let label = self.info.label.as_str();
-        write!(f, "member {member} {dot} label={label}\n")
+        write!(f, "member {member} {dot} {status}label={label}\n")
+    }
+}
+
+// What is said of a member that isn't open, with a space behind it.
+#[derive(Clone, Copy)]
+struct StatusText(Status);
+
+impl fmt::Display for StatusText {
+    ghost output = { λ s. Some (status_text s.0) };
+
+    fn fmt<W: fmt::Write>(&self, f: &mut fmt::Formatter<W>) -> fmt::Result {
+        match self.0 {
+            Status::Open => write!(f, ""),
+            Status::Draining => write!(f, "draining "),
+        }
     }
 }
 

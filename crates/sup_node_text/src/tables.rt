@@ -3,9 +3,8 @@
 ghost use Rattle.std.specs.Prelude.{◌≡◌, IfOk, string_bytes};
 ghost use Rattle.std.specs.List.{flat_map};
 ghost use Rattle.sup_tables.specs.Rows.{children, members, names};
-ghost use Rattle.sup_tables.specs.Readers.{winners};
+ghost use Rattle.sup_tables.specs.Readers.{eligible, winners};
 ghost use Rattle.sup_tables.specs.Stored.{child_row, member_row, name_row};
-ghost use Rattle.sup_replica.specs.Nodes.{eligible};
 ghost use Rattle.sup_node.specs.Contents.{where_told};
 ghost use Rattle.sup_node.specs.Whereabouts.{where_child, where_is};
 ghost use Rattle.sup_node_text.specs.Lines.{name_line};
@@ -33,7 +32,7 @@ pub fn tables_text<W: Weigh>(
 ) -> Result<String, AllocError>
     ensures { IfOk result (λ s. string_bytes s ≡ tables_text W.weight_of tables.now.rows) }
 {
-    let hosts = eligible(alloc, tables)?;
+    let hosts = tables.eligible()?;
     let members = members_text(alloc, tables)?;
     let members = members.as_str();
     let children = children_text(alloc, tables, weigher, &hosts)?;
@@ -41,18 +40,6 @@ pub fn tables_text<W: Weigh>(
     let names = names_text(alloc, tables, weigher, &hosts)?;
     let names = names.as_str();
     format!(in alloc; "{members}{children}{names}")
-}
-
-// The members that children are placed on.
-pub(crate) fn eligible(alloc: Global, tables: &Tables) -> Result<Vec<NodeName>, AllocError>
-    ensures { IfOk result (λ found. found.items ≡ eligible tables.now.rows) }
-{
-    let winners = tables.members()?;
-    let mut names = Vec::new(alloc);
-    for winner in &winners {
-        names.push(*winner.key)?;
-    }
-    Ok(names)
 }
 
 fn members_text(alloc: Global, tables: &Tables) -> Result<String, AllocError>

@@ -5,7 +5,7 @@ ghost use Rattle.sup_node_text.specs.Shown.{shown_at, where_text};
 
 use crate::place::LeadText;
 use crate::show::down_text;
-use crate::tables::{eligible, lead_at};
+use crate::tables::lead_at;
 use std::alloc::{AllocError, Global};
 use sup_node::Node;
 use sup_placement::Weigh;
@@ -30,7 +30,7 @@ pub fn where_text<W: Weigh>(
         return down_text(alloc, at);
     };
     let tables = node.tables();
-    let hosts = eligible(alloc, tables)?;
+    let hosts = tables.eligible()?;
     let lead = LeadText(lead_at(weigher, &hosts, tables, name));
     let name = name.as_str();
     format!(in alloc; "{name} {lead}\n")

@@ -11,7 +11,7 @@ use Rattle.sup_replica.specs.declared.letter.Letter.{Letter}
 use Rattle.sup_replica.specs.declared.letter.LetterKind.{LetterKind}
 use Rattle.sup_replica.specs.declared.letter.LetterKind.TheVariants.{Part, Whole, Push, Ack}
 use Rattle.sup_replica.specs.declared.refusal.Refusal.{Refusal}
-use Rattle.sup_replica.specs.declared.refusal.Refusal.TheVariants.{Down, AlreadyUp, UnknownNode, AlreadyPresent, NotFound, AlreadyMember, NotMember, NameTaken, NoSuchChild, NameUnknown, DotsSpent, UpToDate, NoSuchMessage, StaleExit, TableFull, KeepFailed, BadMessage, WrongReceiver, OutOfMemory, HistoryFull, CountSpent, NothingToPush}
+use Rattle.sup_replica.specs.declared.refusal.Refusal.TheVariants.{Down, AlreadyUp, UnknownNode, AlreadyPresent, NotFound, AlreadyMember, NotMember, NameTaken, NoSuchChild, NameUnknown, DotsSpent, UpToDate, NoSuchMessage, StaleExit, TableFull, KeepFailed, BadMessage, WrongReceiver, OutOfMemory, HistoryFull, CountSpent, NothingToPush, AlreadyDraining}
 use Rattle.sup_replica.specs.Refusals.{number_of}
 use Rattle.sup_text.specs.Words.{text, dot_text, spaced_dot, incarnation_text}
 
@@ -38,6 +38,7 @@ refusal_name OutOfMemory = codes "OutOfMemory"
 refusal_name HistoryFull = codes "HistoryFull"
 refusal_name CountSpent = codes "CountSpent"
 refusal_name NothingToPush = codes "NothingToPush"
+refusal_name AlreadyDraining = codes "AlreadyDraining"
 
 -- refused 4 AlreadyPresent
 abbrev pub refusal_text : Refusal → List ℕ

@@ -51,6 +51,7 @@ impl fmt::Display for RefusalName {
             Refusal::HistoryFull => write!(f, "HistoryFull"),
             Refusal::CountSpent => write!(f, "CountSpent"),
             Refusal::NothingToPush => write!(f, "NothingToPush"),
+            Refusal::AlreadyDraining => write!(f, "AlreadyDraining"),
         }
     }
 }

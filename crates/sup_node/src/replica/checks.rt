@@ -5,11 +5,11 @@ ghost use Rattle.sup_tables.specs.Rows.{members, children, names};
 ghost use Rattle.sup_tables.specs.Readers.{is_present};
 ghost use Rattle.sup_tables.specs.OneOperation.{counter_in};
 ghost use Rattle.sup_replica.specs.ByTables.{by_tables};
-ghost use Rattle.sup_replica.specs.Commands.{is_full, is_spent};
+ghost use Rattle.sup_replica.specs.Commands.{is_draining, is_full, is_spent};
 ghost use Rattle.sup_replica.specs.Steps.{reading};
 
 use crate::replica::Replica;
-use sup_specs::{ChildId, MAX, Name, NodeName};
+use sup_specs::{ChildId, MAX, Name, NodeName, Status};
 
 /// The live rows at which a node adds nothing any more, but in the place of what it removes.
 const ROW_LIMIT: usize = 10_000;
@@ -27,6 +27,19 @@ impl Replica {
         ensures { result ≡ is_present self.now.known.rows members member.now }
     {
         self.tables.member(member).is_some()
+    }
+
+    // Whether there is such a member, and it is draining.
+    pub(super) fn is_draining(&self, member: &NodeName) -> bool
+        ensures { result ≡ is_draining self.now.known.rows member.now }
+    {
+        match self.tables.member(member) {
+            Some((_, info)) => match info.status {
+                Status::Open => false,
+                Status::Draining => true,
+            },
+            None => false,
+        }
     }
 
     // Whether there is such a child.

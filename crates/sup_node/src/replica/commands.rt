@@ -1,9 +1,12 @@
 //! Commands, made ready. Nothing changes; each refuses with the first check that fails, or for memory.
-ghost use Rattle.std.specs.Prelude.{◌≡◌, ◌<◌, IfOk};
+ghost use Rattle.std.specs.Prelude.{◌≡◌, ◌<◌, true, IfOk};
+ghost use Rattle.sup_specs.specs.declared.child.Status.TheVariants.{Open};
 ghost use Rattle.sup_specs.specs.declared.limits.TheConstants.{MAX as MOST};
-ghost use Rattle.sup_tables.specs.Makers.{put_member, put_child, replace_child, put_name, drop_member, drop_child, drop_name};
+ghost use Rattle.sup_tables.specs.Rows.{members};
+ghost use Rattle.sup_tables.specs.Readers.{is_present, live_dots};
+ghost use Rattle.sup_tables.specs.Makers.{put_member, put_child, replace_child, put_name, drop_member, drain_member, drop_child, drop_name};
 ghost use Rattle.sup_tables.specs.OneOperation.{state_of_one, counter_in, next_at};
-ghost use Rattle.sup_replica.specs.declared.event.Event.TheVariants.{Join, Leave, Start, Replace, Delete, Register, Unregister};
+ghost use Rattle.sup_replica.specs.declared.event.Event.TheVariants.{Join, Leave, Drain, Start, Replace, Delete, Register, Unregister};
 ghost use Rattle.sup_replica.specs.ByTables.{by_tables};
 ghost use Rattle.sup_replica.specs.Steps.{up_step};
 ghost use Rattle.sup_node.specs.Changes.{Readies, IsOwn};
@@ -15,7 +18,7 @@ use sup_causal::Dot;
 use sup_local_sup::Leaving;
 use sup_placement::Weigh;
 use sup_replica::{Dots, Refusal, Reply};
-use sup_specs::{ChildId, ChildSpec, MemberInfo, Name, NodeName, Plain, Text};
+use sup_specs::{ChildId, ChildSpec, MemberInfo, Name, NodeName, Plain, Status, Text};
 use sup_tables::Tables;
 
 impl Replica {
@@ -48,6 +51,30 @@ impl Replica {
         let (delta, dots) = self.drop_member(m)?;
         let removed = Dots::new(dots);
         self.issue(Reply::Removed(removed), &Leaving::Nobody, delta, weigher)
+    }
+
+    // A member stays, and keeps no children.
+    pub(crate) fn drain<W: Weigh>(&self, m: &NodeName, weigher: &W) -> Result<Ready, Refusal>
+        ensures ready { Readies (up_step by_tables W.weight_of self.now (Drain m.now) 0) self.now result }
+        ensures own { IfOk result (λ p. IsOwn self.now p.change) }
+    {
+        if !self.is_member(m) {
+            return Err(Refusal::NotMember);
+        }
+        if self.is_draining(m) {
+            return Err(Refusal::AlreadyDraining);
+        }
+        if self.is_spent() {
+            return Err(Refusal::DotsSpent);
+        }
+        let (delta, dot, dots) = self.drain_member(m)?;
+        let removed = Dots::new(dots);
+        self.issue(
+            Reply::Replaced(dot, removed),
+            &Leaving::Nobody,
+            delta,
+            weigher,
+        )
     }
 
     // A child comes.
@@ -154,10 +181,16 @@ impl Replica {
     fn put_member(&self, label: &Text) -> Result<(Tables, Dot), AllocError>
         requires { counter_in self.now.known self.now.name < MOST }
         ensures dot { IfOk result (λ put. put.1 ≡ next_at self.now.known self.now.name) }
-        ensures delta { IfOk result (λ put. put.0 ≡ state_of_one (put_member (next_at self.now.known self.now.name) self.now.name (record { label = label.now }))) }
+        ensures delta { IfOk result (λ put. put.0 ≡ state_of_one (put_member (next_at self.now.known self.now.name) self.now.name (record { label = label.now; status = Open }))) }
     {
         let label = label.try_clone(self.alloc)?;
-        let put = self.tables.add_member(self.name, MemberInfo { label })?;
+        let put = self.tables.add_member(
+            self.name,
+            MemberInfo {
+                label,
+                status: Status::Open,
+            },
+        )?;
         Ok(put)
     }
 
@@ -196,6 +229,17 @@ impl Replica {
         let id = id.try_clone(self.alloc)?;
         let spec = spec.try_clone(self.alloc)?;
         let put = self.tables.add_replacement(self.name, id, spec)?;
+        Ok(put)
+    }
+
+    fn drain_member(&self, m: &NodeName) -> Result<(Tables, Dot, Vec<Dot>), AllocError>
+        requires left { counter_in self.now.known self.now.name < MOST }
+        requires there { is_present self.now.known.rows members m.now ≡ true }
+        ensures dot { IfOk result (λ put. put.1 ≡ next_at self.now.known self.now.name) }
+        ensures dots { IfOk result (λ put. put.2.items ≡ live_dots self.now.known.rows members m.now) }
+        ensures delta { IfOk result (λ put. put.0 ≡ state_of_one (drain_member self.now.known.rows (next_at self.now.known self.now.name) m.now)) }
+    {
+        let put = self.tables.add_draining(self.name, m)?;
         Ok(put)
     }
 

@@ -1,7 +1,7 @@
 use Rattle.std.proofs.Common.{sym, subst}
+use Rattle.sup_tables.specs.Readers.{eligible}
 use Rattle.sup_tables.specs.Stored.{child_row}
 use Rattle.sup_local_sup.specs.Keeping.{AreCounted}
-use Rattle.sup_replica.specs.Nodes.{eligible}
 use Rattle.sup_node.proofs.PlacingLaws.{counted_taken}
 use Rattle.sup_node.proofs.placing.listed.Goals as goal
 

@@ -1,7 +1,8 @@
 use Rattle.std.proofs.Common.{◌≡◌, map, take}
 use Rattle.std.specs.List.{flat_map}
+use Rattle.sup_tables.specs.Readers.{eligible}
 use Rattle.sup_tables.specs.Stored.{child_row}
-use Rattle.sup_replica.specs.Nodes.{wanted_row, eligible}
+use Rattle.sup_replica.specs.Nodes.{wanted_row}
 use Rattle.sup_node.proofs.placing.listed.Given as goal
 
 abbrev pub invariant-loop-winner : goal.invariant-loop-winner

@@ -1,6 +1,6 @@
 use Rattle.std.specs.Prelude.{refl}
 use Rattle.std.proofs.Common.{sym, subst}
-use Rattle.sup_replica.specs.declared.event.Event.TheVariants.{Join, Leave, Start, Delete, Replace, Register, Unregister, Exit}
+use Rattle.sup_replica.specs.declared.event.Event.TheVariants.{Join, Leave, Drain, Start, Delete, Replace, Register, Unregister, Exit}
 use Rattle.sup_node.specs.Contents.{station_in}
 use Rattle.sup_node.specs.NodeSteps.{Plans}
 use Rattle.sup_node.proofs.PlanLaws.{is_own}
@@ -11,6 +11,9 @@ returns-in-Join g c = is_own g.W.Weigh.weight_of (station_in c.args.self.now) (J
 
 pub returns-in-Leave : goal.returns-in-Leave
 returns-in-Leave g c = is_own g.W.Weigh.weight_of (station_in c.args.self.now) (Leave c.in-Leave.member) c.args.now c.args.self.now.runs (λ b. refl) tt (λ x. x) c.leave.result c.leave.ensures.ready c.leave.ensures.own c.args.event.now c.in-Leave.is c.planned-in-Leave.result c.planned-in-Leave.ensures
+
+pub returns-in-Drain : goal.returns-in-Drain
+returns-in-Drain g c = is_own g.W.Weigh.weight_of (station_in c.args.self.now) (Drain c.in-Drain.member) c.args.now c.args.self.now.runs (λ b. refl) tt (λ x. x) c.drain.result c.drain.ensures.ready c.drain.ensures.own c.args.event.now c.in-Drain.is c.planned-in-Drain.result c.planned-in-Drain.ensures
 
 pub returns-in-Start : goal.returns-in-Start
 returns-in-Start g c = is_own g.W.Weigh.weight_of (station_in c.args.self.now) (Start c.in-Start.id c.in-Start.spec) c.args.now c.args.self.now.runs (λ b. refl) tt (λ x. x) c.start.result c.start.ensures.ready c.start.ensures.own c.args.event.now c.in-Start.is c.planned-in-Start.result c.planned-in-Start.ensures
