@@ -58,10 +58,10 @@ pub fn read_drain<'a>(words: &'a [&'a str]) -> Result<(Deed, &'a [&'a str]), Lin
     ensures bad { IfErr result (λ e. e ≡ LineFault.Bad) }
 {
     match words {
-        [node, member, rest @ ..] => {
+        [node, drained, rest @ ..] => {
             let node = read_node_name(node)?;
-            let member = read_node_name(member)?;
-            let act = Act::Event(Event::Drain(member));
+            let drained = read_node_name(drained)?;
+            let act = Act::Event(Event::Drain(drained));
             Ok((Deed::At { node, act }, rest))
         }
         _ => Err(LineFault::Bad),

@@ -1,17 +1,14 @@
 -- The winners of a table rise by key, so what is wanted rises by id.
 use Rattle.std.specs.Prelude.{◌≡◌, ℕ, All, take, Bool, true, false, cond, List, [], ◌∷◌, ◌++◌, map, flat_map, filter, filter_map, Option, Some, None, slice_get, refl}
 use Rattle.std.specs.declared.cmp.Ordering.{Ordering}
-use Rattle.std.specs.declared.cmp.Ordering.TheVariants.{Less, Equal, Greater}
+use Rattle.std.specs.declared.cmp.Ordering.TheVariants.{Less}
 use Rattle.std.specs.List.{AllByRecursion, cons_option}
-use Rattle.std.specs.Cmp.{IsTotalOrder}
-use Rattle.std.specs.FinMap.Entries.{by_order}
 use Rattle.std.proofs.lemmas.List.Elements.{All-take, recursion_from_All}
 use Rattle.std.proofs.Common.{sym, ap, ◌∙◌, subst}
 use Rattle.sup_specs.specs.Values.{Bytes, text_cmp}
 use Rattle.sup_specs.specs.OrderLaws.{text_total, text_tie}
 use Rattle.std.specs.List.Sorted.{IsStrictlySortedBy}
-use Rattle.sup_specs.specs.Rising.{rising, put_in}
-use Rattle.sup_causal.proofs.Rising.{less_from_greater}
+use Rattle.sup_specs.proofs.RisingLaws.{rising_rises}
 use Rattle.sup_causal.specs.Dots.{IsCounted}
 use Rattle.sup_causal.proofs.DotLemmas.{equal_from_is_eq}
 use Rattle.sup_tables.specs.declared.row.Row.{Row}
@@ -25,34 +22,6 @@ use Rattle.sup_replica.specs.Nodes.{is_placed_on, wanted_of, wanted_row, wanted_
 
 abbrev Below : {X : Type 0} → (X → X → Ordering) → X → List X → Type 0
 Below cmp x xs = AllByRecursion (λ y. cmp x y ≡ Less) xs
-
-below_all : {X : Type 0} (cmp : X → X → Ordering) → IsTotalOrder cmp → (x y : X) → cmp x y ≡ Less → (ys : List X) → Below cmp y ys → Below cmp x ys
-below_all cmp total x y e [] a = tt
-below_all cmp total x y e (z ∷ zs) a = (total.trans x y z e a.0, below_all cmp total x y e zs a.1)
-
-below_put : {X : Type 0} (cmp : X → X → Ordering) (y x : X) → cmp y x ≡ Less → (xs : List X) → Below cmp y xs → Below cmp y (put_in cmp x xs)
-below_put cmp y x e [] a = (e, tt)
-below_put cmp y x e (z ∷ zs) a =
-    elim (cmp x z) as (λ o. Below cmp y (by_order o (x ∷ z ∷ zs) (z ∷ zs) (z ∷ put_in cmp x zs))) [
-      | Less ↦ (e, a)
-      | Equal ↦ a
-      | Greater ↦ (a.0, below_put cmp y x e zs a.1)
-    ]
-
-put_rises : {X : Type 0} (cmp : X → X → Ordering) → IsTotalOrder cmp → (x : X) (xs : List X) → IsStrictlySortedBy cmp xs → IsStrictlySortedBy cmp (put_in cmp x xs)
-unfolding IsStrictlySortedBy
-put_rises cmp total x [] s = (tt, tt)
-put_rises cmp total x (y ∷ ys) s =
-    elim (cmp x y) as (λ o. cmp x y ≡ o → IsStrictlySortedBy cmp (by_order o (x ∷ y ∷ ys) (y ∷ ys) (y ∷ put_in cmp x ys))) [
-      | Less ↦ λ e. ((e, below_all cmp total x y e ys s.0), s)
-      | Equal ↦ λ e. s
-      | Greater ↦ λ e. (below_put cmp y x (less_from_greater total x y e) ys s.0, put_rises cmp total x ys s.1)
-    ] refl
-
-pub rising_rises : {X : Type 0} (cmp : X → X → Ordering) → IsTotalOrder cmp → (xs : List X) → IsStrictlySortedBy cmp (rising cmp xs)
-unfolding IsStrictlySortedBy
-rising_rises cmp total [] = tt
-rising_rises cmp total (x ∷ xs) = put_rises cmp total x (rising cmp xs) (rising_rises cmp total xs)
 
 -- a winner is of its key
 first_of : (rows : List Row) (table : Table) (key : Bytes) (r : Row) → winner rows table key ≡ Some r → key_of r.entry ≡ key

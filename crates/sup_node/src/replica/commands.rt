@@ -68,9 +68,9 @@ impl Replica {
             return Err(Refusal::DotsSpent);
         }
         let (delta, dot, dots) = self.drain_member(m)?;
-        let removed = Dots::new(dots);
+        let named = Dots::new(dots);
         self.issue(
-            Reply::Replaced(dot, removed),
+            Reply::Replaced(dot, named),
             &Leaving::Nobody,
             delta,
             weigher,
