@@ -10,7 +10,7 @@ use Rattle.sup_wire.specs.declared.fault.WireFault.{WireFault}
 use Rattle.sup_wire.specs.declared.fault.WireFault.TheVariants.{NotJson, NotMessage, BadVersion, NotCanonical, OutOfMemory}
 use Rattle.sup_wire.specs.Drafts.{Draft, ack, push, delta, image}
 use Rattle.sup_wire.specs.Faults.{Says, IsTextOf, IsFault}
-use Rattle.sup_wire.specs.Forms.{value_of}
+use Rattle.sup_wire.specs.Forms.{value_in, value_of}
 use Rattle.sup_cut_texts.proofs.CutShort.{object_cut_unread}
 
 an_object : (x : Draft) → (ms : Members) × (value_of x ≡ object ms)
@@ -30,7 +30,7 @@ module _ {M : Type 0} (IsDraft : M → Draft → Type 0) (InRange : M → Type 0
       subst (λ t. read t ≡ Some d → k < length t → read (take k t) ≡ None) (sym is.compact) (value_cut_unread d one.0 one.1 k) is.json.value short
 
   pub cut_says_none : (y : M) → ¬ Says IsDraft (take k text) y
-  cut_says_none y says = none-some (value_of says.draft) (sym cut_unread ∙ says.json.value)
+  cut_says_none y says = none-some (value_in says.version says.draft) (sym cut_unread ∙ says.json.value)
 
   -- so it is no JSON to a reader, whatever kind is asked for
   pub cut_refused : (Kind : Draft → Type 0) (r : Result M WireFault) → IfOk r (λ y. Says IsDraft (take k text) y) → IfErr r (IsFault Kind (take k text)) → (r ≡ Err NotJson) ⊎ (r ≡ Err OutOfMemory)
@@ -38,5 +38,5 @@ module _ {M : Type 0} (IsDraft : M → Draft → Type 0) (InRange : M → Type 0
   cut_refused Kind (Err NotJson) says fault = inl refl
   cut_refused Kind (Err NotMessage) says fault = absurd (none-some fault.0 (sym cut_unread ∙ fault.1.value))
   cut_refused Kind (Err BadVersion) says fault = absurd (none-some fault.0 (sym cut_unread ∙ fault.1.value))
-  cut_refused Kind (Err NotCanonical) says fault = absurd (none-some (value_of fault.0) (sym cut_unread ∙ fault.1.value))
+  cut_refused Kind (Err NotCanonical) says fault = absurd (none-some (value_in fault.0 fault.1) (sym cut_unread ∙ fault.2.value))
   cut_refused Kind (Err OutOfMemory) says fault = inr refl

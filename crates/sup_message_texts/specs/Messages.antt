@@ -1,6 +1,6 @@
--- Which bytes are a message, as a test of the bytes (this project): the text of a JSON value of version 1, whose fields have their forms and
--- whose tables are canonical.
-use Rattle.std.specs.Prelude.{ℕ, ◌+◌, ◌==◌, Bool, true, false, ◌&&◌, List, [], ◌∷◌, Option, Some, None, unwrap_or, nat_le}
+-- Which bytes are a message, as a test of the bytes (this project): the text of a JSON value of version 1 or 2, whose fields have that version's
+-- forms and whose tables are canonical.
+use Rattle.std.specs.Prelude.{ℕ, ◌+◌, ◌==◌, Bool, true, false, ◌&&◌, List, [], ◌∷◌, Option, Some, None, nat_le, if◌then◌else◌}
 use Rattle.std.specs.List.{list_all}
 use Rattle.std.specs.Map.{keys_of}
 use Rattle.std.specs.Ordering.{is_lt}
@@ -15,7 +15,8 @@ use Rattle.sup_causal.specs.Dots.{dot_cmp}
 use Rattle.sup_causal.specs.Cut.{entry, in_parts}
 use Rattle.sup_tables.specs.Rows.{place_cmp}
 use Rattle.sup_wire.specs.declared.message.Message.{Message}
-use Rattle.sup_wire.specs.declared.version.Version.TheVariants.{One}
+use Rattle.sup_wire.specs.declared.version.Version.{Version}
+use Rattle.sup_wire.specs.declared.version.Version.TheVariants.{One, Two}
 use Rattle.sup_wire.specs.Drafts.{Parts, Draft, ack, push, delta, image, IsDraftOf, IsWholeMessage}
 use Rattle.sup_wire.specs.DraftReads.{message_at}
 use Rattle.sup_wire.specs.Faults.{Says, version_at}
@@ -51,10 +52,20 @@ abbrev pub is_sound_if : Option Draft → Bool
 is_sound_if None = false
 is_sound_if (Some draft) = is_sound draft
 
--- a value of version 1 that is a sound message
+-- the version of this number, if it is one that is read
+abbrev pub version_of : Option ℕ → Option Version
+version_of None = None
+version_of (Some n) = if n == 1 then Some One else if n == 2 then Some Two else None
+
+-- what a value of this version says
+abbrev pub draft_in : Option Version → Data → Option Draft
+draft_in None value = None
+draft_in (Some v) value = message_at v value
+
+-- a value of a version that is read, and a sound message there
 abbrev pub is_message_value : Option Data → Bool
 is_message_value None = false
-is_message_value (Some value) = (unwrap_or (version_at value) 0 == 1) && is_sound_if (message_at One value)
+is_message_value (Some value) = is_sound_if (draft_in (version_of (version_at value)) value)
 
 abbrev pub is_message_text : Bytes → Bool
 is_message_text bytes = is_utf8 bytes && is_message_value (read bytes)

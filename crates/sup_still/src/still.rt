@@ -25,8 +25,8 @@ impl Model for Still {
 }
 
 impl Still {
-    /// Reads an image of version 1, as [`decode_image`] does. It is taken as it is: its node need not be a member, and no
-    /// boot is begun.
+    /// Reads an image of version 1 or 2, as [`decode_image`] does. It is taken as it is: its node need not be a member,
+    /// and no boot is begun.
     ///
     /// # Errors
     ///

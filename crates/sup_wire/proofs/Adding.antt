@@ -18,7 +18,7 @@ use Rattle.sup_wire.specs.Writing.{Adds, WritesDraft, tokens_of, field_tokens}
 use Rattle.sup_wire.specs.Faults.{Says, IsTextOf, IsTextAfter}
 use Rattle.sup_wire.specs.Drafts.{Draft}
 use Rattle.sup_wire.specs.Forms.{value_of}
-use Rattle.sup_wire.specs.declared.version.Version.TheVariants.{One}
+use Rattle.sup_wire.specs.declared.version.Version.TheVariants.{Two}
 use Rattle.sup_specs.specs.Values.{Bytes}
 
 pub adds_field : (a b c : Written) (name : List ℕ) (d : Data) → b.before ≡ a.before → b.tokens ≡ a.tokens ++ key name ∷ [] → Adds b c (tokens_of d) → Adds a c (field_tokens name d)
@@ -52,7 +52,7 @@ pub whole_number : (n : ℕ) → n < 2 ^ 64 → unless_float (decimal n) ≡ dec
 whole_number n h = unless_float-number_of (decimal n) (unsigned n) (number_of-decimal n h)
 
 -- what was written behind a front is the compact text of the value, and is read as it
-pub text_after : {M : Type 0} (IsDraft : M → Draft → Type 0) (InRange : M → Type 0) (x : M) (old new : Written) (front all : Bytes) → old.before ≡ front → old.tokens ≡ [] → WritesDraft IsDraft InRange One old new x
+pub text_after : {M : Type 0} (IsDraft : M → Draft → Type 0) (InRange : M → Type 0) (x : M) (old new : Written) (front all : Bytes) → old.before ≡ front → old.tokens ≡ [] → WritesDraft IsDraft InRange old new x
     → all ≡ new.before ++ print new.tokens → tokens (print new.tokens) ≡ new.tokens → IsUtf8 (print new.tokens) → IsTextAfter IsDraft InRange front all x
 text_after IsDraft InRange x old new front all before none writes is again utf8 =
     let d = value_of writes.draft in
@@ -75,4 +75,4 @@ text_alone IsDraft InRange x front all none after =
     subst (λ t. IsTextOf IsDraft InRange t x) (sym (after.parts ∙ ap (λ f. f ++ after.text) none)) after.is
 
 pub says_text : {M : Type 0} (IsDraft : M → Draft → Type 0) (InRange : M → Type 0) (x : M) (text : Bytes) → IsTextOf IsDraft InRange text x → InRange x → Says IsDraft text x
-says_text IsDraft InRange x text is range = record { draft = is.draft; same = is.same; formed = is.formed range; json = is.json }
+says_text IsDraft InRange x text is range = record { version = Two; draft = is.draft; same = is.same; formed = is.formed range; json = is.json }

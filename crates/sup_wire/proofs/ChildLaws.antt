@@ -1,5 +1,5 @@
 -- What children and members are: what is read was written so, and what is written so is read.
-use Rattle.std.proofs.Common.{◌≡◌, inl, inr, true, cond, [], ◌∷◌, Option, Some, None, codes, refl, ap, subst, ◌∙◌, arith}
+use Rattle.std.proofs.Common.{◌≡◌, inl, inr, true, cond, [], ◌∷◌, Option, Some, None, codes, refl, sym, ap, subst, ◌∙◌, arith}
 use Rattle.std.specs.Prelude.{option_and_then, bytes_eq}
 use Rattle.std.proofs.lemmas.Option.{option_and_then_some, same_Some, cond_some}
 use Rattle.sup_specs.specs.Values.{Bytes}
@@ -11,13 +11,15 @@ use Rattle.sup_specs.specs.declared.child.Restart.{Restart}
 use Rattle.sup_specs.specs.declared.child.Restart.TheVariants.{Permanent, Transient, Temporary}
 use Rattle.sup_specs.specs.declared.child.Shutdown.{Shutdown}
 use Rattle.sup_specs.specs.declared.child.Shutdown.TheVariants.{Brutal, Millis, Infinity}
+use Rattle.sup_specs.specs.declared.child.Status.{Status}
+use Rattle.sup_specs.specs.declared.child.Status.TheVariants.{Open, Draining}
 use Rattle.sup_specs.specs.declared.child.ChildSpec.{ChildSpec}
 use Rattle.sup_specs.specs.declared.child.MemberInfo.{MemberInfo}
 use Rattle.sup_wire.specs.declared.version.Version.{Version}
-use Rattle.sup_wire.specs.declared.version.Version.TheVariants.{One}
-use Rattle.sup_wire.specs.Forms.{restart_value, shutdown_value, IsShutdown, spec_value, IsSpec, info_value}
+use Rattle.sup_wire.specs.declared.version.Version.TheVariants.{One, Two}
+use Rattle.sup_wire.specs.Forms.{restart_value, shutdown_value, IsShutdown, spec_value, IsSpec, status_value, info_value, IsTold}
 use Rattle.sup_wire.specs.FieldReads.{has_just, within_at, text_in}
-use Rattle.sup_wire.specs.RowReads.{restart_at, shutdown_word, shutdown_millis, shutdown_from, shutdown_at, spec_fields, restart_in, shutdown_in, spec_in, spec_at, info_at}
+use Rattle.sup_wire.specs.RowReads.{restart_at, shutdown_word, shutdown_millis, shutdown_from, shutdown_at, spec_fields, restart_in, shutdown_in, spec_in, spec_at, status_at, status_in, info_in, info_at}
 use Rattle.sup_wire.proofs.FieldLaws.{as_str-string, within_takes, within_again, just, text_in_takes, text_in_again, chosen, when, same}
 
 pub restart_takes : (d : Data) (r : Restart) → restart_at d ≡ Some r → d ≡ restart_value r
@@ -112,7 +114,47 @@ spec_again x is =
     let d = spec_value x in
     rw (text_in_again (codes "arg") 0 1024 d x.arg refl is.arg, text_in_again (codes "kind") 1 128 d x.kind refl is.kind, restart_again x.restart, shutdown_again x.shutdown is.shutdown)
 
-pub info_takes : (v : Version) (d : Data) (x : MemberInfo) → info_at v d ≡ Some x → (d ≡ info_value v x) × IsText Visible 0 1024 x.label
+pub status_takes : (d : Data) (t : Status) → status_at d ≡ Some t → d ≡ status_value t
+unfolding status_at
+status_takes d t e =
+    option_and_then_some _ (as_str d) t e (λ text is rest. as_str-string d text is ∙ word text t rest)
+  where
+    second : (text : Bytes) (t : Status) → cond (bytes_eq text (codes "draining")) (Some Draining) None ≡ Some t → string text ≡ status_value t
+    second text t h = let p = cond_some (bytes_eq text (codes "draining")) Draining t h in ap string (same text (codes "draining") p.0) ∙ ap status_value p.1
+
+    word : (text : Bytes) (t : Status) → cond (bytes_eq text (codes "open")) (Some Open) (cond (bytes_eq text (codes "draining")) (Some Draining) None) ≡ Some t → string text ≡ status_value t
+    word text t h = elim (chosen (bytes_eq text (codes "open")) (Some Open) _ (Some t) h) [
+      | inl p ↦ ap string (same text (codes "open") p.0) ∙ ap status_value (same_Some Open t p.1)
+      | inr p ↦ second text t p.1
+    ]
+
+pub status_again : (t : Status) → status_at (status_value t) ≡ Some t
+unfolding status_at
+status_again Open = refl
+status_again Draining = refl
+
+-- what is said of a member in a version stands for this
+abbrev SaysInfo : Version → Data → MemberInfo → Type 0
+SaysInfo v d x = (d ≡ info_value v x) × IsText Visible 0 1024 x.label × IsTold v x.status
+
+info_fields_take : (l t : Data) (x : MemberInfo) → (let d = object (member (codes "label") l (member (codes "status") t no_members)) in info_in d ≡ Some x → SaysInfo Two d x)
+unfolding info_in status_in
+info_fields_take l t x e =
+    let d = object (member (codes "label") l (member (codes "status") t no_members)) in
+    option_and_then_some _ (text_in (codes "label") 0 1024 d) x e (λ label label_is rest.
+    option_and_then_some _ (status_at t) x rest (λ status status_is last.
+    let p = text_in_takes (codes "label") 0 1024 d l label refl label_is in
+    let q = status_takes t status status_is in
+    let y : MemberInfo = record { label = label; status = status } in
+    let written : d ≡ info_value Two y = rw (p.0, q) in
+    let made : y ≡ x = same_Some y x last in
+    (written ∙ ap (info_value Two) made, subst (λ (z : MemberInfo). IsText Visible 0 1024 z.label) made p.1, tt)))
+
+info_just : (d : Data) (x : MemberInfo) → info_at Two d ≡ Some x → (has_just (codes "label" ∷ codes "status" ∷ []) d ≡ true) × (info_in d ≡ Some x)
+unfolding info_at
+info_just d x e = when (has_just (codes "label" ∷ codes "status" ∷ []) d) (info_in d) x e
+
+pub info_takes : (v : Version) (d : Data) (x : MemberInfo) → info_at v d ≡ Some x → SaysInfo v d x
 unfolding info_at
 info_takes One d x e =
     let j = when (has_just (codes "label" ∷ []) d) _ x e in
@@ -120,10 +162,19 @@ info_takes One d x e =
     option_and_then_some _ (text_in (codes "label") 0 1024 d) x j.1 (λ label is last.
     let there : get (codes "label") d ≡ Some f.0 = ap (λ z. get (codes "label") z) f.1 in
     let p = text_in_takes (codes "label") 0 1024 d f.0 label there is in
-    let y : MemberInfo = record { label = label } in
+    let y : MemberInfo = record { label = label; status = Open } in
     let made : y ≡ x = same_Some y x last in
-    (f.1 ∙ ap (λ z. object (member (codes "label") z no_members)) p.0 ∙ ap (info_value One) made, subst (λ (z : MemberInfo). IsText Visible 0 1024 z.label) made p.1))
+    (f.1 ∙ ap (λ z. object (member (codes "label") z no_members)) p.0 ∙ ap (info_value One) made, subst (λ (z : MemberInfo). IsText Visible 0 1024 z.label) made p.1, ap (λ (z : MemberInfo). z.status) (sym made)))
+info_takes Two d x e =
+    let j = info_just d x e in
+    let f = just (codes "label" ∷ codes "status" ∷ []) d j.0 in
+    let is = f.1.1 in
+    let r = info_fields_take f.0 f.1.0 x (subst (λ z. info_in z ≡ Some x) is j.1) in
+    (is ∙ r.0, r.1)
 
-pub info_again : (v : Version) (x : MemberInfo) → IsText Visible 0 1024 x.label → info_at v (info_value v x) ≡ Some x
-unfolding info_at has_just
-info_again One x is = rw (text_in_again (codes "label") 0 1024 (info_value One x) x.label refl is)
+pub info_again : (v : Version) (x : MemberInfo) → IsText Visible 0 1024 x.label → IsTold v x.status → info_at v (info_value v x) ≡ Some x
+unfolding info_at has_just info_in status_in
+info_again One x is told =
+    let at : Status → MemberInfo = λ s. record { label = x.label; status = s } in
+    rw (text_in_again (codes "label") 0 1024 (info_value One x) x.label refl is) (ap (λ s. Some (at s)) (sym told))
+info_again Two x is told = rw (text_in_again (codes "label") 0 1024 (info_value Two x) x.label refl is, status_again x.status)

@@ -17,7 +17,7 @@ use Rattle.sup_wire.proofs.PartLaws.{parts_takes, parts_again}
 
 -- a value is one of this draft, whose fields are what they may be
 abbrev pub IsValue : Version → (Draft → Type 0) → Data → Draft → Type 0
-IsValue v Kind d x = (d ≡ value_in v x) × IsFormed x × Kind x
+IsValue v Kind d x = (d ≡ value_in v x) × IsFormed v x × Kind x
 
 ack_takes : (v : Version) (d : Data) (x : Draft) → version_at d ≡ Some (version_number v) → kind_at d ≡ Some (codes "ack") → ack_at d ≡ Some x → IsValue v SaysMessage d x
 unfolding ack_at ack_fields
@@ -38,7 +38,7 @@ ack_takes v d x version kind e =
     let w = version_is d f.1.1.1.1.0 (version_number v) v_there version in
     let made : ack ends.0 ends.1 n ≡ x = same_Some _ x last in
     let whole : d ≡ value_in v (ack ends.0 ends.1 n) = is ∙ rw (p.0, k, c.0, p.1, w) in
-    (whole ∙ ap (value_in v) made, subst IsFormed made (p.2, record { least = c.1; most = c.2 }), subst SaysMessage made tt)))
+    (whole ∙ ap (value_in v) made, subst (IsFormed v) made (p.2, record { least = c.1; most = c.2 }), subst SaysMessage made tt)))
 
 push_takes : (v : Version) (d : Data) (x : Draft) → version_at d ≡ Some (version_number v) → kind_at d ≡ Some (codes "push") → push_at v d ≡ Some x → IsValue v SaysMessage d x
 unfolding push_at push_fields
@@ -60,7 +60,7 @@ push_takes v d x version kind e =
     let w = version_is d f.1.1.1.1.1.0 (version_number v) v_there version in
     let made : push ends.0 ends.1 t ≡ x = same_Some _ x last in
     let whole : d ≡ value_in v (push ends.0 ends.1 t) = is ∙ rw (q.0, p.0, k, q.1, p.1, w) in
-    (whole ∙ ap (value_in v) made, subst IsFormed made (p.2, q.2), subst SaysMessage made tt)))
+    (whole ∙ ap (value_in v) made, subst (IsFormed v) made (p.2, q.2), subst SaysMessage made tt)))
 
 delta_takes : (v : Version) (d : Data) (x : Draft) → version_at d ≡ Some (version_number v) → kind_at d ≡ Some (codes "delta") → delta_at v d ≡ Some x → IsValue v SaysMessage d x
 unfolding delta_at delta_fields
@@ -85,7 +85,7 @@ delta_takes v d x version kind e =
     let w = version_is d f.1.1.1.1.1.1.0 (version_number v) v_there version in
     let made : delta ends.0 ends.1 n t ≡ x = same_Some _ x last in
     let whole : d ≡ value_in v (delta ends.0 ends.1 n t) = is ∙ rw (q.0, p.0, k, c.0, q.1, p.1, w) in
-    (whole ∙ ap (value_in v) made, subst IsFormed made (p.2, record { least = c.1; most = c.2 }, q.2), subst SaysMessage made tt))))
+    (whole ∙ ap (value_in v) made, subst (IsFormed v) made (p.2, record { least = c.1; most = c.2 }, q.2), subst SaysMessage made tt))))
 
 image_takes : (v : Version) (d : Data) (x : Draft) → version_at d ≡ Some (version_number v) → kind_at d ≡ Some (codes "image") → image_at v d ≡ Some x → IsValue v SaysImage d x
 unfolding image_at image_fields opening_at
@@ -114,7 +114,7 @@ image_takes v d x version kind e =
     let opening : (node, boot, count) ≡ o = same_Some (node, boot, count) o opened in
     let made : image node boot count t ≡ x = ap (λ (z : Bytes × ℕ × ℕ). image z.0 z.1 z.2 t) opening ∙ same_Some _ x last in
     let whole : d ≡ value_in v (image node boot count t) = is ∙ rw (b.0, c.0, q.0, k, n.0, q.1, w) in
-    (whole ∙ ap (value_in v) made, subst IsFormed made (n.1, record { least = b.1; most = b.2 }, c.2, q.2), subst SaysImage made tt))))))
+    (whole ∙ ap (value_in v) made, subst (IsFormed v) made (n.1, record { least = b.1; most = b.2 }, c.2, q.2), subst SaysImage made tt))))))
 
 pub message_takes : (v : Version) (d : Data) (x : Draft) → version_at d ≡ Some (version_number v) → message_at v d ≡ Some x → IsValue v SaysMessage d x
 unfolding message_at message_from
@@ -133,7 +133,7 @@ stored_takes v d x version e = option_and_then_some _ (kind_at d) x e (λ kind i
     let r = when (bytes_eq kind (codes "image")) _ x rest in
     image_takes v d x version (is ∙ ap Some (same kind (codes "image") r.0)) r.1)
 
-pub message_again : (v : Version) (x : Draft) → SaysMessage x → IsFormed x → message_at v (value_in v x) ≡ Some x
+pub message_again : (v : Version) (x : Draft) → SaysMessage x → IsFormed v x → message_at v (value_in v x) ≡ Some x
 unfolding message_at message_from ack_at ack_fields push_at push_fields delta_at delta_fields has_just
 message_again v (ack from to n) kind is =
     let d = value_in v (ack from to n) in
@@ -150,7 +150,7 @@ name_in_again : (field : Bytes) (d : Data) (s : Bytes) → get field d ≡ Some 
 unfolding name_in
 name_in_again field d s there is = rw there (name_again s is)
 
-pub stored_again : (v : Version) (x : Draft) → SaysImage x → IsFormed x → stored_at v (value_in v x) ≡ Some x
+pub stored_again : (v : Version) (x : Draft) → SaysImage x → IsFormed v x → stored_at v (value_in v x) ≡ Some x
 unfolding stored_at image_from image_at image_fields has_just opening_at
 stored_again v (ack from to n) kind is = absurd kind
 stored_again v (push from to t) kind is = absurd kind

@@ -13,10 +13,9 @@ use Rattle.sup_tables.specs.declared.row.Entry.{Entry}
 use Rattle.sup_tables.specs.declared.row.Entry.TheVariants.{Member, Child, Name}
 use Rattle.sup_tables.specs.declared.row.Row.{Row}
 use Rattle.sup_tables.specs.States.{State}
-use Rattle.sup_wire.specs.declared.version.Version.{Version}
-use Rattle.sup_wire.specs.declared.version.Version.TheVariants.{One}
+use Rattle.sup_wire.specs.declared.version.Version.TheVariants.{Two}
 use Rattle.sup_wire.specs.Drafts.{Parts, ack, push, delta, image, IsCut, IsWhole}
-use Rattle.sup_wire.specs.Forms.{IsName, IsCount, IsDot, IsNote, IsShutdown, IsEntry, IsRow, IsWritten, AreWritten, AreParts, value_in}
+use Rattle.sup_wire.specs.Forms.{IsName, IsCount, IsDot, IsNote, IsShutdown, IsEntry, IsRow, IsWritten, AreWritten, AreParts, value_of}
 use Rattle.sup_wire.specs.Writing.{ReadsBack}
 use Rattle.sup_wire.proofs.Cuts.{cut_sound}
 use Rattle.sup_wire.proofs.ReadBack.{readable_back}
@@ -30,13 +29,13 @@ dots : (vector : List (Bytes × ℕ)) (ds : List Dot) → AllByRecursion (λ d. 
 dots vector [] names apart = tt
 dots vector (d ∷ ds) names apart = let far = apart.0.0 in (record { node = names.0; counter = record { least = omega (arith, far); most = apart.0.1 } }, dots vector ds names.1 apart.1)
 
-rows : (holds : Dot → Type 0) (rs : List Row) → ((d : Dot) → holds d → IsCounted d) → AllByRecursion IsWritten rs → AllByRecursion (λ r. holds r.dot) rs → AllByRecursion IsRow rs
+rows : (holds : Dot → Type 0) (rs : List Row) → ((d : Dot) → holds d → IsCounted d) → AllByRecursion IsWritten rs → AllByRecursion (λ r. holds r.dot) rs → AllByRecursion (IsRow Two) rs
 rows holds [] counted written there = tt
 rows holds (r ∷ rs) counted written there =
     let c = counted r.dot there.0 in
     ((written.0.0, record { node = written.0.1; counter = record { least = c.0; most = c.1 } }), rows holds rs counted written.1 there.1)
 
-pub parts_formed : (s : State) (p : Parts) → IsWhole s → IsCut s p → AreWritten p → AreParts p
+pub parts_formed : (s : State) (p : Parts) → IsWhole s → IsCut s p → AreWritten p → AreParts Two p
 parts_formed s p whole cut written =
     let sound = cut_sound s p whole cut in
     record {
@@ -63,36 +62,36 @@ shutdown_fits Brutal is = tt
 shutdown_fits (Millis n) is = omega (arith, is)
 shutdown_fits Infinity is = tt
 
-entry_fits : (e : Entry) → IsEntry e → EntryFits e
+entry_fits : (e : Entry) → IsEntry Two e → EntryFits e
 entry_fits (Member m info) is = tt
 entry_fits (Child id spec) is = shutdown_fits spec.shutdown is.1.shutdown
 entry_fits (Name name id) is = tt
 
-row_fits : (rs : List Row) → AllByRecursion IsRow rs → AllByRecursion RowFits rs
+row_fits : (rs : List Row) → AllByRecursion (IsRow Two) rs → AllByRecursion RowFits rs
 row_fits [] all = tt
 row_fits (r ∷ rs) all = ((let m = all.0.1.counter.most in omega (arith, m), entry_fits r.entry all.0.0), row_fits rs all.1)
 
-pub parts_fit : (s : State) (p : Parts) → IsCut s p → AreParts p → PartsFit p
+pub parts_fit : (s : State) (p : Parts) → IsCut s p → AreParts Two p → PartsFit p
 parts_fit s p cut are = record { by_name = cut.vector.by_name; vector = note_fits p.vector are.vector; cloud = dot_fits p.cloud are.cloud; rows = row_fits p.rows are.rows }
 
 -- ---- whole values
-pub ack_back : (v : Version) (from to : Bytes) (n : ℕ) → Fits n → ReadsBack (value_in v (ack from to n))
-ack_back One from to n fits = readable_back (value_in One (ack from to n)) (tt, (refl, (refl, (refl, (refl, tt)))), (tt, (refl, (refl, (refl, tt))), (fits, (refl, (refl, tt)), (tt, (refl, tt), (lit< tt, tt, tt))))) (lit≤ tt)
+pub ack_back : (from to : Bytes) (n : ℕ) → Fits n → ReadsBack (value_of (ack from to n))
+ack_back from to n fits = readable_back (value_of (ack from to n)) (tt, (refl, (refl, (refl, (refl, tt)))), (tt, (refl, (refl, (refl, tt))), (fits, (refl, (refl, tt)), (tt, (refl, tt), (lit< tt, tt, tt))))) (lit≤ tt)
 
-pub push_back : (v : Version) (from to : Bytes) (p : Parts) → PartsFit p → ReadsBack (value_in v (push from to p))
-push_back One from to p fit =
+pub push_back : (from to : Bytes) (p : Parts) → PartsFit p → ReadsBack (value_of (push from to p))
+push_back from to p fit =
     let c = context_low p in
-    let r = rows_low One p.rows in
-    readable_back (value_in One (push from to p)) (context_readable p fit, (refl, (refl, (refl, (refl, (refl, tt))))), (tt, (refl, (refl, (refl, (refl, tt)))), (tt, (refl, (refl, (refl, tt))), (rows_are_readable One p.rows fit.rows, (refl, (refl, tt)), (tt, (refl, tt), (lit< tt, tt, tt)))))) (omega (arith, c, r))
+    let r = rows_low p.rows in
+    readable_back (value_of (push from to p)) (context_readable p fit, (refl, (refl, (refl, (refl, (refl, tt))))), (tt, (refl, (refl, (refl, (refl, tt)))), (tt, (refl, (refl, (refl, tt))), (rows_are_readable p.rows fit.rows, (refl, (refl, tt)), (tt, (refl, tt), (lit< tt, tt, tt)))))) (omega (arith, c, r))
 
-pub delta_back : (v : Version) (from to : Bytes) (n : ℕ) (p : Parts) → Fits n → PartsFit p → ReadsBack (value_in v (delta from to n p))
-delta_back One from to n p fits fit =
+pub delta_back : (from to : Bytes) (n : ℕ) (p : Parts) → Fits n → PartsFit p → ReadsBack (value_of (delta from to n p))
+delta_back from to n p fits fit =
     let c = context_low p in
-    let r = rows_low One p.rows in
-    readable_back (value_in One (delta from to n p)) (context_readable p fit, (refl, (refl, (refl, (refl, (refl, (refl, tt)))))), (tt, (refl, (refl, (refl, (refl, (refl, tt))))), (tt, (refl, (refl, (refl, (refl, tt)))), (fits, (refl, (refl, (refl, tt))), (rows_are_readable One p.rows fit.rows, (refl, (refl, tt)), (tt, (refl, tt), (lit< tt, tt, tt))))))) (omega (arith, c, r))
+    let r = rows_low p.rows in
+    readable_back (value_of (delta from to n p)) (context_readable p fit, (refl, (refl, (refl, (refl, (refl, (refl, tt)))))), (tt, (refl, (refl, (refl, (refl, (refl, tt))))), (tt, (refl, (refl, (refl, (refl, tt)))), (fits, (refl, (refl, (refl, tt))), (rows_are_readable p.rows fit.rows, (refl, (refl, tt)), (tt, (refl, tt), (lit< tt, tt, tt))))))) (omega (arith, c, r))
 
-pub image_back : (v : Version) (node : Bytes) (boot count : ℕ) (p : Parts) → Fits boot → Fits count → PartsFit p → ReadsBack (value_in v (image node boot count p))
-image_back One node boot count p fb fc fit =
+pub image_back : (node : Bytes) (boot count : ℕ) (p : Parts) → Fits boot → Fits count → PartsFit p → ReadsBack (value_of (image node boot count p))
+image_back node boot count p fb fc fit =
     let c = context_low p in
-    let r = rows_low One p.rows in
-    readable_back (value_in One (image node boot count p)) (fb, (refl, (refl, (refl, (refl, (refl, (refl, tt)))))), (fc, (refl, (refl, (refl, (refl, (refl, tt))))), (context_readable p fit, (refl, (refl, (refl, (refl, tt)))), (tt, (refl, (refl, (refl, tt))), (tt, (refl, (refl, tt)), (rows_are_readable One p.rows fit.rows, (refl, tt), (lit< tt, tt, tt))))))) (omega (arith, c, r))
+    let r = rows_low p.rows in
+    readable_back (value_of (image node boot count p)) (fb, (refl, (refl, (refl, (refl, (refl, (refl, tt)))))), (fc, (refl, (refl, (refl, (refl, (refl, tt))))), (context_readable p fit, (refl, (refl, (refl, (refl, tt)))), (tt, (refl, (refl, (refl, tt))), (tt, (refl, (refl, tt)), (rows_are_readable p.rows fit.rows, (refl, tt), (lit< tt, tt, tt))))))) (omega (arith, c, r))

@@ -48,7 +48,7 @@ context_again : (t : Parts) → AllByRecursion IsNote t.vector → AllByRecursio
 unfolding context_at context_fields has_just cloud_in vector_in vector_at
 context_again t notes dots = rw (dots_again t.cloud dots, notes_again t.vector notes)
 
-pub parts_takes : (v : Version) (d x y : Data) (t : Parts) → get (codes "ctx") d ≡ Some x → get (codes "rows") d ≡ Some y → parts_at v d ≡ Some t → (x ≡ context_value t) × (y ≡ rows_value v t.rows) × AreParts t
+pub parts_takes : (v : Version) (d x y : Data) (t : Parts) → get (codes "ctx") d ≡ Some x → get (codes "rows") d ≡ Some y → parts_at v d ≡ Some t → (x ≡ context_value t) × (y ≡ rows_value v t.rows) × AreParts v t
 unfolding parts_at context_in rows_in
 parts_takes v d x y t context_there rows_there e =
     option_and_then_some _ (option_and_then context_at (get (codes "ctx") d)) t e (λ c c_is rest.
@@ -56,8 +56,8 @@ parts_takes v d x y t context_there rows_there e =
     let p = context_takes x c (sym (ap (λ o. option_and_then context_at o) context_there) ∙ c_is) in
     let q = rows_takes v y rows (sym (ap (λ o. option_and_then (rows_at v) o) rows_there) ∙ rows_is) in
     let made : record { vector = c.0; cloud = c.1; rows = rows } ≡ t = same_Some _ t last in
-    (p.0 ∙ ap context_value made, q.0 ∙ ap (λ (z : Parts). rows_value v z.rows) made, subst AreParts made (record { vector = p.1.0; cloud = p.1.1; rows = q.1 }))))
+    (p.0 ∙ ap context_value made, q.0 ∙ ap (λ (z : Parts). rows_value v z.rows) made, subst (AreParts v) made (record { vector = p.1.0; cloud = p.1.1; rows = q.1 }))))
 
-pub parts_again : (v : Version) (d : Data) (t : Parts) → get (codes "ctx") d ≡ Some (context_value t) → get (codes "rows") d ≡ Some (rows_value v t.rows) → AreParts t → parts_at v d ≡ Some t
+pub parts_again : (v : Version) (d : Data) (t : Parts) → get (codes "ctx") d ≡ Some (context_value t) → get (codes "rows") d ≡ Some (rows_value v t.rows) → AreParts v t → parts_at v d ≡ Some t
 unfolding parts_at context_in rows_in
 parts_again v d t context_there rows_there are = rw (context_there, rows_there, context_again t are.vector are.cloud, rows_again v t.rows are.rows)

@@ -8,6 +8,8 @@ use Rattle.sup_specs.specs.declared.child.Restart.{Restart}
 use Rattle.sup_specs.specs.declared.child.Restart.TheVariants.{Permanent, Transient, Temporary}
 use Rattle.sup_specs.specs.declared.child.Shutdown.{Shutdown}
 use Rattle.sup_specs.specs.declared.child.Shutdown.TheVariants.{Brutal, Millis, Infinity}
+use Rattle.sup_specs.specs.declared.child.Status.{Status}
+use Rattle.sup_specs.specs.declared.child.Status.TheVariants.{Open, Draining}
 use Rattle.sup_specs.specs.declared.child.ChildSpec.{ChildSpec}
 use Rattle.sup_causal.specs.declared.dot.Dot.{Dot}
 use Rattle.sup_tables.specs.declared.row.Entry.{Entry}
@@ -15,10 +17,9 @@ use Rattle.sup_tables.specs.declared.row.Entry.TheVariants.{Member, Child, Name}
 use Rattle.sup_tables.specs.declared.row.Row.{Row}
 use Rattle.serde_json.specs.Data.{Data, depth, items_depth, members_depth}
 use Rattle.serde_json.specs.View.{items_of}
-use Rattle.sup_wire.specs.declared.version.Version.{Version}
-use Rattle.sup_wire.specs.declared.version.Version.TheVariants.{One}
+use Rattle.sup_wire.specs.declared.version.Version.TheVariants.{Two}
 use Rattle.sup_wire.specs.Drafts.{Parts}
-use Rattle.sup_wire.specs.Forms.{dot_value, vector_members, context_value, restart_value, shutdown_value, spec_value, entry_value, row_value, rows_value}
+use Rattle.sup_wire.specs.Forms.{dot_value, vector_members, context_value, restart_value, shutdown_value, spec_value, status_value, entry_value, row_value, rows_value}
 use Rattle.sup_wire.proofs.ReadBack.{AllAbove, IsReadable, AreReadable, AreMembers}
 
 -- numbers that fit 64 bits
@@ -97,19 +98,27 @@ shutdown_low Infinity = lit≤ tt
 spec_readable : (s : ChildSpec) → ShutdownFits s.shutdown → IsReadable (spec_value s)
 spec_readable s fits = (tt, (refl, (refl, (refl, tt))), (tt, (refl, (refl, tt)), (restart_readable s.restart, (refl, tt), (shutdown_readable s.shutdown fits, tt, tt))))
 
-row_readable : (v : Version) (e : Entry) (d : Dot) → Fits d.counter → EntryFits e → IsReadable (entry_value v e (dot_value d))
-row_readable One (Member m info) d fits also = (tt, (tt, ((tt, (fits, tt)), ((tt, tt, tt), tt))))
-row_readable One (Child id spec) d fits also = (tt, (tt, ((tt, (fits, tt)), (spec_readable spec also, tt))))
-row_readable One (Name name id) d fits also = (tt, (tt, ((tt, (fits, tt)), (tt, tt))))
+status_readable : (s : Status) → IsReadable (status_value s)
+status_readable Open = tt
+status_readable Draining = tt
 
-rows_readable : (v : Version) (rows : List Row) → AllByRecursion RowFits rows → AllByRecursion (λ r. IsReadable (row_value v r)) rows
-rows_readable v [] all = tt
-rows_readable v (r ∷ rows) all = (row_readable v r.entry r.dot all.0.0 all.0.1, rows_readable v rows all.1)
+status_low : (s : Status) → depth (status_value s) ≤ 0
+status_low Open = lit≤ tt
+status_low Draining = lit≤ tt
 
-row_low : (v : Version) (e : Entry) (d : Dot) → depth (entry_value v e (dot_value d)) ≤ 2
-row_low One (Member m info) d = lit≤ tt
-row_low One (Child id spec) d = let r = restart_low spec.restart in let s = shutdown_low spec.shutdown in omega arith
-row_low One (Name name id) d = lit≤ tt
+row_readable : (e : Entry) (d : Dot) → Fits d.counter → EntryFits e → IsReadable (entry_value Two e (dot_value d))
+row_readable (Member m info) d fits also = (tt, (tt, ((tt, (fits, tt)), ((tt, (refl, tt), (status_readable info.status, tt, tt)), tt))))
+row_readable (Child id spec) d fits also = (tt, (tt, ((tt, (fits, tt)), (spec_readable spec also, tt))))
+row_readable (Name name id) d fits also = (tt, (tt, ((tt, (fits, tt)), (tt, tt))))
+
+rows_readable : (rows : List Row) → AllByRecursion RowFits rows → AllByRecursion (λ r. IsReadable (row_value Two r)) rows
+rows_readable [] all = tt
+rows_readable (r ∷ rows) all = (row_readable r.entry r.dot all.0.0 all.0.1, rows_readable rows all.1)
+
+row_low : (e : Entry) (d : Dot) → depth (entry_value Two e (dot_value d)) ≤ 2
+row_low (Member m info) d = let s = status_low info.status in omega arith
+row_low (Child id spec) d = let r = restart_low spec.restart in let s = shutdown_low spec.shutdown in omega arith
+row_low (Name name id) d = lit≤ tt
 
 pub context_readable : (p : Parts) → PartsFit p → IsReadable (context_value p)
 context_readable p fit = (each_readable dot_value p.cloud (dots_readable p.cloud fit.cloud), (refl, tt), (vector_readable p.vector fit.by_name fit.vector, tt, tt))
@@ -120,8 +129,8 @@ context_low p =
     let n = vector_low p.vector in
     omega (arith, c, n)
 
-pub rows_low : (v : Version) (rows : List Row) → depth (rows_value v rows) ≤ 3
-rows_low v rows = let r = each_low (row_value v) 2 rows (λ r. row_low v r.entry r.dot) in omega (arith, r)
+pub rows_low : (rows : List Row) → depth (rows_value Two rows) ≤ 3
+rows_low rows = let r = each_low (row_value Two) 2 rows (λ r. row_low r.entry r.dot) in omega (arith, r)
 
-pub rows_are_readable : (v : Version) (rows : List Row) → AllByRecursion RowFits rows → IsReadable (rows_value v rows)
-rows_are_readable v rows all = each_readable (row_value v) rows (rows_readable v rows all)
+pub rows_are_readable : (rows : List Row) → AllByRecursion RowFits rows → IsReadable (rows_value Two rows)
+rows_are_readable rows all = each_readable (row_value Two) rows (rows_readable rows all)

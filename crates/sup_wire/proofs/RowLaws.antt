@@ -32,7 +32,7 @@ four_takes d p e = option_and_then_some four_in (as_array d) p e (λ ds is rest.
 
 -- an entry stands for its table, key and value
 abbrev Stands : Version → Bytes → Data → Data → Entry → Type 0
-Stands v table key value x = ((dot : Data) → array (item (string table) (item key (item dot (item value no_items)))) ≡ entry_value v x dot) × IsEntry x
+Stands v table key value x = ((dot : Data) → array (item (string table) (item key (item dot (item value no_items)))) ≡ entry_value v x dot) × IsEntry v x
 
 member_takes : (v : Version) (key value : Data) (x : Entry) → member_at v key value ≡ Some x → Stands v (codes "member") key value x
 unfolding member_at
@@ -41,7 +41,7 @@ member_takes v key value x e =
     option_and_then_some _ (info_at v value) x rest (λ info info_is last.
     let p = name_takes key node node_is in
     let q = info_takes v value info info_is in
-    subst (λ (z : Entry). Stands v (codes "member") key value z) (same_Some (Member node info) x last) ((λ dot. rw (p.0, q.0)), (p.1, q.1))))
+    subst (λ (z : Entry). Stands v (codes "member") key value z) (same_Some (Member node info) x last) ((λ dot. rw (p.0, q.0)), (p.1, q.1, q.2))))
 
 child_takes : (v : Version) (key value : Data) (x : Entry) → child_at key value ≡ Some x → Stands v (codes "child") key value x
 unfolding child_at
@@ -71,7 +71,7 @@ entry_takes v table key value x e = elim (chosen (bytes_eq table (codes "member"
   ]
 ]
 
-pub row_takes : (v : Version) (d : Data) (x : Row) → row_at v d ≡ Some x → (d ≡ row_value v x) × IsRow x
+pub row_takes : (v : Version) (d : Data) (x : Row) → row_at v d ≡ Some x → (d ≡ row_value v x) × IsRow v x
 unfolding row_at
 row_takes v d x e =
     option_and_then_some _ (four_at d) x e (λ p p_is rest.
@@ -84,26 +84,26 @@ row_takes v d x e =
     let y : Row = record { entry = entry; dot = dot } in
     let made : y ≡ x = same_Some y x last in
     let whole : d ≡ row_value v y = four_takes d p p_is ∙ ap₂ (λ u v. array (item u (item p.key (item v (item p.value no_items))))) a b.0 ∙ c.0 (dot_value dot) in
-    (whole ∙ ap (row_value v) made, subst IsRow made (c.1, b.1))))))
+    (whole ∙ ap (row_value v) made, subst (IsRow v) made (c.1, b.1))))))
 
-entry_again : (v : Version) (x : Entry) (dot : Data) → IsEntry x → (p : Four) × (four_at (entry_value v x dot) ≡ Some p) × (p.dot ≡ dot) × ((table : Bytes) × (as_str p.table ≡ Some table) × (entry_at v table p.key p.value ≡ Some x))
+entry_again : (v : Version) (x : Entry) (dot : Data) → IsEntry v x → (p : Four) × (four_at (entry_value v x dot) ≡ Some p) × (p.dot ≡ dot) × ((table : Bytes) × (as_str p.table ≡ Some table) × (entry_at v table p.key p.value ≡ Some x))
 unfolding four_at entry_at member_at child_at registered_at
-entry_again v (Member m info) dot is = (record { table = string (codes "member"); key = string m; dot = dot; value = info_value v info }, refl, refl, (codes "member", refl, rw (name_again m is.0, info_again v info is.1)))
+entry_again v (Member m info) dot is = (record { table = string (codes "member"); key = string m; dot = dot; value = info_value v info }, refl, refl, (codes "member", refl, rw (name_again m is.0, info_again v info is.1 is.2)))
 entry_again v (Child id spec) dot is = (record { table = string (codes "child"); key = string id; dot = dot; value = spec_value spec }, refl, refl, (codes "child", refl, rw (text_again 1 128 id is.0, spec_again spec is.1)))
 entry_again v (Name name id) dot is = (record { table = string (codes "name"); key = string name; dot = dot; value = string id }, refl, refl, (codes "name", refl, rw (text_again 1 128 name is.0, text_again 1 128 id is.1)))
 
-pub row_again : (v : Version) (x : Row) → IsRow x → row_at v (row_value v x) ≡ Some x
+pub row_again : (v : Version) (x : Row) → IsRow v x → row_at v (row_value v x) ≡ Some x
 unfolding row_at
 row_again v x is =
     let e = entry_again v x.entry (dot_value x.dot) is.0 in
     rw (e.1, e.3.1, e.2, dot_again x.dot is.1, e.3.2)
 
-pub rows_takes : (v : Version) (d : Data) (xs : List Row) → rows_at v d ≡ Some xs → (d ≡ rows_value v xs) × AllByRecursion IsRow xs
+pub rows_takes : (v : Version) (d : Data) (xs : List Row) → rows_at v d ≡ Some xs → (d ≡ rows_value v xs) × AllByRecursion (IsRow v) xs
 unfolding rows_at
 rows_takes v d xs e = option_and_then_some _ (as_array d) xs e (λ ds is rest.
-    let p = each_takes (row_at v) (row_value v) IsRow (row_takes v) ds xs rest in
+    let p = each_takes (row_at v) (row_value v) (IsRow v) (row_takes v) ds xs rest in
     (as_array-array d ds is ∙ ap array p.0, p.1))
 
-pub rows_again : (v : Version) (xs : List Row) → AllByRecursion IsRow xs → rows_at v (rows_value v xs) ≡ Some xs
+pub rows_again : (v : Version) (xs : List Row) → AllByRecursion (IsRow v) xs → rows_at v (rows_value v xs) ≡ Some xs
 unfolding rows_at
-rows_again v xs all = each_again (row_at v) (row_value v) IsRow (row_again v) xs all
+rows_again v xs all = each_again (row_at v) (row_value v) (IsRow v) (row_again v) xs all

@@ -4,53 +4,52 @@ use Rattle.std.specs.Prelude.{OnOk}
 use Rattle.sup_specs.specs.Values.{Bytes}
 use Rattle.json.specs.Written.{Written}
 use Rattle.sup_tables.specs.States.{State}
-use Rattle.sup_wire.specs.declared.version.Version.{Version}
 use Rattle.sup_wire.specs.declared.message.Message.TheVariants.{Ack, Push, Delta}
 use Rattle.sup_wire.specs.Drafts.{Parts, ack, push, delta, image, IsCut, IsWhole, IsDraftOf, IsDraftOfImage}
 use Rattle.sup_wire.specs.Faults.{IsInRange, IsImageInRange}
-use Rattle.sup_wire.specs.Forms.{IsName, AreWritten, AreEnds, value_in}
+use Rattle.sup_wire.specs.Forms.{IsName, AreWritten, AreEnds, value_of}
 use Rattle.sup_wire.specs.Writing.{Adds, WritesDraft, tokens_of}
 use Rattle.sup_wire.proofs.Formed.{parts_formed, parts_fit, ack_back, push_back, delta_back, image_back}
 
 ends : (from to : Bytes) → IsName from → IsName to → from ≢ to → AreEnds from to
 ends from to a b other = record { sender = a; receiver = b; differ = other }
 
-pub writes_ack : (v : Version) (old new : Written) (from to : Bytes) (n : ℕ) → n < 2 ^ 64 → IsName from → IsName to → Adds old new (tokens_of (value_in v (ack from to n)))
-    → WritesDraft IsDraftOf IsInRange v old new (Ack from to n)
-writes_ack v old new from to n fits a b adds = record {
+pub writes_ack : (old new : Written) (from to : Bytes) (n : ℕ) → n < 2 ^ 64 → IsName from → IsName to → Adds old new (tokens_of (value_of (ack from to n)))
+    → WritesDraft IsDraftOf IsInRange old new (Ack from to n)
+writes_ack old new from to n fits a b adds = record {
   draft = ack from to n;
   same = refl;
   adds = adds;
-  back = ack_back v from to n fits;
+  back = ack_back from to n fits;
   formed = λ range. (ends from to a b range.0, range.1);
 }
 
-module _ (v : Version) (old new : Written) (s : State) (p : Parts) (whole : IsWhole s) (cut : IsCut s p) (written : AreWritten p) where
-  pub writes_push : (from to : Bytes) → IsName from → IsName to → Adds old new (tokens_of (value_in v (push from to p))) → WritesDraft IsDraftOf IsInRange v old new (Push from to s)
+module _ (old new : Written) (s : State) (p : Parts) (whole : IsWhole s) (cut : IsCut s p) (written : AreWritten p) where
+  pub writes_push : (from to : Bytes) → IsName from → IsName to → Adds old new (tokens_of (value_of (push from to p))) → WritesDraft IsDraftOf IsInRange old new (Push from to s)
   writes_push from to a b adds = record {
     draft = push from to p;
     same = (p, cut, refl);
     adds = adds;
-    back = push_back v from to p (parts_fit s p cut (parts_formed s p whole cut written));
+    back = push_back from to p (parts_fit s p cut (parts_formed s p whole cut written));
     formed = λ range. (ends from to a b range, parts_formed s p whole cut written);
   }
 
-  pub writes_delta : (from to : Bytes) (n : ℕ) → n < 2 ^ 64 → IsName from → IsName to → Adds old new (tokens_of (value_in v (delta from to n p))) → WritesDraft IsDraftOf IsInRange v old new (Delta from to n s)
+  pub writes_delta : (from to : Bytes) (n : ℕ) → n < 2 ^ 64 → IsName from → IsName to → Adds old new (tokens_of (value_of (delta from to n p))) → WritesDraft IsDraftOf IsInRange old new (Delta from to n s)
   writes_delta from to n fits a b adds = record {
     draft = delta from to n p;
     same = (p, cut, refl);
     adds = adds;
-    back = delta_back v from to n p fits (parts_fit s p cut (parts_formed s p whole cut written));
+    back = delta_back from to n p fits (parts_fit s p cut (parts_formed s p whole cut written));
     formed = λ range. (ends from to a b range.0, range.1, parts_formed s p whole cut written);
   }
 
-  pub writes_image : (node : Bytes) (boot count : ℕ) → boot < 2 ^ 64 → count < 2 ^ 64 → IsName node → Adds old new (tokens_of (value_in v (image node boot count p)))
-      → WritesDraft IsDraftOfImage IsImageInRange v old new (record { node = node; boot = boot; count = count; state = s })
+  pub writes_image : (node : Bytes) (boot count : ℕ) → boot < 2 ^ 64 → count < 2 ^ 64 → IsName node → Adds old new (tokens_of (value_of (image node boot count p)))
+      → WritesDraft IsDraftOfImage IsImageInRange old new (record { node = node; boot = boot; count = count; state = s })
   writes_image node boot count fb fc name adds = record {
     draft = image node boot count p;
     same = (p, cut, refl);
     adds = adds;
-    back = image_back v node boot count p fb fc (parts_fit s p cut (parts_formed s p whole cut written));
+    back = image_back node boot count p fb fc (parts_fit s p cut (parts_formed s p whole cut written));
     formed = λ range. (name, range.0, range.1, parts_formed s p whole cut written);
   }
 

@@ -14,6 +14,7 @@ use Rattle.sup_wire.specs.declared.fault.WireFault.TheVariants.{NotJson, NotMess
 use Rattle.sup_wire.specs.declared.version.Version.{Version}
 use Rattle.sup_wire.specs.declared.reading.parts.Parts.{Parts as ReadParts}
 use Rattle.sup_wire.specs.Faults.{IsJson}
+use Rattle.sup_wire.specs.Forms.{version_number}
 use Rattle.sup_wire.specs.FieldReads.{◌>>=◌, has_just, name_in, within_in, count_at, unfaulted, ends_at, kind_at}
 use Rattle.sup_wire.specs.RowReads.{each_in, dot_at, rows_at}
 use Rattle.sup_wire.specs.Drafts.{Parts, Draft, ack, push, delta, image, IsCut, IsWhole, IsSound, AreCanonical}
@@ -162,14 +163,14 @@ abbrev pub Seals : {M : Type 0} → (M → Draft → Type 0) → (M → Type 0) 
 Seals IsDraft Whole (Ok m) read = (d : Draft) × (read ≡ Some d) × IsDraft m d × Whole m
 Seals IsDraft Whole (Err e) read = Refuses e read
 
--- The same of a value, whose version is judged first.
-abbrev pub RefusesVersion : WireFault → Option ℕ → Option Draft → Type 0
+-- The same of a value, whose version is judged first, and which is read as that version has it.
+abbrev pub RefusesVersion : WireFault → Option ℕ → (Version → Option Draft) → Type 0
 RefusesVersion NotJson version read = ⊥
-RefusesVersion NotMessage version read = (version ≡ None) ⊎ ((version ≡ Some 1) × (read ≡ None))
-RefusesVersion BadVersion version read = (n : ℕ) × (version ≡ Some n) × (n ≢ 1)
-RefusesVersion NotCanonical version read = (version ≡ Some 1) × ((d : Draft) × (read ≡ Some d) × ¬ IsSound d)
+RefusesVersion NotMessage version read = (version ≡ None) ⊎ ((v : Version) × (version ≡ Some (version_number v)) × (read v ≡ None))
+RefusesVersion BadVersion version read = (n : ℕ) × (version ≡ Some n) × (n ≢ 1) × (n ≢ 2)
+RefusesVersion NotCanonical version read = (v : Version) × (version ≡ Some (version_number v)) × ((d : Draft) × (read v ≡ Some d) × ¬ IsSound d)
 RefusesVersion OutOfMemory version read = Unit {0}
 
-abbrev pub Decodes : {M : Type 0} → (M → Draft → Type 0) → (M → Type 0) → Result M WireFault → Option ℕ → Option Draft → Type 0
-Decodes IsDraft Whole (Ok m) version read = (version ≡ Some 1) × ((d : Draft) × (read ≡ Some d) × IsDraft m d × Whole m)
+abbrev pub Decodes : {M : Type 0} → (M → Draft → Type 0) → (M → Type 0) → Result M WireFault → Option ℕ → (Version → Option Draft) → Type 0
+Decodes IsDraft Whole (Ok m) version read = (v : Version) × (version ≡ Some (version_number v)) × ((d : Draft) × (read v ≡ Some d) × IsDraft m d × Whole m)
 Decodes IsDraft Whole (Err e) version read = RefusesVersion e version read

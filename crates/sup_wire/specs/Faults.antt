@@ -12,28 +12,32 @@ use Rattle.sup_wire.specs.declared.fault.WireFault.TheVariants.{NotJson, NotMess
 use Rattle.sup_wire.specs.declared.message.Message.{Message}
 use Rattle.sup_wire.specs.declared.message.Message.TheVariants.{Ack, Push, Delta}
 use Rattle.sup_wire.specs.declared.image.Image.{Image}
+use Rattle.sup_wire.specs.declared.version.Version.{Version}
+use Rattle.sup_wire.specs.declared.version.Version.TheVariants.{Two}
 use Rattle.sup_wire.specs.Drafts.{Draft, IsSound}
-use Rattle.sup_wire.specs.Forms.{value_of, IsFormed, IsCount}
+use Rattle.sup_wire.specs.Forms.{version_number, value_in, value_of, IsFormed, IsCount}
 
 -- the text is the JSON value
 pub record IsJson (text : Bytes) (d : Data) : Type 0 where
   pub utf8 : IsUtf8 text
   pub value : read text ≡ Some d
 
--- the text is the value of x, whose draft this is, and each field is what it may be
+-- the text is the value of x in a version, whose draft this is, and each field is what it may be there
 pub record Says {M : Type 0} (IsDraft : M → Draft → Type 0) (text : Bytes) (x : M) : Type 0 where
+  pub version : Version
   pub draft : Draft
   pub same : IsDraft x draft
-  pub formed : IsFormed draft
-  pub json : IsJson text (value_of draft)
+  pub formed : IsFormed version draft
+  pub json : IsJson text (value_in version draft)
 
--- the text is the compact one of the value of x, and is read as that value; where x is in its range, each field is what it may be
+-- the text is the compact one of the value of x in the version that is written, and is read as that value; where x is in its range, each field
+-- is what it may be
 pub record IsTextOf {M : Type 0} (IsDraft : M → Draft → Type 0) (InRange : M → Type 0) (text : Bytes) (x : M) : Type 0 where
   pub draft : Draft
   pub same : IsDraft x draft
   pub compact : text ≡ compact_text (value_of draft)
   pub json : IsJson text (value_of draft)
-  pub formed : InRange x → IsFormed draft
+  pub formed : InRange x → IsFormed Two draft
 
 -- the same behind a front
 pub record IsTextAfter {M : Type 0} (IsDraft : M → Draft → Type 0) (InRange : M → Type 0) (front all : Bytes) (x : M) : Type 0 where
@@ -45,16 +49,16 @@ pub record IsTextAfter {M : Type 0} (IsDraft : M → Draft → Type 0) (InRange 
 abbrev pub version_at : Data → Option ℕ
 version_at d = option_and_then (λ v. option_and_then as_u64 (as_number v)) (get (codes "v") d)
 
--- the value says no version, or version 1 and is of no message (or image) with all fields in their forms
+-- the value says no version, or one that is read and is of no message (or image) with all fields in that version's forms
 abbrev pub IsMisformed : (Draft → Type 0) → Data → Type 0
-IsMisformed Kind d = (version_at d ≡ None) ⊎ ((version_at d ≡ Some 1) × ((draft : Draft) → Kind draft → IsFormed draft → d ≢ value_of draft))
+IsMisformed Kind d = (version_at d ≡ None) ⊎ ((v : Version) × (version_at d ≡ Some (version_number v)) × ((draft : Draft) → Kind draft → IsFormed v draft → d ≢ value_in v draft))
 
 -- why a text is no message (or no image), first fault first; no memory may stand in place of any answer
 abbrev pub IsFault : (Draft → Type 0) → Bytes → WireFault → Type 0
 IsFault Kind text NotJson = (d : Data) → ¬ IsJson text d
 IsFault Kind text NotMessage = (d : Data) × IsJson text d × IsMisformed Kind d
-IsFault Kind text BadVersion = (d : Data) × IsJson text d × ((n : ℕ) × (version_at d ≡ Some n) × (n ≢ 1))
-IsFault Kind text NotCanonical = (draft : Draft) × IsJson text (value_of draft) × Kind draft × IsFormed draft × ¬ IsSound draft
+IsFault Kind text BadVersion = (d : Data) × IsJson text d × ((n : ℕ) × (version_at d ≡ Some n) × (n ≢ 1) × (n ≢ 2))
+IsFault Kind text NotCanonical = (v : Version) × (draft : Draft) × IsJson text (value_in v draft) × Kind draft × IsFormed v draft × ¬ IsSound draft
 IsFault Kind text OutOfMemory = Unit {0}
 
 -- the answer is this, or that memory was refused

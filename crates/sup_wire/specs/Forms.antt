@@ -1,5 +1,5 @@
 -- The JSON value of each part, message and image, version by version (this project), and what the fields may be.
-use Rattle.std.specs.Prelude.{ℕ, ◌≤◌, ◌≢◌, List, [], ◌∷◌, map, codes}
+use Rattle.std.specs.Prelude.{ℕ, ◌≡◌, ◌≤◌, ◌≢◌, List, [], ◌∷◌, map, codes}
 use Rattle.std.specs.List.{AllByRecursion}
 use Rattle.sup_specs.specs.Texts.{IsText}
 use Rattle.sup_specs.specs.Values.{Bytes}
@@ -9,6 +9,8 @@ use Rattle.sup_specs.specs.declared.child.Restart.{Restart}
 use Rattle.sup_specs.specs.declared.child.Restart.TheVariants.{Permanent, Transient, Temporary}
 use Rattle.sup_specs.specs.declared.child.Shutdown.{Shutdown}
 use Rattle.sup_specs.specs.declared.child.Shutdown.TheVariants.{Brutal, Millis, Infinity}
+use Rattle.sup_specs.specs.declared.child.Status.{Status}
+use Rattle.sup_specs.specs.declared.child.Status.TheVariants.{Open, Draining}
 use Rattle.sup_specs.specs.declared.child.ChildSpec.{ChildSpec}
 use Rattle.sup_specs.specs.declared.child.MemberInfo.{MemberInfo}
 use Rattle.sup_causal.specs.declared.dot.Dot.{Dot}
@@ -19,7 +21,7 @@ use Rattle.serde_json.specs.Data.{Data, number, unsigned, string, array, object,
 use Rattle.serde_json.specs.View.{items_of}
 use Rattle.sup_wire.specs.Drafts.{Parts, Draft, ack, push, delta, image}
 use Rattle.sup_wire.specs.declared.version.Version.{Version}
-use Rattle.sup_wire.specs.declared.version.Version.TheVariants.{One}
+use Rattle.sup_wire.specs.declared.version.Version.TheVariants.{One, Two}
 
 abbrev pub count_value : ℕ → Data
 count_value n = number (unsigned n)
@@ -48,8 +50,14 @@ shutdown_value Infinity = string (codes "infinity")
 abbrev pub spec_value : ChildSpec → Data
 spec_value s = object (member (codes "arg") (string s.arg) (member (codes "kind") (string s.kind) (member (codes "restart") (restart_value s.restart) (member (codes "shutdown") (shutdown_value s.shutdown) no_members))))
 
+abbrev pub status_value : Status → Data
+status_value Open = string (codes "open")
+status_value Draining = string (codes "draining")
+
+-- what is said of a member: in version 1 no status
 abbrev pub info_value : Version → MemberInfo → Data
 info_value One i = object (member (codes "label") (string i.label) no_members)
+info_value Two i = object (member (codes "label") (string i.label) (member (codes "status") (status_value i.status) no_members))
 
 -- a row: table, key, dot, value
 abbrev pub four : Bytes → Bytes → Data → Data → Data
@@ -68,6 +76,7 @@ rows_value v rows = array (items_of (map (row_value v) rows))
 
 abbrev pub version_number : Version → ℕ
 version_number One = 1
+version_number Two = 2
 
 abbrev pub version_value : Version → Data
 version_value v = count_value (version_number v)
@@ -85,7 +94,7 @@ value_in v (image node boot count p) =
 
 -- the value in the version that is written
 abbrev pub value_of : Draft → Data
-value_of = value_in One
+value_of = value_in Two
 
 -- ---- what the fields may be
 
@@ -114,27 +123,32 @@ pub record IsSpec (s : ChildSpec) : Type 0 where
   pub arg : IsText Visible 0 1024 s.arg
   pub shutdown : IsShutdown s.shutdown
 
-abbrev pub IsEntry : Entry → Type 0
-IsEntry (Member m info) = IsName m × IsText Visible 0 1024 info.label
-IsEntry (Child id spec) = IsText Visible 1 128 id × IsSpec spec
-IsEntry (Name name id) = IsText Visible 1 128 name × IsText Visible 1 128 id
+-- version 1 tells open members alone, else two states would have one text
+abbrev pub IsTold : Version → Status → Type 0
+IsTold One status = status ≡ Open
+IsTold Two status = Unit {0}
 
-abbrev pub IsRow : Row → Type 0
-IsRow r = IsEntry r.entry × IsDot r.dot
+abbrev pub IsEntry : Version → Entry → Type 0
+IsEntry v (Member m info) = IsName m × IsText Visible 0 1024 info.label × IsTold v info.status
+IsEntry v (Child id spec) = IsText Visible 1 128 id × IsSpec spec
+IsEntry v (Name name id) = IsText Visible 1 128 name × IsText Visible 1 128 id
 
--- the same of what tables keep, where the counters are known from the context
+abbrev pub IsRow : Version → Row → Type 0
+IsRow v r = IsEntry v r.entry × IsDot r.dot
+
+-- the same of what tables keep, where the counters are known from the context, in the version that is written
 abbrev pub IsWritten : Row → Type 0
-IsWritten r = IsEntry r.entry × IsName r.dot.node
+IsWritten r = IsEntry Two r.entry × IsName r.dot.node
 
 pub record AreWritten (p : Parts) : Type 0 where
   pub vector : AllByRecursion (λ e. IsName e.0) p.vector
   pub cloud : AllByRecursion (λ d. IsName d.node) p.cloud
   pub rows : AllByRecursion IsWritten p.rows
 
-pub record AreParts (p : Parts) : Type 0 where
+pub record AreParts (v : Version) (p : Parts) : Type 0 where
   pub vector : AllByRecursion IsNote p.vector
   pub cloud : AllByRecursion IsDot p.cloud
-  pub rows : AllByRecursion IsRow p.rows
+  pub rows : AllByRecursion (IsRow v) p.rows
 
 -- two names that differ
 pub record AreEnds (from to : Bytes) : Type 0 where
@@ -142,9 +156,9 @@ pub record AreEnds (from to : Bytes) : Type 0 where
   pub receiver : IsName to
   pub differ : from ≢ to
 
--- each field is what it may be
-abbrev pub IsFormed : Draft → Type 0
-IsFormed (ack from to n) = AreEnds from to × IsCount n
-IsFormed (push from to p) = AreEnds from to × AreParts p
-IsFormed (delta from to n p) = AreEnds from to × IsCount n × AreParts p
-IsFormed (image node boot count p) = IsName node × IsCount boot × (count ≤ MAX) × AreParts p
+-- each field is what it may be in a version
+abbrev pub IsFormed : Version → Draft → Type 0
+IsFormed v (ack from to n) = AreEnds from to × IsCount n
+IsFormed v (push from to p) = AreEnds from to × AreParts v p
+IsFormed v (delta from to n p) = AreEnds from to × IsCount n × AreParts v p
+IsFormed v (image node boot count p) = IsName node × IsCount boot × (count ≤ MAX) × AreParts v p

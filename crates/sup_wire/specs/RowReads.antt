@@ -5,6 +5,8 @@ use Rattle.sup_specs.specs.declared.child.Restart.{Restart}
 use Rattle.sup_specs.specs.declared.child.Restart.TheVariants.{Permanent, Transient, Temporary}
 use Rattle.sup_specs.specs.declared.child.Shutdown.{Shutdown}
 use Rattle.sup_specs.specs.declared.child.Shutdown.TheVariants.{Brutal, Millis, Infinity}
+use Rattle.sup_specs.specs.declared.child.Status.{Status}
+use Rattle.sup_specs.specs.declared.child.Status.TheVariants.{Open, Draining}
 use Rattle.sup_specs.specs.declared.child.ChildSpec.{ChildSpec}
 use Rattle.sup_specs.specs.declared.child.MemberInfo.{MemberInfo}
 use Rattle.sup_causal.specs.declared.dot.Dot.{Dot}
@@ -14,7 +16,7 @@ use Rattle.sup_tables.specs.declared.row.Row.{Row}
 use Rattle.serde_json.specs.Data.{Data, Items, no_items, item}
 use Rattle.serde_json.specs.Find.{get, as_str, as_array}
 use Rattle.sup_wire.specs.declared.version.Version.{Version}
-use Rattle.sup_wire.specs.declared.version.Version.TheVariants.{One}
+use Rattle.sup_wire.specs.declared.version.Version.TheVariants.{One, Two}
 use Rattle.sup_wire.specs.FieldReads.{◌>>=◌, has_just, name_at, text_at, within_at, count_at, text_in}
 
 -- the items of an array that has two, or four
@@ -102,11 +104,27 @@ spec_in d = do
 unfoldable pub spec_at : Data → Option ChildSpec
 spec_at d = if has_just spec_fields d then spec_in d else None
 
+unfoldable pub status_at : Data → Option Status
+status_at d = as_str d >>= λ text.
+    if bytes_eq text (codes "open") then Some Open else
+    if bytes_eq text (codes "draining") then Some Draining else None
+
+unfoldable pub status_in : Data → Option Status
+status_in d = get (codes "status") d >>= status_at
+
+-- what an object's fields say of a member
+unfoldable pub info_in : Data → Option MemberInfo
+info_in d = do
+  label ← text_in (codes "label") 0 1024 d
+  status ← status_in d
+  Some (record { label = label; status = status })
+
 -- what is said of a member, in a version
 unfoldable pub info_at : Version → Data → Option MemberInfo
 info_at One d = if has_just (codes "label" ∷ []) d then (do
   label ← text_in (codes "label") 0 1024 d
-  Some (record { label = label })) else None
+  Some (record { label = label; status = Open })) else None
+info_at Two d = if has_just (codes "label" ∷ codes "status" ∷ []) d then info_in d else None
 
 unfoldable pub member_at : Version → Data → Data → Option Entry
 member_at v key value = do

@@ -11,9 +11,9 @@ use Rattle.serde_json.specs.Written.{outline, blank}
 use Rattle.serde_json.specs.Read.{of_json, max_depth}
 use Rattle.sup_tables.specs.Lent.{rows_lent}
 use Rattle.sup_wire.specs.declared.writing.lending.LentParts.{LentParts}
-use Rattle.sup_wire.specs.declared.version.Version.{Version}
+use Rattle.sup_wire.specs.declared.version.Version.TheVariants.{Two}
 use Rattle.sup_wire.specs.Drafts.{Parts, Draft}
-use Rattle.sup_wire.specs.Forms.{value_in, IsFormed}
+use Rattle.sup_wire.specs.Forms.{value_of, IsFormed}
 
 -- an array, an item for each element
 abbrev pub array_of : {X : Type 0} → (X → Data) → List X → Data
@@ -44,9 +44,9 @@ pub record ReadsBack (d : Data) : Type 0 where
   pub shallow : depth d ≤ max_depth
 
 -- a draft of x is appended, and its value reads back; where x is in its range, each of its fields is what it may be
-pub record WritesDraft {M : Type 0} (IsDraft : M → Draft → Type 0) (InRange : M → Type 0) (v : Version) (old new : Written) (x : M) : Type 0 where
+pub record WritesDraft {M : Type 0} (IsDraft : M → Draft → Type 0) (InRange : M → Type 0) (old new : Written) (x : M) : Type 0 where
   pub draft : Draft
   pub same : IsDraft x draft
-  pub adds : Adds old new (tokens_of (value_in v draft))
-  pub back : ReadsBack (value_in v draft)
-  pub formed : InRange x → IsFormed draft
+  pub adds : Adds old new (tokens_of (value_of draft))
+  pub back : ReadsBack (value_of draft)
+  pub formed : InRange x → IsFormed Two draft

@@ -13,7 +13,6 @@ use crate::image::Image;
 use crate::message::Message;
 use crate::reading::images::image_of;
 use crate::reading::messages::message_of;
-use crate::version::Version;
 use crate::writing::images::write_image;
 use crate::writing::messages::write_message;
 use json::Writer;
@@ -34,8 +33,8 @@ fn json_of(alloc: Global, text: &[u8]) -> Result<Value, WireFault>
     }
 }
 
-/// Reads a message of version 1. Spaces and another order of keys are taken too, since the JSON value (RFC 8259, as
-/// `serde_json` reads it) is the same.
+/// Reads a message of version 1 or 2; in version 1 each member is open. Spaces and another order of keys are taken too,
+/// since the JSON value (RFC 8259, as `serde_json` reads it) is the same.
 ///
 /// # Errors
 ///
@@ -53,7 +52,7 @@ pub fn decode(alloc: Global, text: &[u8]) -> Result<Message, WireFault>
     message_of(alloc, &value)
 }
 
-/// Reads an image of version 1, as [`decode`] reads a message.
+/// Reads an image of version 1 or 2, as [`decode`] reads a message.
 ///
 /// # Errors
 ///
@@ -69,12 +68,12 @@ pub fn decode_image(alloc: Global, text: &[u8]) -> Result<Image, WireFault>
     image_of(alloc, &value)
 }
 
-/// The text of a message: compact, with keys in byte order. An `Err` where a growth was refused.
+/// The text of a message, of version 2: compact, with keys in byte order. An `Err` where a growth was refused.
 pub fn encode(alloc: Global, message: &Message) -> Result<Vec<u8>, AllocError>
     ensures text { IfOk result (λ text. IsTextOf IsDraftOf IsInRange text.items message.now) }
     // What is written is what `decode` reads.
     ensures says { IfOk result (λ text. IsInRange message.now → Says IsDraftOf text.items message.now) }
-    // There is no other text of the message.
+    // No other text is written of the message.
     ensures once { IfOk result (λ text. (other : Bytes) → IsTextOf IsDraftOf IsInRange other message.now → other ≡ text.items) }
     ensures whole { IfOk result (λ _. IsWholeMessage message.now) }
 {
@@ -89,16 +88,16 @@ pub fn encode_after(front: Vec<u8>, message: &Message) -> Result<Vec<u8>, AllocE
     ensures whole { IfOk result (λ _. IsWholeMessage message.now) }
 {
     let mut out = Writer::new(front);
-    write_message(&mut out, Version::One, message)?;
+    write_message(&mut out, message)?;
     Ok(out.into_inner())
 }
 
-/// The text of an image: compact, with keys in byte order. An `Err` where a growth was refused.
+/// The text of an image, of version 2: compact, with keys in byte order. An `Err` where a growth was refused.
 pub fn encode_image(alloc: Global, image: &Image) -> Result<Vec<u8>, AllocError>
     ensures text { IfOk result (λ text. IsTextOf IsDraftOfImage IsImageInRange text.items image.now) }
     // What is written is what `decode_image` reads.
     ensures says { IfOk result (λ text. IsImageInRange image.now → Says IsDraftOfImage text.items image.now) }
-    // There is no other text of the image.
+    // No other text is written of the image.
     ensures once { IfOk result (λ text. (other : Bytes) → IsTextOf IsDraftOfImage IsImageInRange other image.now → other ≡ text.items) }
     ensures whole { IfOk result (λ _. IsWholeImage image.now) }
 {
@@ -113,6 +112,6 @@ pub fn encode_image_after(front: Vec<u8>, image: &Image) -> Result<Vec<u8>, Allo
     ensures whole { IfOk result (λ _. IsWholeImage image.now) }
 {
     let mut out = Writer::new(front);
-    write_image(&mut out, Version::One, image)?;
+    write_image(&mut out, image)?;
     Ok(out.into_inner())
 }

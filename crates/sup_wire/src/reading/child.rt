@@ -2,7 +2,7 @@
 ghost use Rattle.std.specs.Prelude.{◌≡◌};
 ghost use Rattle.serde_json.specs.View.{view};
 ghost use Rattle.sup_wire.specs.FieldReads.{has_just, Gives};
-ghost use Rattle.sup_wire.specs.RowReads.{restart_at, shutdown_at, restart_in, shutdown_in, spec_in, spec_fields, spec_at, info_at};
+ghost use Rattle.sup_wire.specs.RowReads.{restart_at, shutdown_at, restart_in, shutdown_in, spec_in, spec_fields, spec_at, status_at, status_in, info_in, info_at};
 
 use crate::fault::WireFault;
 use crate::reading::fields::{has_just, within};
@@ -10,7 +10,7 @@ use crate::reading::texts::{kind_in, text_in};
 use crate::version::Version;
 use serde_json::Value;
 use std::alloc::Global;
-use sup_specs::{ChildSpec, MemberInfo, Restart, Shutdown};
+use sup_specs::{ChildSpec, MemberInfo, Restart, Shutdown, Status};
 
 // The restart type.
 #[tactic(auto, unfolding(crate::specs::RowReads::restart_at))]
@@ -93,7 +93,37 @@ pub(crate) fn spec_of(alloc: Global, value: &Value) -> Result<ChildSpec, WireFau
     spec_in(alloc, value)
 }
 
-// What is said of a member.
+// Whether children may be placed on a member.
+#[tactic(auto, unfolding(crate::specs::RowReads::status_at))]
+fn status_of(value: &Value) -> Option<Status>
+    ensures { result ≡ status_at (view value.now) }
+{
+    match value.as_str()? {
+        "open" => Some(Status::Open),
+        "draining" => Some(Status::Draining),
+        _ => None,
+    }
+}
+
+// The status in its field.
+#[tactic(auto, unfolding(crate::specs::RowReads::status_in))]
+fn status_in(value: &Value) -> Option<Status>
+    ensures { result ≡ status_in (view value.now) }
+{
+    status_of(value.get("status")?)
+}
+
+// What the fields of an object say of a member.
+#[tactic(auto, unfolding(crate::specs::RowReads::info_in))]
+fn info_in(alloc: Global, value: &Value) -> Result<MemberInfo, WireFault>
+    ensures { Gives result (info_in (view value.now)) }
+{
+    let label = text_in(alloc, value, "label")?;
+    let status = status_in(value).ok_or(WireFault::NotMessage)?;
+    Ok(MemberInfo { label, status })
+}
+
+// What is said of a member. Version 1 knows open ones alone.
 #[tactic(auto, unfolding(crate::specs::RowReads::info_at))]
 pub(crate) fn info_of(
     alloc: Global,
@@ -108,7 +138,16 @@ pub(crate) fn info_of(
                 return Err(WireFault::NotMessage);
             }
             let label = text_in(alloc, value, "label")?;
-            Ok(MemberInfo { label })
+            Ok(MemberInfo {
+                label,
+                status: Status::Open,
+            })
+        }
+        Version::Two => {
+            if !has_just(value, &["label", "status"]) {
+                return Err(WireFault::NotMessage);
+            }
+            info_in(alloc, value)
         }
     }
 }

@@ -5,7 +5,6 @@ ghost use Rattle.sup_wire.specs.Drafts.{image, IsDraftOfImage, IsWholeImage};
 ghost use Rattle.sup_wire.specs.Faults.{version_at};
 ghost use Rattle.sup_wire.specs.FieldReads.{has_just, GivesBy};
 ghost use Rattle.sup_wire.specs.DraftReads.{image_fields, opening_at, image_at, stored_at, parts_read, Seals, Decodes};
-ghost use Rattle.sup_wire.specs.declared.version.Version.TheVariants.{One};
 
 use crate::fault::WireFault;
 use crate::image::Image;
@@ -80,11 +79,13 @@ fn of_kind(alloc: Global, version: Version, value: &Value) -> Result<Image, Wire
 
 // An image.
 pub(crate) fn image_of(alloc: Global, value: &Value) -> Result<Image, WireFault>
-    ensures { Decodes IsDraftOfImage IsWholeImage result (version_at (view value.now)) (stored_at One (view value.now)) }
+    ensures { Decodes IsDraftOfImage IsWholeImage result (version_at (view value.now)) (λ v. stored_at v (view value.now)) }
 {
     match version_of(value) {
         None => Err(WireFault::NotMessage),
-        Some(1) => of_kind(alloc, Version::One, value),
-        Some(_) => Err(WireFault::BadVersion),
+        Some(number) => match Version::of(number) {
+            None => Err(WireFault::BadVersion),
+            Some(version) => of_kind(alloc, version, value),
+        },
     }
 }

@@ -5,7 +5,6 @@ ghost use Rattle.sup_wire.specs.Drafts.{push, delta, IsDraftOf, IsWholeMessage};
 ghost use Rattle.sup_wire.specs.Faults.{version_at};
 ghost use Rattle.sup_wire.specs.FieldReads.{has_just, GivesBy};
 ghost use Rattle.sup_wire.specs.DraftReads.{ack_fields, push_fields, delta_fields, ack_at, push_at, delta_at, message_at, parts_read, Seals, Decodes};
-ghost use Rattle.sup_wire.specs.declared.version.Version.TheVariants.{One};
 
 use crate::fault::WireFault;
 use crate::message::Message;
@@ -116,11 +115,13 @@ fn of_kind(alloc: Global, version: Version, value: &Value) -> Result<Message, Wi
 
 // A message.
 pub(crate) fn message_of(alloc: Global, value: &Value) -> Result<Message, WireFault>
-    ensures { Decodes IsDraftOf IsWholeMessage result (version_at (view value.now)) (message_at One (view value.now)) }
+    ensures { Decodes IsDraftOf IsWholeMessage result (version_at (view value.now)) (λ v. message_at v (view value.now)) }
 {
     match version_of(value) {
         None => Err(WireFault::NotMessage),
-        Some(1) => of_kind(alloc, Version::One, value),
-        Some(_) => Err(WireFault::BadVersion),
+        Some(number) => match Version::of(number) {
+            None => Err(WireFault::BadVersion),
+            Some(version) => of_kind(alloc, version, value),
+        },
     }
 }

@@ -3,13 +3,13 @@ ghost use Rattle.std.specs.Prelude.{◌≡◌, OnOk, codes};
 ghost use Rattle.serde_json.specs.Data.{string};
 ghost use Rattle.sup_specs.specs.Texts.{IsText};
 ghost use Rattle.sup_specs.specs.declared.texts.Alphabet.TheVariants.{Visible};
-ghost use Rattle.sup_wire.specs.Forms.{count_value, version_value, restart_value, shutdown_value, spec_value, info_value, IsShutdown, IsSpec};
+ghost use Rattle.sup_wire.specs.Forms.{count_value, version_value, restart_value, shutdown_value, spec_value, status_value, info_value, IsShutdown, IsSpec};
+ghost use Rattle.sup_wire.specs.declared.version.Version.TheVariants.{Two};
 ghost use Rattle.sup_wire.specs.Writing.{Adds, tokens_of, field_tokens};
 
-use crate::version::Version;
 use json::Writer;
 use std::alloc::AllocError;
-use sup_specs::{ChildSpec, MemberInfo, Restart, Shutdown};
+use sup_specs::{ChildSpec, MemberInfo, Restart, Shutdown, Status};
 
 // A field with a text.
 pub(crate) fn text_field(out: &mut Writer, name: &str, text: &str) -> Result<(), AllocError>
@@ -65,10 +65,10 @@ fn shutdown_field(out: &mut Writer, shutdown: Shutdown) -> Result<(), AllocError
 }
 
 // The field of the version.
-pub(crate) fn version_field(out: &mut Writer, version: Version) -> Result<(), AllocError>
-    ensures { OnOk result (Adds out.old out.new (field_tokens (codes "v") (version_value version))) }
+pub(crate) fn version_field(out: &mut Writer) -> Result<(), AllocError>
+    ensures { OnOk result (Adds out.old out.new (field_tokens (codes "v") (version_value Two))) }
 {
-    number_field(out, "v", version.number())
+    number_field(out, "v", 2)
 }
 
 // What a child is.
@@ -84,20 +84,29 @@ pub(crate) fn write_spec(out: &mut Writer, spec: &ChildSpec) -> Result<(), Alloc
     out.end_object()
 }
 
-// What is said of a member.
-pub(crate) fn write_info(
-    out: &mut Writer,
-    version: Version,
-    info: &MemberInfo,
-) -> Result<(), AllocError>
-    ensures formed { OnOk result (IsText Visible 0 1024 info.now.label) }
-    ensures adds { OnOk result (Adds out.old out.new (tokens_of (info_value version info.now))) }
+fn write_status(out: &mut Writer, status: Status) -> Result<(), AllocError>
+    ensures { OnOk result (Adds out.old out.new (tokens_of (status_value status))) }
 {
-    match version {
-        Version::One => {
-            out.begin_object()?;
-            text_field(out, "label", info.label.as_str())?;
-            out.end_object()
-        }
-    }
+    out.string(match status {
+        Status::Open => "open",
+        Status::Draining => "draining",
+    })
+}
+
+fn status_field(out: &mut Writer, status: Status) -> Result<(), AllocError>
+    ensures { OnOk result (Adds out.old out.new (field_tokens (codes "status") (status_value status))) }
+{
+    out.key("status")?;
+    write_status(out, status)
+}
+
+// What is said of a member.
+pub(crate) fn write_info(out: &mut Writer, info: &MemberInfo) -> Result<(), AllocError>
+    ensures formed { OnOk result (IsText Visible 0 1024 info.now.label) }
+    ensures adds { OnOk result (Adds out.old out.new (tokens_of (info_value Two info.now))) }
+{
+    out.begin_object()?;
+    text_field(out, "label", info.label.as_str())?;
+    status_field(out, info.status)?;
+    out.end_object()
 }

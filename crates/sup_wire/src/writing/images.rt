@@ -3,11 +3,10 @@ ghost use Rattle.std.specs.Prelude.{◌≡◌, ◌<◌, ◌^◌, OnOk, codes, �
 ghost use Rattle.serde_json.specs.Data.{string};
 ghost use Rattle.sup_wire.specs.Drafts.{image, IsDraftOfImage, IsWholeImage};
 ghost use Rattle.sup_wire.specs.Faults.{IsImageInRange};
-ghost use Rattle.sup_wire.specs.Forms.{count_value, value_in, IsName, AreWritten};
+ghost use Rattle.sup_wire.specs.Forms.{count_value, value_of, IsName, AreWritten};
 ghost use Rattle.sup_wire.specs.Writing.{Adds, WritesDraft, tokens_of, field_tokens, parts_lent};
 
 use crate::image::Image;
-use crate::version::Version;
 use crate::writing::context::write_context;
 use crate::writing::fields::{number_field, text_field, version_field};
 use crate::writing::lending::{LentParts, lent_parts};
@@ -35,7 +34,6 @@ fn node_fields(out: &mut Writer, node: &NodeName) -> Result<(), AllocError>
 
 fn write_parts(
     out: &mut Writer,
-    version: Version,
     node: &NodeName,
     boot: u64,
     count: u64,
@@ -45,7 +43,7 @@ fn write_parts(
     ensures count { count < 2 ^ 64 }
     ensures node { OnOk result (IsName node.now) }
     ensures written { OnOk result (AreWritten (parts_lent parts.now)) }
-    ensures adds { OnOk result (Adds out.old out.new (tokens_of (value_in version (image node.now boot count (parts_lent parts.now))))) }
+    ensures adds { OnOk result (Adds out.old out.new (tokens_of (value_of (image node.now boot count (parts_lent parts.now))))) }
 {
     out.begin_object()?;
     first_fields(out, boot, count)?;
@@ -53,20 +51,16 @@ fn write_parts(
     write_context(out, parts)?;
     node_fields(out, node)?;
     out.key("rows")?;
-    write_rows(out, version, &parts.rows)?;
-    version_field(out, version)?;
+    write_rows(out, &parts.rows)?;
+    version_field(out)?;
     out.end_object()
 }
 
 // An image.
-pub(crate) fn write_image(
-    out: &mut Writer,
-    version: Version,
-    image: &Image,
-) -> Result<(), AllocError>
-    ensures draft { OnOk result (WritesDraft IsDraftOfImage IsImageInRange version out.old out.new image.now) }
+pub(crate) fn write_image(out: &mut Writer, image: &Image) -> Result<(), AllocError>
+    ensures draft { OnOk result (WritesDraft IsDraftOfImage IsImageInRange out.old out.new image.now) }
     ensures whole { OnOk result (IsWholeImage image.now) }
 {
     let parts = lent_parts(&image.state)?;
-    write_parts(out, version, &image.node, image.boot, image.count, &parts)
+    write_parts(out, &image.node, image.boot, image.count, &parts)
 }

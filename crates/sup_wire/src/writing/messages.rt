@@ -4,11 +4,11 @@ ghost use Rattle.json.specs.Token.{end_object};
 ghost use Rattle.serde_json.specs.Data.{string};
 ghost use Rattle.sup_wire.specs.Drafts.{Draft, ack, push, delta, IsDraftOf, IsWholeMessage};
 ghost use Rattle.sup_wire.specs.Faults.{IsInRange};
-ghost use Rattle.sup_wire.specs.Forms.{version_value, value_in, IsName, AreWritten};
+ghost use Rattle.sup_wire.specs.Forms.{version_value, value_of, IsName, AreWritten};
 ghost use Rattle.sup_wire.specs.Writing.{Adds, WritesDraft, tokens_of, field_tokens, parts_lent};
+ghost use Rattle.sup_wire.specs.declared.version.Version.TheVariants.{Two};
 
 use crate::message::Message;
-use crate::version::Version;
 use crate::writing::context::write_context;
 use crate::writing::fields::{number_field, text_field, version_field};
 use crate::writing::lending::{LentParts, lent_parts};
@@ -27,38 +27,31 @@ fn sender_fields(out: &mut Writer, from: &NodeName, kind: &str) -> Result<(), Al
 }
 
 // The last fields, of the receiver and of the version.
-fn last_fields(out: &mut Writer, version: Version, to: &NodeName) -> Result<(), AllocError>
+fn last_fields(out: &mut Writer, to: &NodeName) -> Result<(), AllocError>
     ensures name { OnOk result (IsName to.now) }
-    ensures adds { OnOk result (Adds out.old out.new (field_tokens (codes "to") (string to.now) ++ field_tokens (codes "v") (version_value version) ++ end_object ∷ [])) }
+    ensures adds { OnOk result (Adds out.old out.new (field_tokens (codes "to") (string to.now) ++ field_tokens (codes "v") (version_value Two) ++ end_object ∷ [])) }
 {
     text_field(out, "to", to.as_str())?;
-    version_field(out, version)?;
+    version_field(out)?;
     out.end_object()
 }
 
 // An acknowledgement.
-fn write_ack(
-    out: &mut Writer,
-    version: Version,
-    from: &NodeName,
-    to: &NodeName,
-    n: u64,
-) -> Result<(), AllocError>
+fn write_ack(out: &mut Writer, from: &NodeName, to: &NodeName, n: u64) -> Result<(), AllocError>
     ensures fits { n < 2 ^ 64 }
     ensures from { OnOk result (IsName from.now) }
     ensures to { OnOk result (IsName to.now) }
-    ensures adds { OnOk result (Adds out.old out.new (tokens_of (value_in version (ack from.now to.now n)))) }
+    ensures adds { OnOk result (Adds out.old out.new (tokens_of (value_of (ack from.now to.now n)))) }
 {
     out.begin_object()?;
     sender_fields(out, from, "ack")?;
     number_field(out, "n", n)?;
-    last_fields(out, version, to)
+    last_fields(out, to)
 }
 
 // A push.
 fn write_push(
     out: &mut Writer,
-    version: Version,
     from: &NodeName,
     to: &NodeName,
     parts: &LentParts<'_>,
@@ -66,21 +59,20 @@ fn write_push(
     ensures from { OnOk result (IsName from.now) }
     ensures to { OnOk result (IsName to.now) }
     ensures written { OnOk result (AreWritten (parts_lent parts.now)) }
-    ensures adds { OnOk result (Adds out.old out.new (tokens_of (value_in version (push from.now to.now (parts_lent parts.now))))) }
+    ensures adds { OnOk result (Adds out.old out.new (tokens_of (value_of (push from.now to.now (parts_lent parts.now))))) }
 {
     out.begin_object()?;
     out.key("ctx")?;
     write_context(out, parts)?;
     sender_fields(out, from, "push")?;
     out.key("rows")?;
-    write_rows(out, version, &parts.rows)?;
-    last_fields(out, version, to)
+    write_rows(out, &parts.rows)?;
+    last_fields(out, to)
 }
 
 // A delta.
 fn write_delta(
     out: &mut Writer,
-    version: Version,
     from: &NodeName,
     to: &NodeName,
     n: u64,
@@ -90,7 +82,7 @@ fn write_delta(
     ensures from { OnOk result (IsName from.now) }
     ensures to { OnOk result (IsName to.now) }
     ensures written { OnOk result (AreWritten (parts_lent parts.now)) }
-    ensures adds { OnOk result (Adds out.old out.new (tokens_of (value_in version (delta from.now to.now n (parts_lent parts.now))))) }
+    ensures adds { OnOk result (Adds out.old out.new (tokens_of (value_of (delta from.now to.now n (parts_lent parts.now))))) }
 {
     out.begin_object()?;
     out.key("ctx")?;
@@ -98,28 +90,24 @@ fn write_delta(
     sender_fields(out, from, "delta")?;
     number_field(out, "n", n)?;
     out.key("rows")?;
-    write_rows(out, version, &parts.rows)?;
-    last_fields(out, version, to)
+    write_rows(out, &parts.rows)?;
+    last_fields(out, to)
 }
 
 // A message.
-pub(crate) fn write_message(
-    out: &mut Writer,
-    version: Version,
-    message: &Message,
-) -> Result<(), AllocError>
-    ensures draft { OnOk result (WritesDraft IsDraftOf IsInRange version out.old out.new message.now) }
+pub(crate) fn write_message(out: &mut Writer, message: &Message) -> Result<(), AllocError>
+    ensures draft { OnOk result (WritesDraft IsDraftOf IsInRange out.old out.new message.now) }
     ensures whole { OnOk result (IsWholeMessage message.now) }
 {
     match message {
-        Message::Ack { from, to, n } => write_ack(out, version, from, to, *n),
+        Message::Ack { from, to, n } => write_ack(out, from, to, *n),
         Message::Push { from, to, delta } => {
             let parts = lent_parts(delta)?;
-            write_push(out, version, from, to, &parts)
+            write_push(out, from, to, &parts)
         }
         Message::Delta { from, to, n, delta } => {
             let parts = lent_parts(delta)?;
-            write_delta(out, version, from, to, *n, &parts)
+            write_delta(out, from, to, *n, &parts)
         }
     }
 }

@@ -7,8 +7,8 @@ ghost use Rattle.sup_tables.specs.Rows.{row_of};
 ghost use Rattle.sup_tables.specs.Lent.{row_lent, rows_lent};
 ghost use Rattle.sup_wire.specs.Forms.{IsWritten, dot_value, spec_value, info_value, four, row_value, rows_value};
 ghost use Rattle.sup_wire.specs.Writing.{Adds, tokens_of};
+ghost use Rattle.sup_wire.specs.declared.version.Version.TheVariants.{Two};
 
-use crate::version::Version;
 use crate::writing::context::write_dot;
 use crate::writing::fields::{write_info, write_spec};
 use json::Writer;
@@ -20,19 +20,18 @@ use sup_tables::{LentEntry, LentRow};
 // A row of each table: its name, key, dot and value.
 fn write_member(
     out: &mut Writer,
-    version: Version,
     node: &NodeName,
     dot: &Dot,
     info: &MemberInfo,
 ) -> Result<(), AllocError>
     ensures formed { OnOk result (IsWritten (row_of dot.now (Entry.Member node.now info.now))) }
-    ensures adds { OnOk result (Adds out.old out.new (tokens_of (four (codes "member") node.now (dot_value dot.now) (info_value version info.now)))) }
+    ensures adds { OnOk result (Adds out.old out.new (tokens_of (four (codes "member") node.now (dot_value dot.now) (info_value Two info.now)))) }
 {
     out.begin_array()?;
     out.string("member")?;
     out.string(node.as_str())?;
     write_dot(out, dot)?;
-    write_info(out, version, info)?;
+    write_info(out, info)?;
     out.end_array()
 }
 
@@ -66,29 +65,25 @@ fn write_name(out: &mut Writer, name: &Name, dot: &Dot, id: &ChildId) -> Result<
 }
 
 // A row.
-fn write_row(out: &mut Writer, version: Version, row: &LentRow<'_>) -> Result<(), AllocError>
+fn write_row(out: &mut Writer, row: &LentRow<'_>) -> Result<(), AllocError>
     ensures formed { OnOk result (IsWritten (row_lent row.now)) }
-    ensures adds { OnOk result (Adds out.old out.new (tokens_of (row_value version (row_lent row.now)))) }
+    ensures adds { OnOk result (Adds out.old out.new (tokens_of (row_value Two (row_lent row.now)))) }
 {
     match row.entry {
-        LentEntry::Member(node, info) => write_member(out, version, node, row.dot, info),
+        LentEntry::Member(node, info) => write_member(out, node, row.dot, info),
         LentEntry::Child(id, spec) => write_child(out, id, row.dot, spec),
         LentEntry::Name(name, id) => write_name(out, name, row.dot, id),
     }
 }
 
 // The rows.
-pub(crate) fn write_rows(
-    out: &mut Writer,
-    version: Version,
-    rows: &[LentRow<'_>],
-) -> Result<(), AllocError>
+pub(crate) fn write_rows(out: &mut Writer, rows: &[LentRow<'_>]) -> Result<(), AllocError>
     ensures formed { OnOk result (AllByRecursion IsWritten (rows_lent rows.now)) }
-    ensures adds { OnOk result (Adds out.old out.new (tokens_of (rows_value version (rows_lent rows.now)))) }
+    ensures adds { OnOk result (Adds out.old out.new (tokens_of (rows_value Two (rows_lent rows.now)))) }
 {
     out.begin_array()?;
     for row in rows {
-        write_row(out, version, row)?;
+        write_row(out, row)?;
     }
     out.end_array()
 }
