@@ -5,8 +5,8 @@ ghost use Rattle.std.specs.Option.{option_copied};
 ghost use Rattle.std.specs.BTreeMap.{get, IsOrdered};
 ghost use Rattle.sup_causal.specs.Merge.{IsMergeAt, PutsMerge, last_at};
 
-mod peeked;
-pub(crate) mod walk;
+pub mod peeked;
+pub mod walk;
 
 use crate::merge::walk::KeyByKey;
 use std::alloc::{AllocError, Global};

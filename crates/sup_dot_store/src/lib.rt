@@ -10,7 +10,7 @@ pub mod dot_store;
 mod row_lists;
 mod row_runs;
 pub mod short_values;
-mod stores_under;
+pub mod stores_under;
 mod values_under;
 
 pub use both::Both;
@@ -19,3 +19,4 @@ pub use dot_fun::DotFun;
 pub use dot_map::DotMap;
 pub use dot_store::DotStore;
 pub use short_values::ShortValues;
+pub use stores_under::{StoresIn, StoresUnder};

@@ -10,7 +10,6 @@ mod joining;
 mod listing;
 pub mod place;
 pub mod states;
-mod stores_under;
 mod touched;
 
 pub use indexed_map::IndexedMap;

@@ -53,7 +53,7 @@ pub(crate) fn permanent(rt: &(impl Abort + AllocGlobal), name: &str, counter: u6
     child(rt, name, counter, Restart::Permanent)
 }
 
-#[tactic(auto, using(crate::proofs::Rising::one_rises))]
+#[tactic(auto, using(sup_causal::proofs::Rising::one_rises))]
 pub(crate) fn keep_one(
     rt: &impl Abort,
     supervisor: &mut Supervisor,
@@ -63,7 +63,7 @@ pub(crate) fn keep_one(
     supervisor.wanted(&[only])
 }
 
-#[tactic(auto, using(crate::proofs::Rising::two_rise))]
+#[tactic(auto, using(sup_causal::proofs::Rising::two_rise))]
 pub(crate) fn keep_two(
     rt: &impl Abort,
     supervisor: &mut Supervisor,
@@ -75,7 +75,7 @@ pub(crate) fn keep_two(
     supervisor.wanted(&[first, second])
 }
 
-#[tactic(auto, using(crate::proofs::Rising::three_rise))]
+#[tactic(auto, using(sup_causal::proofs::Rising::three_rise))]
 pub(crate) fn keep_three(
     rt: &impl Abort,
     supervisor: &mut Supervisor,

@@ -49,7 +49,7 @@ impl Stage {
         expect_kept(rt, &self.supervisor, kept)
     }
 
-    #[tactic(auto, using(crate::proofs::Rising::none_rises))]
+    #[tactic(auto, using(sup_causal::proofs::Rising::none_rises))]
     pub(crate) fn keeps_none(&mut self, rt: &impl Abort, wanted: &[Seen<'_>]) {
         let effects = self.supervisor.wanted(&[]);
         expect_effects(rt, &effects.expect(rt, "effects"), wanted)
@@ -172,7 +172,7 @@ impl Stage {
         expect_stale(rt, &verdict.expect(rt, "a verdict"))
     }
 
-    #[tactic(auto, using(crate::proofs::Rising::none_rises))]
+    #[tactic(auto, using(sup_causal::proofs::Rising::none_rises))]
     pub(crate) fn plans_to_give_up(
         &self,
         rt: &(impl Abort + AllocGlobal),

@@ -11,17 +11,18 @@ use std::cmp::Ordering;
 use std::collections::BTreeMap;
 use sup_specs::Plain;
 
-// The keys of two maps in rising order, each once, with what the maps have there. One pass over both.
+/// The keys of two maps in rising order, each once, with what the maps have there. One pass over both.
 #[derive(Drop)]
-pub(crate) struct KeyByKey<'a, K: Plain, V> {
-    left: Peeked<'a, K, V>,
-    right: Peeked<'a, K, V>,
+pub struct KeyByKey<'a, K: Plain, V> {
+    pub left: Peeked<'a, K, V>,
+    pub right: Peeked<'a, K, V>,
     pub ghost left_rises: { KeysRise K.cmp left } by { Prim.hlevel props },
     pub ghost right_rises: { KeysRise K.cmp right } by { Prim.hlevel props },
 }
 
 impl<'a, K: Plain, V> KeyByKey<'a, K, V> {
-    pub(crate) fn new(left: &'a BTreeMap<K, V>, right: &'a BTreeMap<K, V>) -> Self
+    /// A walk over all keys.
+    pub fn new(left: &'a BTreeMap<K, V>, right: &'a BTreeMap<K, V>) -> Self
         ensures left { result.left ≡ left.now.entries }
         ensures right { result.right ≡ right.now.entries }
     {
