@@ -1,25 +1,19 @@
 -- The dots of parts, as a context: what it has, and that it rises.
 use Rattle.std.proofs.Common.{◌≡◌, ℕ, suc, zero, ◌+◌, ◌≤◌, Bool, true, false, ◌||◌, ◌&&◌, leb, eqb, List, [], ◌∷◌, ◌++◌, refl, sym, ap, ◌∙◌, arith, inl, inr}
-use Rattle.std.specs.declared.cmp.Ordering.{Ordering}
-use Rattle.std.specs.declared.cmp.Ordering.TheVariants.{Less, Equal, Greater}
 use Rattle.std.specs.Ordering.{eq_by_cmp}
-use Rattle.std.specs.FinMap.Entries.{by_order}
-use Rattle.std.specs.Cmp.{IsTotalOrder}
-use Rattle.std.specs.List.{AllByRecursion}
 use Rattle.std.proofs.lemmas.Bool.{or_cases, and_parts, leb-true}
 use Rattle.std.proofs.lemmas.Bool.Decides.{nat_tests}
 use Rattle.std.proofs.lemmas.Cmp.{eq_by_cmp_equiv, nat_list_cmp_total}
 use Rattle.std.proofs.lemmas.List.Folds.{list_any-append}
 use Rattle.std.specs.List.Sorted.{IsStrictlySortedBy}
-use Rattle.sup_specs.specs.Rising.{among, put_in, rising}
-use Rattle.sup_specs.proofs.RisingLaws.{among-rising}
+use Rattle.sup_specs.specs.Rising.{among}
+use Rattle.sup_specs.proofs.RisingLaws.{among-rising, rising_rises}
 use Rattle.sup_specs.specs.Values.{text_cmp}
 use Rattle.sup_specs.specs.declared.limits.TheConstants.{MAX}
 use Rattle.sup_causal.specs.declared.dot.Dot.{Dot}
 use Rattle.sup_causal.specs.Dots.{has, dot_cmp, dot_eq, IsCounted, IsKept}
 use Rattle.sup_causal.specs.DotLaws.{dot_total}
 use Rattle.sup_causal.specs.Cut.{entry, IsCanonical, in_run, in_runs, in_parts}
-use Rattle.sup_causal.proofs.Rising.{less_from_greater}
 use Rattle.sup_causal.proofs.Union.{each_weaker}
 use Rattle.sup_causal.proofs.Sorted.{pairs_rise}
 use Rattle.sup_causal.proofs.CutLemmas.{in_runs_is, uncounted}
@@ -28,36 +22,9 @@ use Rattle.sup_causal.specs.Parts.{in_vector, run_dots, runs_dots, dots_of}
 use Rattle.sup_causal.proofs.Versions.{entry_most}
 use Rattle.sup_causal.proofs.Cuts.{dot_parts}
 
--- ---- a list put in order rises
-module _ {K : Type 0} {R : K → K → Ordering} (total : IsTotalOrder R) where
-  each_put_in : (P : K → Type 0) (x : K) (ys : List K) → P x → AllByRecursion P ys → AllByRecursion P (put_in R x ys)
-  each_put_in P x [] here all = (here, tt)
-  each_put_in P x (y ∷ ys) here all =
-      let later : AllByRecursion P (put_in R x ys) = each_put_in P x ys here all.1 in
-      elim (R x y) as (λ o. AllByRecursion P (by_order o (x ∷ y ∷ ys) (y ∷ ys) (y ∷ put_in R x ys))) [
-        | Less ↦ (here, all)
-        | Equal ↦ all
-        | Greater ↦ (all.0, later)
-      ]
-
-  rising_put_in : (x : K) (ys : List K) → IsStrictlySortedBy R ys → IsStrictlySortedBy R (put_in R x ys)
-  unfolding IsStrictlySortedBy
-  rising_put_in x [] s = (tt, tt)
-  rising_put_in x (y ∷ ys) s = at (R x y) refl (rising_put_in x ys s.1)
-    where
-      at : (o : Ordering) → R x y ≡ o → IsStrictlySortedBy R (put_in R x ys) → IsStrictlySortedBy R (by_order o (x ∷ y ∷ ys) (y ∷ ys) (y ∷ put_in R x ys))
-      at Less e later = ((e, each_weaker (λ z. R y z ≡ Less) (λ z. R x z ≡ Less) (λ z h. total.trans x y z e h) ys s.0), s)
-      at Equal e later = s
-      at Greater e later = (each_put_in (λ z. R y z ≡ Less) x ys (less_from_greater total x y e) s.0, later)
-
-  rising_rises : (xs : List K) → IsStrictlySortedBy R (rising R xs)
-  unfolding IsStrictlySortedBy
-  rising_rises [] = tt
-  rising_rises (x ∷ xs) = rising_put_in x (rising R xs) (rising_rises xs)
-
 pub dots_rise : (v : List (List ℕ × ℕ)) (c : List Dot) → IsStrictlySortedBy dot_cmp (dots_of v c)
 unfolding dots_of
-dots_rise v c = rising_rises dot_total (runs_dots v ++ c)
+dots_rise v c = rising_rises dot_cmp dot_total (runs_dots v ++ c)
 
 -- ---- what parts have
 none_of_none : (c : ℕ) (b : Bool) → false ≡ (b && (leb 1 c && leb c 0))
