@@ -12,6 +12,8 @@ const COMMANDS: &[(&str, &str)] = &[
     ("join a label=@5 !fail", "a: join [@5], at 0, fails"),
     ("leave a b", "a: leave b, at 0, saves"),
     ("leave a b @0 !fail", "a: leave b, at 0, fails"),
+    ("drain a b", "a: drain b, at 0, saves"),
+    ("drain b b @3 !fail", "b: drain b, at 3, fails"),
     ("start a x", "a: start x worker [] always 5000, at 0, saves"),
     (
         "start a x kind=k arg=y restart=transient shutdown=0 @1 !fail",

@@ -72,6 +72,7 @@ fn told_event(alloc: Global, event: &Event) -> Result<String, AllocError> {
     match event {
         Event::Join(label) => format!(in alloc; "join [{label}]"),
         Event::Leave(member) => format!(in alloc; "leave {member}"),
+        Event::Drain(member) => format!(in alloc; "drain {member}"),
         Event::Start(id, spec) => {
             let spec = told_spec(alloc, spec)?;
             format!(in alloc; "start {id} {spec}")

@@ -2,7 +2,7 @@
 use std::process::Abort;
 use sup_local_sup::Incarnation;
 use sup_replica::{Act, Event, MessageText};
-use sup_specs::{ChildId, ChildSpec, ExitReason, Kind, Name, Restart, Shutdown, Text};
+use sup_specs::{ChildId, ChildSpec, ExitReason, Kind, Name, NodeName, Restart, Shutdown, Text};
 
 fn child(rt: &(impl Abort + AllocGlobal), id: &str) -> ChildId {
     ChildId::parse(rt.alloc(), id).expect(rt, "an id")
@@ -64,6 +64,15 @@ fn a_registration_is_copied_with_both_names(rt: HostRuntime) {
             assert!(rt; name.as_str() == "www");
             assert!(rt; id.as_str() == "web");
         }
+        _ => assert!(rt; false),
+    }
+}
+
+#[test]
+fn a_drain_is_copied_with_its_member(rt: HostRuntime) {
+    let member = NodeName::parse("b").expect(&rt, "a node's name");
+    match copy(&rt, Event::Drain(member)) {
+        Some(Event::Drain(member)) => assert!(rt; member.as_str() == "b"),
         _ => assert!(rt; false),
     }
 }

@@ -27,4 +27,5 @@ fn refusals_have_the_numbers_that_scripts_print(rt: HostRuntime) {
     assert!(rt; Refusal::UpToDate.number() == 12);
     assert!(rt; Refusal::OutOfMemory.number() == 19);
     assert!(rt; Refusal::NothingToPush.number() == 22);
+    assert!(rt; Refusal::AlreadyDraining.number() == 23);
 }

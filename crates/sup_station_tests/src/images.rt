@@ -21,6 +21,17 @@ const BOOT_SPENT: &str =
 const OPENING: &str =
     "{\"boot\":1,\"count\":0,\"ctx\":{\"cloud\":[],\"vector\":{}},\"kind\":\"image\",\"node\":\"a\",\"rows\":[],\"v\":1}";
 
+/// A member with a child, in version 1; and its image in the next boot, in version 2.
+const VERSION_1: &str =
+    "{\"boot\":1,\"count\":2,\"ctx\":{\"cloud\":[],\"vector\":{\"a\":2}},\"kind\":\"image\",\"node\":\"a\",\"rows\":[[\"member\",\"a\",[\"a\",1],{\"label\":\"\"}],[\"child\",\"web\",[\"a\",2],{\"arg\":\"\",\"kind\":\"worker\",\"restart\":\"permanent\",\"shutdown\":5000}]],\"v\":1}";
+
+const VERSION_1_RESTARTED: &str =
+    "ok boot 2\n  a start web 2.1\n{\"boot\":2,\"count\":2,\"ctx\":{\"cloud\":[],\"vector\":{\"a\":2}},\"kind\":\"image\",\"node\":\"a\",\"rows\":[[\"member\",\"a\",[\"a\",1],{\"label\":\"\",\"status\":\"open\"}],[\"child\",\"web\",[\"a\",2],{\"arg\":\"\",\"kind\":\"worker\",\"restart\":\"permanent\",\"shutdown\":5000}]],\"v\":2}\n";
+
+/// Two members, one draining, at a node whose dots are spent.
+const DRAINING_AND_SPENT: &str =
+    "{\"boot\":1,\"count\":2,\"ctx\":{\"cloud\":[[\"a\",9007199254740991]],\"vector\":{\"b\":1}},\"kind\":\"image\",\"node\":\"a\",\"rows\":[[\"member\",\"a\",[\"a\",9007199254740991],{\"label\":\"\",\"status\":\"open\"}],[\"member\",\"b\",[\"b\",1],{\"label\":\"\",\"status\":\"draining\"}]],\"v\":2}";
+
 /// An acknowledgement of a change that was never made, and bytes that are no message.
 const FOREIGN: &str =
     "bytes a {\"from\":\"b\",\"kind\":\"ack\",\"n\":1,\"to\":\"a\",\"v\":1}\nbytes a {}\n";
@@ -55,6 +66,28 @@ fn a_node_in_its_last_boot_doesnt_restart(rt: HostRuntime) {
         BOOT_SPENT,
         "restart a\nstop a\n",
         "refused 21 CountSpent\nrefused 1 Down\n",
+    );
+}
+
+#[test]
+fn an_image_of_version_1_restarts_and_is_saved_as_version_2(rt: HostRuntime) {
+    plays_from(
+        &rt,
+        "a",
+        VERSION_1,
+        "restart a\nimage a\n",
+        VERSION_1_RESTARTED,
+    );
+}
+
+#[test]
+fn a_drain_asks_for_the_member_then_for_its_status_then_for_a_dot(rt: HostRuntime) {
+    plays_from(
+        &rt,
+        "a",
+        DRAINING_AND_SPENT,
+        "restart a\ndrain a c\ndrain a b\ndrain a a\n",
+        "ok boot 2\nrefused 7 NotMember\nrefused 23 AlreadyDraining\nrefused 11 DotsSpent\n",
     );
 }
 

@@ -42,6 +42,7 @@ impl<'a> Line<'a> {
         match self.verb {
             "join" => Some(Event::Join(text(alloc, "")?)),
             "leave" => Some(Event::Leave(name(rt, self.word))),
+            "drain" => Some(Event::Drain(name(rt, self.word))),
             "delete" => Some(Event::Delete(child(alloc, self.word)?)),
             "ship" => Some(Event::Ship(name(rt, self.word))),
             "push" => Some(Event::Push(name(rt, self.word))),

@@ -1,8 +1,9 @@
 //! Stories that go on where a save or a growth is refused: the act answers so and changes nothing, and made once more it
 //! does what it should have done, so that the row ends as without.
 use crate::rows::{
-    FAILED_RESTART, FAILED_RESTART_TOLD, FAILED_SAVE, FAILED_SAVE_TOLD, INTERVAL, INTERVAL_TOLD,
-    OVERWRITTEN, OVERWRITTEN_TOLD, REMOVAL, REMOVAL_TOLD, REPEATED, REPEATED_TOLD,
+    DRAINED, DRAINED_TOLD, FAILED_RESTART, FAILED_RESTART_TOLD, FAILED_SAVE, FAILED_SAVE_TOLD,
+    INTERVAL, INTERVAL_TOLD, OVERWRITTEN, OVERWRITTEN_TOLD, REMOVAL, REMOVAL_TOLD, REPEATED,
+    REPEATED_TOLD,
 };
 use crate::stage::{plays, plays_over_failure};
 use std::process::Abort;
@@ -27,6 +28,18 @@ fn each_save_of_an_add_beside_a_removal_fails_in_turn(rt: HostRuntime) {
     for act in 1..11usize {
         let config = Config::default();
         let failures = plays_over_failure(&rt, config, REMOVAL, REMOVAL_TOLD, act);
+        failed = failed.saturating_add(failures);
+    }
+    assert!(rt; failed == 6, "{failed}");
+}
+
+// Of the row with a drain: two joins, a start, the drain, two absorbed deliveries.
+#[test]
+fn each_save_of_a_drain_fails_in_turn(rt: HostRuntime) {
+    let mut failed = 0usize;
+    for act in 1..12usize {
+        let config = Config::default();
+        let failures = plays_over_failure(&rt, config, DRAINED, DRAINED_TOLD, act);
         failed = failed.saturating_add(failures);
     }
     assert!(rt; failed == 6, "{failed}");

@@ -7,7 +7,7 @@ pub(crate) const INTERVAL: &str =
     "start a x\nship a b\ndeliver a 1\nstop a\nrestart a\ndeliver b 1\nship a b\nstart a y\nship a b\nmessage a 2\n";
 
 pub(crate) const INTERVAL_TOLD: &str =
-    "ok (a,1)\nok sent\n  sent a 1 to b delta 1 part\nok absorbed\n  sent b 1 to a ack 1\nok stopped\nok boot 2\nok acked\nrefused 12 UpToDate\nok (a,2)\nok sent\n  sent a 2 to b delta 2 part\n{\"ctx\":{\"cloud\":[[\"a\",2]],\"vector\":{}},\"from\":\"a\",\"kind\":\"delta\",\"n\":2,\"rows\":[[\"child\",\"y\",[\"a\",2],{\"arg\":\"\",\"kind\":\"worker\",\"restart\":\"permanent\",\"shutdown\":5000}]],\"to\":\"b\",\"v\":1}\n";
+    "ok (a,1)\nok sent\n  sent a 1 to b delta 1 part\nok absorbed\n  sent b 1 to a ack 1\nok stopped\nok boot 2\nok acked\nrefused 12 UpToDate\nok (a,2)\nok sent\n  sent a 2 to b delta 2 part\n{\"ctx\":{\"cloud\":[[\"a\",2]],\"vector\":{}},\"from\":\"a\",\"kind\":\"delta\",\"n\":2,\"rows\":[[\"child\",\"y\",[\"a\",2],{\"arg\":\"\",\"kind\":\"worker\",\"restart\":\"permanent\",\"shutdown\":5000}]],\"to\":\"b\",\"v\":2}\n";
 
 pub(crate) const REMOVAL: &str =
     "join a\nstart a web\nship a b\ndeliver a 1\ndelete b web\nreplace a web arg=x\nship b a\ndeliver b 2\npush a b\ndeliver a 3\nshow a\nshow b\n";
@@ -36,6 +36,12 @@ pub(crate) const REPEATED: &str = "start a x\nship a b\ndeliver a 1\ndeliver a 1
 
 pub(crate) const REPEATED_TOLD: &str =
     "ok (a,1)\nok sent\n  sent a 1 to b delta 1 part\nok absorbed\n  sent b 1 to a ack 1\nok known\n  sent b 2 to a ack 1\n";
+
+pub(crate) const DRAINED: &str =
+    "join a\nstart a web\nship a b\ndeliver a 1\njoin b\ndrain b a\npush b a\ndeliver b 2\nshow a\ndrain a a\ndrain a b\njoin a\nshow b\n";
+
+pub(crate) const DRAINED_TOLD: &str =
+    "ok (a,1)\nok (a,2)\n  a start web 1.1\nok sent\n  sent a 1 to b delta 2 part\nok absorbed\n  sent b 1 to a ack 2\nok (b,1)\nok (b,2) removed (a,1)\n  b start web 1.1\nok sent\n  sent b 2 to a push\nok absorbed\n  a stop web 1.1\nnode a boot 1\nmember a (b,2) draining label=\nchild web (a,2) worker permanent 5000 arg= unplaced\nrefused 23 AlreadyDraining\nrefused 7 NotMember\nrefused 6 AlreadyMember\nnode b boot 1\nmember a (b,2) draining label=\nmember b (b,1) label=\nchild web (a,2) worker permanent 5000 arg= on b\nkept web 1.1\n";
 
 #[test]
 fn a_failed_save_leaves_the_dot_free(rt: HostRuntime) {
@@ -88,7 +94,7 @@ fn the_image_of_a_member_with_a_child_is_the_stated_text(rt: HostRuntime) {
         &rt,
         Config::default(),
         "join a\nstart a web\nimage a\n",
-        "ok (a,1)\nok (a,2)\n  a start web 1.1\n{\"boot\":1,\"count\":2,\"ctx\":{\"cloud\":[],\"vector\":{\"a\":2}},\"kind\":\"image\",\"node\":\"a\",\"rows\":[[\"member\",\"a\",[\"a\",1],{\"label\":\"\"}],[\"child\",\"web\",[\"a\",2],{\"arg\":\"\",\"kind\":\"worker\",\"restart\":\"permanent\",\"shutdown\":5000}]],\"v\":1}\n",
+        "ok (a,1)\nok (a,2)\n  a start web 1.1\n{\"boot\":1,\"count\":2,\"ctx\":{\"cloud\":[],\"vector\":{\"a\":2}},\"kind\":\"image\",\"node\":\"a\",\"rows\":[[\"member\",\"a\",[\"a\",1],{\"label\":\"\",\"status\":\"open\"}],[\"child\",\"web\",[\"a\",2],{\"arg\":\"\",\"kind\":\"worker\",\"restart\":\"permanent\",\"shutdown\":5000}]],\"v\":2}\n",
     );
 }
 
@@ -109,6 +115,21 @@ fn a_name_leads_to_a_child_that_no_member_has(rt: HostRuntime) {
         Config::default(),
         "start a web\nregister a www web\nwhere a www\n",
         "ok (a,1)\nok (a,2)\nwww web unplaced\n",
+    );
+}
+
+#[test]
+fn a_drained_member_stays_and_loses_its_child(rt: HostRuntime) {
+    plays(&rt, Config::default(), DRAINED, DRAINED_TOLD);
+}
+
+#[test]
+fn a_drained_member_leaves_and_joins_to_come_back(rt: HostRuntime) {
+    plays(
+        &rt,
+        Config::default(),
+        "join a\nstart a web\ndrain a a !fail\ndrain a a\nleave a a\njoin a\n",
+        "ok (a,1)\nok (a,2)\n  a start web 1.1\nrefused 16 KeepFailed\nok (a,3) removed (a,1)\n  a stop web 1.1\nok removed (a,3)\nok (a,4)\n  a start web 1.2\n",
     );
 }
 

@@ -11,6 +11,13 @@ const TWICE: &str =
 const TWICE_TOLD: &str =
     "ok absorbed\nnode b boot 1\nmember m (c,1) label=rack\nloser member m (c,2)\nchild db (c,3) quick transient brutal_kill arg=-v on m\nloser child db (c,4)\nname api (c,7) web gone\nname www (c,5) db on m\nloser name www (c,6)\nwww db on m\napi web gone\n";
 
+/// A push of two members with two entries each, one of which is draining, and of a child; and what comes of a drain.
+const DRAINING_TWICE: &str =
+    "bytes b {\"ctx\":{\"cloud\":[],\"vector\":{\"c\":5}},\"from\":\"c\",\"kind\":\"push\",\"rows\":[[\"member\",\"m\",[\"c\",1],{\"label\":\"rack\",\"status\":\"draining\"}],[\"member\",\"m\",[\"c\",2],{\"label\":\"\",\"status\":\"open\"}],[\"member\",\"n\",[\"c\",3],{\"label\":\"shelf\",\"status\":\"open\"}],[\"member\",\"n\",[\"c\",4],{\"label\":\"\",\"status\":\"draining\"}],[\"child\",\"db\",[\"c\",5],{\"arg\":\"\",\"kind\":\"worker\",\"restart\":\"permanent\",\"shutdown\":5000}]],\"to\":\"b\",\"v\":2}\nshow b\ndrain b m\ndrain b n\nshow b\n";
+
+const DRAINING_TWICE_TOLD: &str =
+    "ok absorbed\nnode b boot 1\nmember m (c,1) draining label=rack\nloser member m (c,2)\nmember n (c,3) label=shelf\nloser member n (c,4)\nchild db (c,5) worker permanent 5000 arg= on n\nrefused 23 AlreadyDraining\nok (b,1) removed (c,3) (c,4)\nnode b boot 1\nmember m (c,1) draining label=rack\nloser member m (c,2)\nmember n (b,1) draining label=shelf\nchild db (c,5) worker permanent 5000 arg= unplaced\n";
+
 const GONE: &str =
     "start a web\npush a b\ndeliver a 1\nregister b www web\nwhere b www\ndelete a web\npush a b\ndeliver a 2\nwhere b www\nshow b\n";
 
@@ -26,6 +33,11 @@ const LEAST_TOLD: &str =
 #[test]
 fn losers_of_each_table_follow_their_winner(rt: HostRuntime) {
     plays(&rt, Config::default(), TWICE, TWICE_TOLD);
+}
+
+#[test]
+fn the_status_of_a_members_winner_counts(rt: HostRuntime) {
+    plays(&rt, Config::default(), DRAINING_TWICE, DRAINING_TWICE_TOLD);
 }
 
 #[test]

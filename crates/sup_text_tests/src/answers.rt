@@ -109,6 +109,7 @@ fn a_refusal_is_its_number_and_name(rt: HostRuntime) {
         (Refusal::HistoryFull, "refused 20 HistoryFull\n"),
         (Refusal::CountSpent, "refused 21 CountSpent\n"),
         (Refusal::NothingToPush, "refused 22 NothingToPush\n"),
+        (Refusal::AlreadyDraining, "refused 23 AlreadyDraining\n"),
     ];
     for (refusal, line) in cases {
         let text = refusal_text(rt.alloc(), refusal).expect(&rt, "room");
