@@ -54,15 +54,19 @@ class Story:
         child, name, text = "i" * 128, "~" * 128, "!" * 1024
         self.say(f"join c label={text}", f"start c {child} kind={'k' * 128} arg={text} restart=permanent shutdown=infinity")
         self.say(f"register c {name} {child}", f"exit c {child} 1.1 shutdown:{'s' * 128} @9007199254740991", "show c", f"where c {name}")
-        self.say(f"replace c {child} arg={text}", f"unregister c {name}", f"delete c {child}", "leave c c", "show c")
+        self.say(f"replace c {child} arg={text}", f"unregister c {name}", "drain c c !fail", "drain c c", "drain c c", "show c")
+        self.say(f"delete c {child}", "leave c c", "drain c c", "show c")
 
     def many_rows(self):
-        """Ten nodes of a thousand rows each, and one that takes them all in."""
+        """Ten nodes of a thousand rows each, and one that takes them all in, with a member."""
         for i in range(10):
             self.say(*(f"start n{i} {i}-{j}" for j in range(1000)))
             self.ship(f"n{i}", "full")
-        self.say("start full one-more", "join full", "register full name 0-0", "replace full 0-0 kind=other", "delete full 0-1")
-        self.say("start full one-more", "stop full", "restart full", "restart full", "register full name 0-0", "where full name")
+        self.say("join empty")
+        self.send("push", "empty", "full")
+        self.say("start full one-more", "join full", "register full name 0-0", "replace full 0-0 kind=other", "drain full empty")
+        self.say("drain full empty", "delete full 0-1", "delete full 0-2", "start full one-more", "stop full", "drain full empty")
+        self.say("restart full", "restart full", "register full name 0-0", "where full name")
 
     def many_ships(self):
         self.say("start a again", *["ship a c"] * 1001)

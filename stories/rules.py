@@ -6,12 +6,15 @@ import argparse
 import hashlib
 import sys
 
+import forms
+
 MEMBER, CHILD, NAME = "member", "child", "name"
+OPEN, DRAINING = "open", "draining"
 MOST_ROWS = 10_000
 NUMBERS = {
     "Down": 1, "AlreadyUp": 2, "UnknownNode": 3, "AlreadyPresent": 4, "NotFound": 5, "AlreadyMember": 6, "NotMember": 7, "NameTaken": 8,
     "NoSuchChild": 9, "NameUnknown": 10, "UpToDate": 12, "NoSuchMessage": 13, "StaleExit": 14, "TableFull": 15, "KeepFailed": 16,
-    "BadMessage": 17, "WrongReceiver": 18, "NothingToPush": 22,
+    "BadMessage": 17, "WrongReceiver": 18, "NothingToPush": 22, "AlreadyDraining": 23,
 }
 
 
@@ -65,6 +68,10 @@ class Spec:
     def __str__(self):
         return f"{self.kind} {self.restart} {self.shutdown} arg={self.arg}"
 
+    def fields(self):
+        shutdown = int(self.shutdown) if self.shutdown.isdecimal() else self.shutdown
+        return {"arg": self.arg, "kind": self.kind, "restart": self.restart, "shutdown": shutdown}
+
 
 class Node:
     def __init__(self, name, setting):
@@ -78,13 +85,17 @@ class Node:
 
     # -- what is wanted and kept
 
-    def place(self, id, members=None):
-        members = self.state.entries(MEMBER) if members is None else members
-        return max(sorted(members), key=lambda m: self.setting.weight(m, id), default=None)
+    def eligible(self):
+        """The members whose winner is open, by name."""
+        return [member for member, dots in self.state.entries(MEMBER).items() if self.state.rows[dots[0]][2][1] == OPEN]
+
+    def place(self, id, eligible=None):
+        eligible = self.eligible() if eligible is None else eligible
+        return max(eligible, key=lambda m: self.setting.weight(m, id), default=None)
 
     def wanted(self):
-        members = list(self.state.entries(MEMBER))
-        return {id: dots[0] for id, dots in self.state.entries(CHILD).items() if self.place(id, members) == self.name}
+        eligible = self.eligible()
+        return {id: dots[0] for id, dots in self.state.entries(CHILD).items() if self.place(id, eligible) == self.name}
 
     def start(self, id, dot):
         self.given += 1
@@ -144,10 +155,16 @@ class Node:
 
     def do_join(self, words, now, saves):
         self.fresh(MEMBER, self.name, "AlreadyMember")
-        return self.add(saves, (MEMBER, self.name, options_of(words).get("label", "")))
+        return self.add(saves, (MEMBER, self.name, (options_of(words).get("label", ""), OPEN)))
 
     def do_leave(self, words, now, saves):
         return self.remove(saves, self.there(MEMBER, words[0], "NotMember"))
+
+    def do_drain(self, words, now, saves):
+        removed = self.there(MEMBER, words[0], "NotMember")
+        label, status = self.state.rows[removed[0]][2]
+        refuse_if(status == DRAINING, "AlreadyDraining")
+        return self.add(saves, (MEMBER, words[0], (label, DRAINING)), removed)
 
     def do_start(self, words, now, saves):
         self.fresh(CHILD, words[0], "AlreadyPresent")
@@ -239,22 +256,29 @@ class Node:
             yield f"{table} {key} {dot_text(dots[0])} " + line(key, self.state.rows[dots[0]][2])
             yield from (f"loser {table} {key} {dot_text(dot)}" for dot in dots[1:])
 
-    def placed(self, id, members=None):
-        member = self.place(id, members)
+    def placed(self, id, eligible=None):
+        member = self.place(id, eligible)
         return "unplaced" if member is None else f"on {member}"
 
-    def lead(self, id, members=None):
-        return f"{id} {self.placed(id, members) if self.state.dots(CHILD, id) else 'gone'}"
+    def lead(self, id, eligible=None):
+        return f"{id} {self.placed(id, eligible) if self.state.dots(CHILD, id) else 'gone'}"
 
     def show(self):
         if not self.up:
             return [f"node {self.name} down"]
-        members = list(self.state.entries(MEMBER))
+        eligible = self.eligible()
         return [f"node {self.name} boot {self.boot}",
-                *self.table_lines(MEMBER, lambda member, label: f"label={label}"),
-                *self.table_lines(CHILD, lambda id, spec: f"{spec} {self.placed(id, members)}"),
-                *self.table_lines(NAME, lambda name, id: self.lead(id, members)),
+                *self.table_lines(MEMBER, lambda member, info: f"{'draining ' if info[1] == DRAINING else ''}label={info[0]}"),
+                *self.table_lines(CHILD, lambda id, spec: f"{spec} {self.placed(id, eligible)}"),
+                *self.table_lines(NAME, lambda name, id: self.lead(id, eligible)),
                 *(f"kept {id} {self.boot}.{k}" for id, (dot, k) in self.kept.items())]
+
+    def inspect(self):
+        if not self.up:
+            return self.show()
+        vector, cloud = forms.cut(self.state.known)
+        return [*self.show(), f"count {self.count}", f"buffer {len(self.deltas)}", *(f"vector {node} {n}" for node, n in vector.items()),
+                *(f"cloud {dot_text(dot)}" for dot in cloud), *(f"acked {peer} {n}" for peer, n in sorted(self.acknowledged.items()))]
 
     def where(self, name):
         if not self.up:
@@ -297,10 +321,13 @@ class World:
             self.node(words[0])
         return self.post(node, node.act(verb, words, now, saves))
 
-    def deliver(self, sender, k, at=None, drop=0, saves=True):
+    def letter(self, sender, k):
         self.node(sender)
         refuse_if(not 1 <= k <= len(self.sent[sender]), "NoSuchMessage")
-        letter = self.sent[sender][k - 1]
+        return self.sent[sender][k - 1]
+
+    def deliver(self, sender, k, at=None, drop=0, saves=True):
+        letter = self.letter(sender, k)
         node = self.node(letter[0] if at is None else at)
         return self.post(node, node.deliver(sender, letter, drop == 0, saves))
 
@@ -332,8 +359,8 @@ class World:
             return [f"refused {NUMBERS[refusal.args[0]]} {refusal.args[0]}"]
 
     # words that a line must have, before any ending
-    FEWEST = {"join": 2, "leave": 3, "start": 3, "replace": 3, "delete": 3, "register": 4, "unregister": 3, "exit": 5, "ship": 3, "push": 3,
-              "deliver": 3, "stop": 2, "restart": 2}
+    FEWEST = {"join": 2, "leave": 3, "drain": 3, "start": 3, "replace": 3, "delete": 3, "register": 4, "unregister": 3, "exit": 5, "ship": 3,
+              "push": 3, "deliver": 3, "stop": 2, "restart": 2}
 
     def may_end(self, words):
         return words[0] in self.FEWEST and len(words) > self.FEWEST[words[0]]
@@ -341,13 +368,21 @@ class World:
     def say(self, verb, words, now, saves):
         if verb == "settle":
             return self.settle()
-        if verb == "show":
-            return self.node(words[0]).show()
+        if verb in ("show", "inspect"):
+            return getattr(self.node(words[0]), verb)()
+        if verb == "image":
+            return [forms.image(self.node(words[0]))]
+        if verb == "message":
+            return [forms.message(words[0], self.letter(words[0], int(words[1])))]
         if verb == "where":
             return self.node(words[0]).where(words[1])
         if verb == "raw":
             refuse_if(not self.node(words[0]).up, "Down")
-            raise Refused("NoSuchMessage" if words[1].startswith('{"from":') else "BadMessage")
+            try:
+                forms.read(words[1], forms.MESSAGES)
+            except forms.Fault:
+                raise Refused("BadMessage") from None
+            raise Refused("NoSuchMessage")
         if verb == "deliver":
             more = dict(zip(words[2::2], words[3::2]))
             return self.deliver(words[0], int(words[1]), more.get("at"), int(more.get("drop", 0)), saves)
