@@ -23,7 +23,7 @@ mail_of (Delta from to n content) = a_delta from to n false content
 mail_of (Push from to content) = a_push from to content
 mail_of (Ack from to n) = an_ack from to n
 
--- the text is the message's one text, and is read as the message
+-- the text is the one that is written of the message, and is read as the message
 pub record IsMessageText (text : Bytes) (m : Message) : Type 0 where
   pub form : IsTextOf IsDraftOf IsInRange text m
   pub says : Says IsDraftOf text m
