@@ -50,6 +50,20 @@ pub(crate) fn join(rt: &(impl Abort + AllocGlobal), tables: &mut Tables, me: &st
     take_add(rt, tables, put)
 }
 
+// Drains a member, which must be there, and gives the dots that this names.
+pub(crate) fn drain(
+    rt: &(impl Abort + AllocGlobal),
+    tables: &mut Tables,
+    me: &str,
+    member: &str,
+) -> Vec<Dot> {
+    let put = tables.drain_member(node(rt, me), &node(rt, member));
+    let (delta, dot, dots) = put.expect(rt, "an add");
+    let dot = dot.expect(rt, "a member");
+    take_add(rt, tables, Ok((delta, dot)));
+    dots
+}
+
 pub(crate) fn leave(
     rt: &(impl Abort + AllocGlobal),
     tables: &mut Tables,

@@ -2,7 +2,9 @@
 //! when it runs. They end it where there is no such value.
 use std::process::Abort;
 use sup_causal::Dot;
-use sup_specs::{ChildId, ChildSpec, Kind, MemberInfo, Name, NodeName, Restart, Shutdown, Text};
+use sup_specs::{
+    ChildId, ChildSpec, Kind, MemberInfo, Name, NodeName, Restart, Shutdown, Status, Text,
+};
 
 pub(crate) fn node(rt: &impl Abort, name: &str) -> NodeName {
     NodeName::parse(name).expect(rt, "a node's name")
@@ -47,5 +49,13 @@ pub(crate) fn spec(rt: &(impl Abort + AllocGlobal), kind: &str) -> ChildSpec {
 pub(crate) fn labelled(rt: &(impl Abort + AllocGlobal), label: &str) -> MemberInfo {
     MemberInfo {
         label: text(rt, label),
+        status: Status::Open,
+    }
+}
+
+pub(crate) fn draining(rt: &(impl Abort + AllocGlobal), label: &str) -> MemberInfo {
+    MemberInfo {
+        label: text(rt, label),
+        status: Status::Draining,
     }
 }

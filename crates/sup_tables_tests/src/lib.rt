@@ -5,6 +5,8 @@
 #[cfg(test)]
 mod acts;
 #[cfg(test)]
+mod draining;
+#[cfg(test)]
 mod given;
 #[cfg(test)]
 mod in_place;

@@ -1,5 +1,5 @@
 //! Tables that are made of rows.
-use crate::given::{child_id, dot, dots, labelled, node, registered, spec};
+use crate::given::{child_id, dot, dots, draining, labelled, node, registered, spec};
 use crate::seen::{Shown, expect_lent, expect_rows, knows};
 use std::process::Abort;
 use sup_causal::CausalContext;
@@ -10,6 +10,7 @@ fn row(rt: &(impl Abort + AllocGlobal), shown: &Shown<'_>) -> Row {
     let (table, key, name, counter, value) = *shown;
     let entry = match table {
         "member" => Entry::Member(node(rt, key), labelled(rt, value)),
+        "draining" => Entry::Member(node(rt, key), draining(rt, value)),
         "child" => Entry::Child(child_id(rt, key), spec(rt, value)),
         _ => Entry::Name(registered(rt, key), child_id(rt, value)),
     };

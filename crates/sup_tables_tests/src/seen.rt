@@ -2,10 +2,11 @@
 use crate::given::dot;
 use std::process::Abort;
 use sup_causal::{Dot, Lattice};
+use sup_specs::{MemberInfo, Status};
 use sup_tables::{Entry, LentEntry, LentRow, Row, Tables};
 
-/// An entry: its table, or `loser` where another has won; its key; the node and the counter of its dot; and its value,
-/// which is a member's label, a child's kind or a name's child.
+/// An entry: its table, `draining` for a member that drains, or `loser` where another has won; its key; the node and the
+/// counter of its dot; and its value, which is a member's label, a child's kind or a name's child.
 pub(crate) type Shown<'a> = (&'a str, &'a str, &'a str, u64, &'a str);
 
 fn push<'a>(
@@ -20,11 +21,19 @@ fn push<'a>(
     shown.push(entry).expect(rt, "room")
 }
 
+fn table_of(info: &MemberInfo) -> &'static str {
+    match info.status {
+        Status::Open => "member",
+        Status::Draining => "draining",
+    }
+}
+
 fn push_members<'a>(rt: &impl Abort, shown: &mut Vec<Shown<'a>>, tables: &'a Tables) {
     for won in &tables.members().expect(rt, "members") {
         let key = won.key.as_str();
         assert!(rt; tables.member(won.key) == Some((*won.dot, won.value)));
-        push(rt, shown, "member", key, won.dot, won.value.label.as_str());
+        let table = table_of(won.value);
+        push(rt, shown, table, key, won.dot, won.value.label.as_str());
         for lost in &tables.member_losers(won.key).expect(rt, "losers") {
             push(rt, shown, "loser", key, lost.dot, lost.value.label.as_str());
         }
@@ -68,7 +77,7 @@ fn push_row<'a>(rt: &impl Abort, shown: &mut Vec<Shown<'a>>, row: &'a Row) {
             push(
                 rt,
                 shown,
-                "member",
+                table_of(info),
                 m.as_str(),
                 &row.dot,
                 info.label.as_str(),
@@ -114,7 +123,7 @@ pub(crate) fn expect_rows(rt: &(impl Abort + AllocGlobal), tables: &Tables, want
 
 fn push_lent<'a>(rt: &impl Abort, shown: &mut Vec<Shown<'a>>, row: &LentRow<'a>) {
     let (table, key, value) = match row.entry {
-        LentEntry::Member(m, info) => ("member", m.as_str(), info.label.as_str()),
+        LentEntry::Member(m, info) => (table_of(info), m.as_str(), info.label.as_str()),
         LentEntry::Child(id, spec) => ("child", id.as_str(), spec.kind.as_str()),
         LentEntry::Name(name, id) => ("name", name.as_str(), id.as_str()),
     };
