@@ -17,10 +17,10 @@ own=$crate/out/sup_wire_times
 image() {
   awk -v count="$1" 'BEGIN {
     printf "{\"boot\":1,\"count\":2,\"ctx\":{\"cloud\":[],\"vector\":{\"a\":1,\"b\":%d}},\"kind\":\"image\",\"node\":\"a\",", count
-    printf "\"rows\":[[\"member\",\"a\",[\"a\",1],{\"label\":\"\"}]"
+    printf "\"rows\":[[\"member\",\"a\",[\"a\",1],{\"label\":\"\",\"status\":\"open\"}]"
     for (k = 1; k <= count; k++)
       printf ",[\"child\",\"child-%05d\",[\"b\",%d],{\"arg\":\"\",\"kind\":\"worker\",\"restart\":\"permanent\",\"shutdown\":5000}]", k, k
-    printf "],\"v\":1}"
+    printf "],\"v\":2}"
   }'
 }
 

@@ -27,8 +27,8 @@ fn joined(rt: &(impl Abort + AllocGlobal), parts: &[&str]) -> String {
     text
 }
 
-// A push from a to b with this context and these rows.
-fn push(rt: &(impl Abort + AllocGlobal), context: &str, rows: &str) -> String {
+// A push of a version, from a to b, with this context and these rows.
+fn push_in(rt: &(impl Abort + AllocGlobal), version: &str, context: &str, rows: &str) -> String {
     joined(
         rt,
         &[
@@ -36,9 +36,15 @@ fn push(rt: &(impl Abort + AllocGlobal), context: &str, rows: &str) -> String {
             context,
             ",\"from\":\"a\",\"kind\":\"push\",\"rows\":",
             rows,
-            ",\"to\":\"b\",\"v\":1}",
+            ",\"to\":\"b\",\"v\":",
+            version,
+            "}",
         ],
     )
+}
+
+fn push(rt: &(impl Abort + AllocGlobal), context: &str, rows: &str) -> String {
+    push_in(rt, "1", context, rows)
 }
 
 const NO_JSON: [&str; 7] = [
@@ -75,9 +81,11 @@ fn a_value_nested_127_deep_is_read_and_one_of_128_is_not(rt: HostRuntime) {
     assert!(rt; fault(&rt, &nested(&rt, 128)) == Some(WireFault::NotJson));
 }
 
-const NO_MESSAGES: [&str; 18] = [
+const NO_MESSAGES: [&str; 20] = [
     "[]",
     "{}",
+    "{\"v\":2}",
+    "{\"from\":\"b\",\"kind\":\"ack\",\"n\":0,\"to\":\"a\",\"v\":2}",
     "{\"from\":\"b\",\"kind\":\"ack\",\"n\":0,\"to\":\"a\",\"v\":1}",
     "{\"from\":\"b\",\"kind\":\"ack\",\"n\":1.0,\"to\":\"a\",\"v\":1}",
     "{\"from\":\"b\",\"kind\":\"ack\",\"n\":-0,\"to\":\"a\",\"v\":1}",
@@ -101,10 +109,11 @@ fn values_that_are_no_message_are_told_so(rt: HostRuntime) {
     expect_faults(&rt, &NO_MESSAGES, WireFault::NotMessage);
 }
 
-const OTHER_VERSIONS: [&str; 3] = [
+const OTHER_VERSIONS: [&str; 4] = [
     "{\"v\":9}",
     "{\"v\":0}",
-    "{\"from\":\"b\",\"kind\":\"ack\",\"n\":0,\"to\":\"b\",\"v\":2}",
+    "{\"v\":18446744073709551615}",
+    "{\"from\":\"b\",\"kind\":\"ack\",\"n\":0,\"to\":\"b\",\"v\":3}",
 ];
 
 #[test]
@@ -112,8 +121,10 @@ fn a_version_that_is_not_read_is_told_before_any_form(rt: HostRuntime) {
     expect_faults(&rt, &OTHER_VERSIONS, WireFault::BadVersion);
 }
 
-const ACKS: [&str; 4] = [
+const ACKS: [&str; 6] = [
     ACK,
+    "{\"from\":\"b\",\"kind\":\"ack\",\"n\":1,\"to\":\"a\",\"v\":1}",
+    "{\"v\":2,\"to\":\"a\",\"n\":1,\"kind\":\"ack\",\"from\":\"b\"}\n",
     "{ \"from\":\"b\",\"kind\":\"ack\",\"n\":1,\"to\":\"a\",\"v\":1}",
     "{\"v\":1,\"to\":\"a\",\"n\":1,\"kind\":\"ack\",\"from\":\"b\"}\n",
     "{\"from\":\"c\",\"from\":\"b\",\"kind\":\"ack\",\"n\":1,\"to\":\"a\",\"v\":1}",
@@ -208,6 +219,53 @@ fn rows_keep_their_forms(rt: HostRuntime) {
         expect_rows(&rt, MEMBER, second, Some(WireFault::NotMessage));
     }
     expect_rows(&rt, MEMBER, CHILD, None);
+}
+
+// Expects a push of a version with this row to be refused with this fault, or read.
+fn expect_row(
+    rt: &(impl Abort + AllocGlobal),
+    version: &str,
+    row: &str,
+    wanted: Option<WireFault>,
+) {
+    let rows = joined(rt, &["[", row, "]"]);
+    let context = "{\"cloud\":[],\"vector\":{\"a\":1}}";
+    let text = push_in(rt, version, context, rows.as_str());
+    expect_fault(rt, text.as_str(), wanted)
+}
+
+const MEMBERS: [&str; 3] = [
+    "[\"member\",\"m\",[\"a\",1],{\"label\":\"\",\"status\":\"open\"}]",
+    "[\"member\",\"m\",[\"a\",1],{\"label\":\"x\",\"status\":\"draining\"}]",
+    "[\"member\",\"m\",[\"a\",1],{\"status\":\"open\",\"label\":\"\"}]",
+];
+
+#[test]
+fn a_row_of_the_other_version_is_no_row(rt: HostRuntime) {
+    let misformed = Some(WireFault::NotMessage);
+    expect_row(&rt, "1", MEMBER, None);
+    expect_row(&rt, "2", MEMBER, misformed);
+    for row in &MEMBERS {
+        expect_row(&rt, "1", row, misformed);
+        expect_row(&rt, "2", row, None);
+    }
+}
+
+const NO_MEMBERS: [&str; 7] = [
+    "[\"member\",\"m\",[\"a\",1],{\"label\":\"\",\"status\":\"closed\"}]",
+    "[\"member\",\"m\",[\"a\",1],{\"label\":\"\",\"status\":\"Open\"}]",
+    "[\"member\",\"m\",[\"a\",1],{\"label\":\"\",\"status\":\"\"}]",
+    "[\"member\",\"m\",[\"a\",1],{\"label\":\"\",\"status\":0}]",
+    "[\"member\",\"m\",[\"a\",1],{\"label\":\"\",\"status\":null}]",
+    "[\"member\",\"m\",[\"a\",1],{\"status\":\"open\"}]",
+    "[\"member\",\"m\",[\"a\",1],{\"label\":\"\",\"node\":\"m\",\"status\":\"open\"}]",
+];
+
+#[test]
+fn a_status_is_open_or_draining_and_stands_beside_its_label(rt: HostRuntime) {
+    for row in &NO_MEMBERS {
+        expect_row(&rt, "2", row, Some(WireFault::NotMessage));
+    }
 }
 
 // The deltas of a member with a child and of its replacement, but for the order.

@@ -1,6 +1,10 @@
 //! Messages that are made by hand, and texts that come back as they were read.
-use crate::given::{ACK, ACK_OF_JOINED, ACK_OF_REMOVED, DELTA, JOINED, REMOVED, REPLACED, STARTED};
-use crate::made::{ack, first_sent, joined_sent, removed_sent, replaced_sent, second_sent};
+use crate::given::{
+    ACK, ACK_OF_JOINED, ACK_OF_REMOVED, DELTA, DRAINED, JOINED, REMOVED, REPLACED, STARTED,
+};
+use crate::made::{
+    ack, drained_sent, first_sent, joined_sent, removed_sent, replaced_sent, second_sent,
+};
 use std::process::Abort;
 use sup_wire::{Message, decode, encode};
 
@@ -31,18 +35,25 @@ fn the_messages_of_two_deltas_in_turn_have_one_text(rt: HostRuntime) {
     expect_text(&rt, second_sent(&rt), DELTA);
 }
 
-const TEXTS: [&str; 11] = [
+#[test]
+fn the_message_of_a_drain_has_one_text(rt: HostRuntime) {
+    expect_text(&rt, drained_sent(&rt), DRAINED);
+}
+
+const TEXTS: [&str; 13] = [
     ACK,
     DELTA,
+    DRAINED,
     STARTED,
     JOINED,
     REMOVED,
     REPLACED,
     ACK_OF_JOINED,
     ACK_OF_REMOVED,
-    "{\"ctx\":{\"cloud\":[[\"b\",2],[\"a\",4]],\"vector\":{\"a\":2,\"c\":1}},\"from\":\"a\",\"kind\":\"push\",\"rows\":[],\"to\":\"b\",\"v\":1}",
-    "{\"ctx\":{\"cloud\":[],\"vector\":{\"a\":1}},\"from\":\"a\",\"kind\":\"push\",\"rows\":[[\"member\",\"a\",[\"a\",1],{\"label\":\"\\\"q\\\\\"}]],\"to\":\"b\",\"v\":1}",
-    "{\"ctx\":{\"cloud\":[],\"vector\":{\"a\":2}},\"from\":\"a\",\"kind\":\"delta\",\"n\":9007199254740991,\"rows\":[[\"child\",\"x\",[\"a\",2],{\"arg\":\"z\",\"kind\":\"k\",\"restart\":\"temporary\",\"shutdown\":\"brutal_kill\"}],[\"name\",\"n\",[\"a\",1],\"x\"]],\"to\":\"b\",\"v\":1}",
+    "{\"ctx\":{\"cloud\":[[\"b\",2],[\"a\",4]],\"vector\":{\"a\":2,\"c\":1}},\"from\":\"a\",\"kind\":\"push\",\"rows\":[],\"to\":\"b\",\"v\":2}",
+    "{\"ctx\":{\"cloud\":[],\"vector\":{\"a\":1}},\"from\":\"a\",\"kind\":\"push\",\"rows\":[[\"member\",\"a\",[\"a\",1],{\"label\":\"\\\"q\\\\\",\"status\":\"open\"}]],\"to\":\"b\",\"v\":2}",
+    "{\"ctx\":{\"cloud\":[],\"vector\":{\"a\":2}},\"from\":\"a\",\"kind\":\"delta\",\"n\":9007199254740991,\"rows\":[[\"child\",\"x\",[\"a\",2],{\"arg\":\"z\",\"kind\":\"k\",\"restart\":\"temporary\",\"shutdown\":\"brutal_kill\"}],[\"name\",\"n\",[\"a\",1],\"x\"]],\"to\":\"b\",\"v\":2}",
+    "{\"ctx\":{\"cloud\":[[\"b\",3]],\"vector\":{\"a\":1}},\"from\":\"a\",\"kind\":\"push\",\"rows\":[[\"member\",\"a\",[\"a\",1],{\"label\":\"x\",\"status\":\"draining\"}],[\"member\",\"a\",[\"b\",3],{\"label\":\"x\",\"status\":\"open\"}]],\"to\":\"b\",\"v\":2}",
 ];
 
 fn expect_same(rt: &(impl Abort + AllocGlobal), text: &str) {

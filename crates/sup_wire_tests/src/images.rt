@@ -1,5 +1,5 @@
 //! Images.
-use crate::given::{ACK, DELTA, IMAGE, OPENING};
+use crate::given::{ACK, DELTA, IMAGE, OLD_IMAGE, OPENING};
 use crate::made::{joined_kept, opening};
 use std::process::Abort;
 use sup_wire::{WireFault, decode_image, encode_image};
@@ -18,16 +18,38 @@ fn the_image_of_a_member_with_a_child_has_one_text(rt: HostRuntime) {
     assert!(rt; text.as_slice() == IMAGE.as_bytes());
 }
 
-fn expect_same(rt: &(impl Abort + AllocGlobal), text: &str) {
+fn expect_written(rt: &(impl Abort + AllocGlobal), text: &str, wanted: &str) {
     let image = decode_image(rt.alloc(), text.as_bytes()).expect(rt, text);
     let written = encode_image(rt.alloc(), &image).expect(rt, "room");
-    assert!(rt; written.as_slice() == text.as_bytes(), "{text}");
+    assert!(rt; written.as_slice() == wanted.as_bytes(), "{text}");
 }
+
+const DRAINING: &str =
+    "{\"boot\":1,\"count\":2,\"ctx\":{\"cloud\":[],\"vector\":{\"a\":2}},\"kind\":\"image\",\"node\":\"a\",\"rows\":[[\"member\",\"a\",[\"a\",2],{\"label\":\"\",\"status\":\"draining\"}]],\"v\":2}";
+
+const OLD_OPENING: &str =
+    "{\"boot\":1,\"count\":0,\"ctx\":{\"cloud\":[],\"vector\":{}},\"kind\":\"image\",\"node\":\"a\",\"rows\":[],\"v\":1}";
+
+// A member whose winner is open, and who has a loser.
+const OLD_LOSER: &str =
+    "{\"boot\":1,\"count\":2,\"ctx\":{\"cloud\":[],\"vector\":{\"a\":2}},\"kind\":\"image\",\"node\":\"a\",\"rows\":[[\"member\",\"a\",[\"a\",1],{\"label\":\"\"}],[\"member\",\"a\",[\"a\",2],{\"label\":\"x\"}]],\"v\":1}";
+
+const LOSER: &str =
+    "{\"boot\":1,\"count\":2,\"ctx\":{\"cloud\":[],\"vector\":{\"a\":2}},\"kind\":\"image\",\"node\":\"a\",\"rows\":[[\"member\",\"a\",[\"a\",1],{\"label\":\"\",\"status\":\"open\"}],[\"member\",\"a\",[\"a\",2],{\"label\":\"x\",\"status\":\"open\"}]],\"v\":2}";
 
 #[test]
 fn each_image_is_written_as_it_was_read(rt: HostRuntime) {
-    expect_same(&rt, OPENING);
-    expect_same(&rt, IMAGE);
+    expect_written(&rt, OPENING, OPENING);
+    expect_written(&rt, IMAGE, IMAGE);
+    expect_written(&rt, DRAINING, DRAINING);
+}
+
+// What is read of version 1 is written in version 2, where each of its members is open.
+#[test]
+fn both_versions_of_one_open_image_are_read_alike(rt: HostRuntime) {
+    expect_written(&rt, OLD_OPENING, OPENING);
+    expect_written(&rt, OLD_IMAGE, IMAGE);
+    expect_written(&rt, OLD_LOSER, LOSER);
 }
 
 fn expect_fault(rt: &(impl Abort + AllocGlobal), text: &str, wanted: WireFault) {
@@ -45,7 +67,20 @@ const NO_IMAGES: [&str; 4] = [
 ];
 
 const OTHER_VERSION: &str =
-    "{\"boot\":1,\"count\":0,\"ctx\":{\"cloud\":[],\"vector\":{}},\"kind\":\"image\",\"node\":\"a\",\"rows\":[],\"v\":2}";
+    "{\"boot\":1,\"count\":0,\"ctx\":{\"cloud\":[],\"vector\":{}},\"kind\":\"image\",\"node\":\"a\",\"rows\":[],\"v\":3}";
+
+// The image with the version of the other one's rows.
+const MIXED: [&str; 2] = [
+    "{\"boot\":1,\"count\":2,\"ctx\":{\"cloud\":[],\"vector\":{\"a\":2}},\"kind\":\"image\",\"node\":\"a\",\"rows\":[[\"member\",\"a\",[\"a\",1],{\"label\":\"\",\"status\":\"open\"}],[\"child\",\"web\",[\"a\",2],{\"arg\":\"\",\"kind\":\"worker\",\"restart\":\"permanent\",\"shutdown\":5000}]],\"v\":1}",
+    "{\"boot\":1,\"count\":2,\"ctx\":{\"cloud\":[],\"vector\":{\"a\":2}},\"kind\":\"image\",\"node\":\"a\",\"rows\":[[\"member\",\"a\",[\"a\",1],{\"label\":\"\"}],[\"child\",\"web\",[\"a\",2],{\"arg\":\"\",\"kind\":\"worker\",\"restart\":\"permanent\",\"shutdown\":5000}]],\"v\":2}",
+];
+
+#[test]
+fn an_image_whose_rows_are_of_the_other_version_is_refused(rt: HostRuntime) {
+    for text in &MIXED {
+        expect_fault(&rt, text, WireFault::NotMessage);
+    }
+}
 
 const BACKWARDS: &str =
     "{\"boot\":1,\"count\":2,\"ctx\":{\"cloud\":[],\"vector\":{\"a\":2}},\"kind\":\"image\",\"node\":\"a\",\"rows\":[[\"child\",\"web\",[\"a\",2],{\"arg\":\"\",\"kind\":\"worker\",\"restart\":\"permanent\",\"shutdown\":5000}],[\"member\",\"a\",[\"a\",1],{\"label\":\"\"}]],\"v\":1}";

@@ -63,6 +63,19 @@ pub(crate) fn replaced_sent(rt: &(impl Abort + AllocGlobal)) -> Option<Message> 
     })
 }
 
+// Node b has joined, and drained the member that it took in.
+pub(crate) fn drained_sent(rt: &(impl Abort + AllocGlobal)) -> Option<Message> {
+    let state = joined(rt)?;
+    let (joined, _) = state.put_member(node(rt, "b"), try_unlabelled(rt)?).ok()?;
+    let all = state.joined(rt.alloc(), &joined).ok()?;
+    let (drained, _, _) = all.drain_member(node(rt, "b"), &node(rt, "a")).ok()?;
+    Some(Message::Push {
+        from: node(rt, "b"),
+        to: node(rt, "a"),
+        delta: drained,
+    })
+}
+
 pub(crate) fn first_sent(rt: &(impl Abort + AllocGlobal)) -> Option<Message> {
     let first = start(rt, &Tables::empty(rt.alloc()), "x")?;
     Some(delta(rt, "a", 1, "b", first))

@@ -1,6 +1,7 @@
 //! Texts that are cut short.
 use crate::given::{
-    ACK, ACK_OF_JOINED, ACK_OF_REMOVED, DELTA, IMAGE, JOINED, OPENING, REMOVED, REPLACED, STARTED,
+    ACK, ACK_OF_JOINED, ACK_OF_REMOVED, DELTA, DRAINED, IMAGE, JOINED, OLD_IMAGE, OPENING, REMOVED,
+    REPLACED, STARTED,
 };
 use std::process::Abort;
 use sup_wire::{decode, decode_image};
@@ -17,9 +18,10 @@ fn expect_no_image(rt: &(impl Abort + AllocGlobal), text: &[u8]) {
     );
 }
 
-const MESSAGES: [&str; 8] = [
+const MESSAGES: [&str; 9] = [
     ACK,
     DELTA,
+    DRAINED,
     STARTED,
     JOINED,
     REMOVED,
@@ -48,4 +50,5 @@ fn expect_no_front(rt: &(impl Abort + AllocGlobal), bytes: &[u8]) {
 fn no_front_of_an_image_is_an_image(rt: HostRuntime) {
     expect_no_front(&rt, OPENING.as_bytes());
     expect_no_front(&rt, IMAGE.as_bytes());
+    expect_no_front(&rt, OLD_IMAGE.as_bytes());
 }

@@ -1,9 +1,11 @@
 //! A story that goes on where a growth was refused: the call answers so, and made once more it gives the right answer.
 use crate::given::{
-    ACK, ACK_OF_JOINED, ACK_OF_REMOVED, DELTA, IMAGE, JOINED, OPENING, REMOVED, REPLACED, STARTED,
+    ACK, ACK_OF_JOINED, ACK_OF_REMOVED, DELTA, DRAINED, IMAGE, JOINED, OPENING, REMOVED, REPLACED,
+    STARTED,
 };
 use crate::made::{
-    ack, first_sent, joined_kept, joined_sent, opening, removed_sent, replaced_sent, second_sent,
+    ack, drained_sent, first_sent, joined_kept, joined_sent, opening, removed_sent, replaced_sent,
+    second_sent,
 };
 use std::process::Abort;
 use sup_wire::{Image, Message, WireFault, decode, decode_image, encode, encode_image};
@@ -70,6 +72,7 @@ enum Sent {
     Joined,
     Removed,
     Replaced,
+    Drained,
     First,
     Second,
 }
@@ -79,6 +82,7 @@ fn make(rt: &(impl Abort + AllocGlobal), which: Sent) -> Option<Message> {
         Sent::Joined => joined_sent(rt),
         Sent::Removed => removed_sent(rt),
         Sent::Replaced => replaced_sent(rt),
+        Sent::Drained => drained_sent(rt),
         Sent::First => first_sent(rt),
         Sent::Second => second_sent(rt),
     }
@@ -104,6 +108,7 @@ fn a_refused_text_of_a_message_is_written_or_read_when_asked_again(rt: HostRunti
     expect_sent(&rt, Sent::Joined, JOINED);
     expect_sent(&rt, Sent::Removed, REMOVED);
     expect_sent(&rt, Sent::Replaced, REPLACED);
+    expect_sent(&rt, Sent::Drained, DRAINED);
     expect_sent(&rt, Sent::First, STARTED);
     expect_sent(&rt, Sent::Second, DELTA);
     expect_ack(&rt, ("b", 1, "a"), ACK);
