@@ -1,3 +1,4 @@
 pub mod Place
 pub mod Weights
 pub mod Moves
+pub mod Assigned

@@ -2,7 +2,8 @@
 //!
 //! Each node answers for itself, with no table and no message: nodes that know the same members
 //! place each child alike, and few children move when members come and go. It knows of members only
-//! their names, and takes no memory.
+//! their names, and takes no memory. Who wants the places of many children again and again keeps them
+//! in an `Assignment`.
 //!
 //! ```rust
 //! use sup_placement::{Sha256Weigh, place};
@@ -14,11 +15,13 @@
 //! ```
 #![tactic(auto)]
 
+pub mod assignment;
 pub mod laws;
 pub mod rendezvous;
 pub mod weigh;
 pub mod weighers;
 
+pub use assignment::Assignment;
 pub use rendezvous::place;
 pub use weigh::Weigh;
 pub use weighers::{FlatWeigh, Sha256Weigh};
