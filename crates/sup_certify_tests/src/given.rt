@@ -42,6 +42,11 @@ fn empty(rt: &(impl Abort + AllocGlobal)) -> Text {
     Text::parse(rt.alloc(), "").expect(rt, "an empty text")
 }
 
+/// The member is drained.
+pub(crate) fn drain(rt: &impl Abort, member: &str) -> Act {
+    Act::Event(Event::Drain(node(rt, member)))
+}
+
 /// The start of a permanent worker that has 5000 milliseconds to end.
 pub(crate) fn start(rt: &(impl Abort + AllocGlobal), id: &str) -> Act {
     let spec = ChildSpec {

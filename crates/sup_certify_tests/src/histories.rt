@@ -2,7 +2,7 @@
 ghost use Rattle.std.specs.Prelude.{◌≡◌};
 ghost use Rattle.sup_node_gate.specs.Gates.{IsOf};
 
-use crate::given::{Caller, Gate, comes, gate, join, ship, start};
+use crate::given::{Caller, Gate, comes, drain, gate, join, ship, start};
 use std::process::Abort;
 use sup_node_gate::Entry;
 use sup_placement::FlatWeigh;
@@ -60,6 +60,18 @@ pub(crate) fn lost_and_doubled(rt: &(impl Abort + AllocGlobal)) -> (Vec<Entry>, 
 pub(crate) fn joined(rt: &(impl Abort + AllocGlobal), name: &str) -> Vec<Entry> {
     let (at, mut pass) = gate(rt, name);
     done(rt, &at, &mut pass, join(rt));
+    closed(rt, at, pass)
+}
+
+/// The history of a node that joins and is drained, once more in vain.
+pub(crate) fn drained(rt: &(impl Abort + AllocGlobal), name: &str) -> Vec<Entry> {
+    let (at, mut pass) = gate(rt, name);
+    done(rt, &at, &mut pass, join(rt));
+    done(rt, &at, &mut pass, drain(rt, name));
+    match at.try_call(&mut pass, drain(rt, name), 0, &FlatWeigh) {
+        Ok(Err(_)) => {}
+        _ => panic!(rt; "it is not drained"),
+    }
     closed(rt, at, pass)
 }
 

@@ -1,11 +1,12 @@
 //! Histories that make a run.
 use crate::given::{child, histories, node, plan};
-use crate::histories::{disturbed, joined, lost_and_doubled};
+use crate::histories::{disturbed, drained, joined, lost_and_doubled};
 use std::process::Abort;
 use sup_certify::{Run, certify};
 use sup_model::Step;
 use sup_placement::FlatWeigh;
 use sup_plan::{Histories, Plan};
+use sup_specs::Status;
 
 fn certified(
     rt: &(impl Abort + AllocGlobal),
@@ -53,6 +54,23 @@ fn bytes_that_are_no_message_come_as_raw_bytes(rt: HostRuntime) {
     let run = certified(&rt, &plan(&rt, "a", "b"), &both);
     assert!(rt; run.steps.len() == 3);
     assert!(rt; arrivals(run.steps.as_slice()) == (0, 1));
+}
+
+#[test]
+fn a_node_that_is_drained_makes_a_run(rt: HostRuntime) {
+    let both = histories(&rt, ("a", drained(&rt, "a")), ("b", joined(&rt, "b")));
+    let run = certified(&rt, &plan(&rt, "a", "b"), &both);
+    assert!(rt; run.steps.len() == 4);
+    let Some(station) = run.world.station(&node(&rt, "a")) else {
+        panic!(rt; "no such node")
+    };
+    let Some(at_a) = station.node() else {
+        panic!(rt; "the node is stopped")
+    };
+    let Some((_, info)) = at_a.tables().member(&node(&rt, "a")) else {
+        panic!(rt; "no member")
+    };
+    assert!(rt; info.status == Status::Draining);
 }
 
 #[test]

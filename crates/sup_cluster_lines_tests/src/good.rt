@@ -62,6 +62,24 @@ fn commands_are_read_in_their_order_with_their_moments(rt: HostRuntime) {
     assert!(rt; told(&script.commands[3]) == (b, 0, 4));
 }
 
+// Which member is drained.
+fn drained(rt: &impl Abort, command: &Command) -> NodeName {
+    match &command.act {
+        Act::Event(Event::Drain(member)) => *member,
+        _ => panic!(rt; "no drain"),
+    }
+}
+
+#[test]
+fn a_drain_is_a_command_like_the_others(rt: HostRuntime) {
+    let script = read(&rt, "nodes a b\ndrain a b\ndrain b z @3\n");
+    assert!(rt; script.commands.len() == 2);
+    assert!(rt; drained(&rt, &script.commands[0]) == name(&rt, "b"));
+    assert!(rt; drained(&rt, &script.commands[1]) == name(&rt, "z"));
+    assert!(rt; script.commands[1].node == name(&rt, "b"));
+    assert!(rt; script.commands[1].now == 3);
+}
+
 #[test]
 fn an_exit_is_a_command_like_the_others(rt: HostRuntime) {
     let script = read(&rt, "nodes a b\nexit a x 1.1 crash\n");

@@ -17,7 +17,7 @@ use Rattle.sup_tables.specs.Makers.{drop_member, finish_child}
 use Rattle.sup_local_sup.specs.declared.effect.Effect.{Effect}
 use Rattle.sup_local_sup.specs.Supervising.{Supervisor, with_all, forgotten, wanted_after, wanted_effects, others}
 use Rattle.sup_replica.specs.declared.event.Event.{Event}
-use Rattle.sup_replica.specs.declared.event.Event.TheVariants.{Join, Leave, Start, Replace, Delete, Register, Unregister, Exit, Ship, Push, Deliver}
+use Rattle.sup_replica.specs.declared.event.Event.TheVariants.{Join, Leave, Drain, Start, Replace, Delete, Register, Unregister, Exit, Ship, Push, Deliver}
 use Rattle.sup_replica.specs.declared.event.Act.TheVariants.{Event as Of, Stop, Restart}
 use Rattle.sup_replica.specs.declared.event.Act.{Act as Deed}
 use Rattle.sup_replica.specs.declared.done.Reply.{Reply}
@@ -208,6 +208,7 @@ module _ {K : Type 0} (k : Knowledge K) (view : View K) (laws : Laws k view) whe
   event_moved : (s : Weigher) (n : Node K) (e : Event) (now : ℕ) → IsOwn e → After (Moved n) (up_step k s n e now)
   event_moved s n (Join info) now own = command_moved s n _ _
   event_moved s n (Leave m) now own = command_moved s n _ _
+  event_moved s n (Drain m) now own = command_moved s n _ _
   event_moved s n (Start id spec) now own = command_moved s n _ _
   event_moved s n (Replace id spec) now own = command_moved s n _ _
   event_moved s n (Delete id) now own = command_moved s n _ _

@@ -27,7 +27,7 @@ use Rattle.sup_tables.proofs.OneOperationLaws.{row_of_option}
 use Rattle.sup_local_sup.specs.declared.effect.Effect.{Effect}
 use Rattle.sup_local_sup.specs.Supervising.{Supervisor, with_all, forgotten, wanted_after, wanted_effects, others}
 use Rattle.sup_replica.specs.declared.event.Event.{Event}
-use Rattle.sup_replica.specs.declared.event.Event.TheVariants.{Join, Leave, Start, Replace, Delete, Register, Unregister, Exit, Ship, Push, Deliver}
+use Rattle.sup_replica.specs.declared.event.Event.TheVariants.{Join, Leave, Drain, Start, Replace, Delete, Register, Unregister, Exit, Ship, Push, Deliver}
 use Rattle.sup_replica.specs.declared.event.Act.TheVariants.{Event as Of, Stop, Restart}
 use Rattle.sup_replica.specs.declared.event.Act.{Act}
 use Rattle.sup_replica.specs.declared.done.Reply.{Reply}
@@ -51,7 +51,7 @@ use Rattle.sup_anti_entropy.specs.Peers.{In}
 use Rattle.sup_anti_entropy.proofs.StepLaws.{in-last}
 use Rattle.sup_model.specs.Clean.{HasRow, ops_in}
 use Rattle.sup_model.proofs.TopLaws.{known-greatest}
-use Rattle.sup_model.proofs.IssueLaws.{Issued, Adds, IsTop, join_issued, leave_issued, start_issued, replace_issued, delete_issued, register_issued, unregister_issued, removing_issued, added-greatest, reading_top}
+use Rattle.sup_model.proofs.IssueLaws.{Issued, Adds, IsTop, join_issued, leave_issued, drain_issued, start_issued, replace_issued, delete_issued, register_issued, unregister_issued, removing_issued, added-greatest, reading_top}
 
 abbrev pub letter_ops : Option (Message Ops) → Ops
 letter_ops None = []
@@ -158,6 +158,7 @@ push_take P n h to (Some own) o = only_take P n (only n Sent [] (Some (record { 
 event_take : (P : Row → Type 0) (s : Weigher) (n : Node Ops) → Has P n → (e : Event) (now : ℕ) → After (Takes P n) (up_step by_operations s n e now)
 event_take P s n h (Join info) now = adds_take P s n h _ _ (λ op d e. one_dot d _ e) (join_issued (reading by_operations n) info)
 event_take P s n h (Leave m) now = removes_take P s n h _ (leave_issued (reading by_operations n) m)
+event_take P s n h (Drain m) now = adds_take P s n h _ _ (λ op d e. one_dot d _ e) (drain_issued (reading by_operations n) m (reading_top n))
 event_take P s n h (Start id spec) now = adds_take P s n h _ _ (λ op d e. one_dot d _ e) (start_issued (reading by_operations n) id spec)
 event_take P s n h (Replace id spec) now = adds_take P s n h _ _ (λ op d e. one_dot d _ e) (replace_issued (reading by_operations n) id spec (reading_top n))
 event_take P s n h (Delete id) now = removes_take P s n h _ (delete_issued (reading by_operations n) id)

@@ -1,5 +1,5 @@
 -- What an issued operation adds, if anything, is under the next dot of its node, which it doesn't name.
-use Rattle.std.specs.Prelude.{◌≡◌, ℕ, ◌+◌, ◌≤◌, ◌<◌, Bool, true, false, cond, not, ◌||◌, ◌&&◌, List, [], ◌∷◌, ◌++◌, map, filter, refl, Option, Some, None, Result, Ok, Err, length, nat_le}
+use Rattle.std.specs.Prelude.{◌≡◌, ℕ, ◌+◌, ◌≤◌, ◌<◌, Bool, true, false, cond, not, ◌||◌, ◌&&◌, List, [], ◌∷◌, ◌++◌, map, filter, refl, Option, Some, None, is_some, Result, Ok, Err, length, nat_le}
 use Rattle.std.specs.List.{list_any, list_all, cons_option}
 use Rattle.std.specs.Ordering.{eq_by_cmp}
 use Rattle.std.proofs.Common.{sym, ap, ◌∙◌, subst, arith}
@@ -7,6 +7,7 @@ use Rattle.std.proofs.lemmas.Option.{none-some}
 use mathlib.Core.Bool.{true≢false}
 use Rattle.sup_specs.specs.declared.child.ChildSpec.{ChildSpec}
 use Rattle.sup_specs.specs.declared.child.MemberInfo.{MemberInfo}
+use Rattle.sup_specs.specs.declared.child.Status.TheVariants.{Open}
 use Rattle.sup_specs.specs.Values.{Bytes, text_cmp}
 use Rattle.sup_specs.specs.Rising.{rising, among}
 use Rattle.sup_specs.proofs.RisingLaws.{among-rising}
@@ -16,17 +17,17 @@ use Rattle.sup_causal.proofs.DotLemmas.{dot_eq-true}
 use Rattle.sup_tables.specs.declared.row.Row.{Row}
 use Rattle.sup_tables.specs.Rows.{Table, members, children, names, row_cmp, is_at}
 use Rattle.sup_tables.specs.Operations.{Operation, known, named, added, live, greatest}
-use Rattle.sup_tables.specs.Readers.{is_present, live_dots, entries}
-use Rattle.sup_tables.specs.Makers.{put_member, drop_member, put_child, replace_child, drop_child, put_name, drop_name, finish_child, removing}
+use Rattle.sup_tables.specs.Readers.{is_present, winner, live_dots, entries}
+use Rattle.sup_tables.specs.Makers.{put_member, drop_member, drain_over, put_child, replace_child, drop_child, put_name, drop_name, finish_child, removing}
 use Rattle.sup_tables.specs.RowLaws.{row_total, row_tie}
 use Rattle.sup_tables.proofs.AddLaws.{known_of_added, row_itself}
 use Rattle.sup_tables.proofs.CoverLaws.{live-parts}
 use Rattle.sup_replica.specs.declared.refusal.Refusal.{Refusal}
-use Rattle.sup_replica.specs.declared.refusal.Refusal.TheVariants.{AlreadyPresent, NotFound, AlreadyMember, NotMember, NameTaken, NoSuchChild, NameUnknown, DotsSpent, TableFull}
+use Rattle.sup_replica.specs.declared.refusal.Refusal.TheVariants.{AlreadyPresent, NotFound, AlreadyMember, NotMember, NameTaken, NoSuchChild, NameUnknown, DotsSpent, TableFull, AlreadyDraining}
 use Rattle.sup_replica.specs.Checks.{refused_if, then_do}
 use Rattle.sup_replica.specs.Nodes.{Node, by_operations}
 use Rattle.sup_replica.specs.Steps.{reading}
-use Rattle.sup_replica.specs.Commands.{Reading, next, is_full, is_spent, join, leave, start, replace, delete, register, unregister}
+use Rattle.sup_replica.specs.Commands.{Reading, next, is_full, is_spent, drains, join, leave, drain, start, replace, delete, register, unregister}
 use Rattle.sup_model.specs.Worlds.{Ops}
 use Rattle.sup_model.proofs.Afters.{After, after-refused_if}
 use Rattle.sup_model.specs.Laws.{IsOperation}
@@ -91,17 +92,29 @@ removes_only r op e = record { dot = λ y g. absurd (none-some y (sym e ∙ g));
 
 pub join_issued : (r : Reading) (label : Bytes) → After (Adds r) (join r label)
 join_issued r label =
-    let ok : Result Operation Refusal = Ok (put_member (next r) r.me (record { label = label })) in
+    let ok : Result Operation Refusal = Ok (put_member (next r) r.me (record { label = label; status = Open })) in
     let second = refused_if (is_spent r) DotsSpent ok in
     let first = refused_if (is_full r) TableFull second in
     after-refused_if (Adds r) (is_present r.rows members r.me) AlreadyMember first
     (after-refused_if (Adds r) (is_full r) TableFull second
-    (after-refused_if (Adds r) (is_spent r) DotsSpent ok (adds r (put_member (next r) r.me (record { label = label })) _ refl refl refl)))
+    (after-refused_if (Adds r) (is_spent r) DotsSpent ok (adds r (put_member (next r) r.me (record { label = label; status = Open })) _ refl refl refl)))
 
 pub leave_issued : (r : Reading) (m : Bytes) → After (Issued r) (leave r m)
 leave_issued r m =
     let ok : Result Operation Refusal = Ok (drop_member r.rows m) in
     after-refused_if (Issued r) (not (is_present r.rows members m)) NotMember ok (removes_only r (drop_member r.rows m) refl)
+
+-- by the winner, since where there is none nothing is added
+pub drain_issued : (r : Reading) (m : Bytes) → IsTop r → After (Adds r) (drain r m)
+drain_issued r m top = go (winner r.rows members m) where
+  go : (o : Option Row) → After (Adds r) (refused_if (not (is_some o)) NotMember (refused_if (drains o) AlreadyDraining (refused_if (is_spent r) DotsSpent (Ok (drain_over (next r) m (live_dots r.rows members m) o)))))
+  go None = tt
+  go (Some won) =
+      let op = drain_over (next r) m (live_dots r.rows members m) (Some won) in
+      let ok : Result Operation Refusal = Ok op in
+      let last = refused_if (is_spent r) DotsSpent ok in
+      after-refused_if (Adds r) (drains (Some won)) AlreadyDraining last
+      (after-refused_if (Adds r) (is_spent r) DotsSpent ok (adds r op _ refl refl (next_is_new r top members m)))
 
 pub start_issued : (r : Reading) (id : Bytes) (spec : ChildSpec) → After (Adds r) (start r id spec)
 start_issued r id spec =

@@ -25,7 +25,7 @@ use Rattle.sup_local_sup.specs.Planning.{ruling, left, restart_kept, restarted_w
 use Rattle.sup_local_sup.specs.Supervising.{Supervisor, renewed, with_all}
 use Rattle.sup_local_sup.proofs.KeptLaws.{none_more, none_less}
 use Rattle.sup_replica.specs.declared.event.Event.{Event}
-use Rattle.sup_replica.specs.declared.event.Event.TheVariants.{Join, Leave, Start, Replace, Delete, Register, Unregister, Exit, Ship, Push, Deliver}
+use Rattle.sup_replica.specs.declared.event.Event.TheVariants.{Join, Leave, Drain, Start, Replace, Delete, Register, Unregister, Exit, Ship, Push, Deliver}
 use Rattle.sup_replica.specs.declared.event.Act.TheVariants.{Event as Of, Stop, Restart}
 use Rattle.sup_replica.specs.declared.event.Act.{Act}
 use Rattle.sup_replica.specs.declared.done.Reply.{Reply}
@@ -133,6 +133,7 @@ push_good s n to (Some own) good = good
 event_good : (s : Weigher) (n : Node Ops) (e : Event) (now : ℕ) → Good s n → After (GoodOutcome s) (up_step by_operations s n e now)
 event_good s n (Join info) now good = command_good s n _ _
 event_good s n (Leave m) now good = command_good s n _ _
+event_good s n (Drain m) now good = command_good s n _ _
 event_good s n (Start id spec) now good = command_good s n _ _
 event_good s n (Replace id spec) now good = command_good s n _ _
 event_good s n (Delete id) now good = command_good s n _ _

@@ -19,7 +19,7 @@ use Rattle.sup_local_sup.specs.declared.leaving.Ruling.{Ruling}
 use Rattle.sup_local_sup.specs.declared.leaving.Ruling.TheVariants.{Stale, Restart as Again, Finish, GiveUp}
 use Rattle.sup_local_sup.specs.Planning.{ruling}
 use Rattle.sup_replica.specs.declared.event.Event.{Event}
-use Rattle.sup_replica.specs.declared.event.Event.TheVariants.{Join, Leave, Start, Replace, Delete, Register, Unregister, Exit, Ship, Push, Deliver}
+use Rattle.sup_replica.specs.declared.event.Event.TheVariants.{Join, Leave, Drain, Start, Replace, Delete, Register, Unregister, Exit, Ship, Push, Deliver}
 use Rattle.sup_replica.specs.declared.event.Act.{Act}
 use Rattle.sup_replica.specs.declared.event.Act.TheVariants.{Event as Of, Stop, Restart}
 use Rattle.sup_replica.specs.declared.done.Reply.{Reply}
@@ -38,7 +38,7 @@ use Rattle.sup_model.specs.Runs.{world_after, answer_of, Allows, Run, ops_at, is
 use Rattle.sup_model.specs.Headline.{NoDotTwice, RepliesTellDots}
 use Rattle.sup_model.specs.Clean.{Clean}
 use Rattle.sup_model.proofs.Afters.{After, after-refused_if, after-then_do, after-or_refused}
-use Rattle.sup_model.proofs.IssueLaws.{Adds, join_issued, start_issued, replace_issued, register_issued, reading_top}
+use Rattle.sup_model.proofs.IssueLaws.{Adds, join_issued, drain_issued, start_issued, replace_issued, register_issued, reading_top}
 use Rattle.sup_model.proofs.CleanLaws.{kept_by_after}
 use Rattle.sup_model.proofs.CleanWorld.{step_is_at, step_clean, new_clean, Apart, no_pairs, step_apart}
 use Rattle.sup_model.proofs.ExchangeLaws.{put_here}
@@ -89,6 +89,7 @@ push_grew n to (Some own) = only_grew n (only n Sent [] (Some (record { to = to;
 event_grew : (s : Weigher) (n : Node Ops) (e : Event) (now : ℕ) → After (Grew n) (up_step by_operations s n e now)
 event_grew s n (Join label) now = adds_grew s n _ _ (λ op. refl) (join_issued (reading by_operations n) label)
 event_grew s n (Leave m) now = removes_grew s n (not (is_present (live n.known) members m)) NotMember (drop_member (live n.known) m) refl
+event_grew s n (Drain m) now = adds_grew s n _ _ (λ op. refl) (drain_issued (reading by_operations n) m (reading_top n))
 event_grew s n (Start id spec) now = adds_grew s n _ _ (λ op. refl) (start_issued (reading by_operations n) id spec)
 event_grew s n (Replace id spec) now = adds_grew s n _ _ (λ op. refl) (replace_issued (reading by_operations n) id spec (reading_top n))
 event_grew s n (Delete id) now = removes_grew s n (not (is_present (live n.known) children id)) NotFound (drop_child (live n.known) id) refl

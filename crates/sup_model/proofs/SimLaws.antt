@@ -23,7 +23,7 @@ use Rattle.sup_tables.specs.Makers.{finish_child, drop_member, removing}
 use Rattle.sup_local_sup.specs.declared.effect.Effect.{Effect}
 use Rattle.sup_local_sup.specs.Supervising.{Supervisor, wanted_after, wanted_effects, with_all, forgotten, others}
 use Rattle.sup_replica.specs.declared.event.Event.{Event}
-use Rattle.sup_replica.specs.declared.event.Event.TheVariants.{Join, Leave, Start, Replace, Delete, Register, Unregister, Exit, Ship, Push, Deliver}
+use Rattle.sup_replica.specs.declared.event.Event.TheVariants.{Join, Leave, Drain, Start, Replace, Delete, Register, Unregister, Exit, Ship, Push, Deliver}
 use Rattle.sup_replica.specs.declared.event.Act.TheVariants.{Event as Of, Stop, Restart}
 use Rattle.sup_replica.specs.declared.event.Act.{Act}
 use Rattle.sup_replica.specs.declared.done.Reply.{Reply}
@@ -37,7 +37,7 @@ use Rattle.sup_model.specs.Worlds.{Ops}
 use Rattle.sup_replica.specs.Nodes.{Knowledge, Node, Kind, delta, push, ack, Message, Outcome, by_operations, is_named, wanted_at}
 use Rattle.sup_replica.specs.Nodes.{Told}
 use Rattle.sup_replica.specs.Steps.{wanted, reading, issues, command, exit_step, event_step, up_step, passes_greatest, with_own}
-use Rattle.sup_replica.specs.Commands.{Reading, next, join, leave, start, replace, delete, register, unregister}
+use Rattle.sup_replica.specs.Commands.{Reading, next, join, leave, drain, start, replace, delete, register, unregister}
 use Rattle.sup_replica.specs.Acts.{reconciled, stopped, booted, act_step, absorbs, takes, deliver, kept_by, answer_to, changes, keeps}
 use Rattle.sup_replica.specs.Steps.{only, push_step}
 use Rattle.sup_model.proofs.Afters.{After}
@@ -46,7 +46,7 @@ use Rattle.sup_model.specs.Laws.{View, Laws, Alike, IsOperation}
 use Rattle.sup_model.specs.Stands.{Together, BothOrNone, NodeStands, MessageStands, OutcomeStands, SupervisorStands}
 use Rattle.sup_model.proofs.TopLaws.{alike_of_Covers, Covers_of_alike}
 use Rattle.sup_tables.proofs.CoverTests.{Covers-from_test, test-from_Covers}
-use Rattle.sup_model.proofs.IssueLaws.{Issued, Adds, some_same, join_issued, leave_issued, start_issued, replace_issued, delete_issued, register_issued, unregister_issued, removing_issued, added-greatest, reading_top}
+use Rattle.sup_model.proofs.IssueLaws.{Issued, Adds, some_same, join_issued, leave_issued, drain_issued, start_issued, replace_issued, delete_issued, register_issued, unregister_issued, removing_issued, added-greatest, reading_top}
 use Rattle.sup_model.proofs.CleanLaws.{row-append, row-one}
 
 -- the two results of one check
@@ -202,6 +202,7 @@ module _ {K : Type 0} (k : Knowledge K) (view : View K) (laws : Laws k view) whe
   event_stands : (s : Weigher) (n : Node K) (m : Node Ops) → NodeStands view n m → NoClash m.known → (e : Event) (now : ℕ) → Together (OutcomeStands view) (up_step k s n e now) (up_step by_operations s m e now)
   event_stands s n m h clear (Join info) now = read_stands s n m h clear (λ r. join r info) (λ r op. Added (next r)) (adds_issued _ _ (join_issued (reading by_operations m) info))
   event_stands s n m h clear (Leave x) now = read_stands s n m h clear (λ r. leave r x) (λ r op. Removed op.removes) (leave_issued (reading by_operations m) x)
+  event_stands s n m h clear (Drain x) now = read_stands s n m h clear (λ r. drain r x) (λ r op. Replaced (next r) op.removes) (adds_issued _ _ (drain_issued (reading by_operations m) x (reading_top m)))
   event_stands s n m h clear (Start id spec) now = read_stands s n m h clear (λ r. start r id spec) (λ r op. Added (next r)) (adds_issued _ _ (start_issued (reading by_operations m) id spec))
   event_stands s n m h clear (Replace id spec) now =
       read_stands s n m h clear (λ r. replace r id spec) (λ r op. Replaced (next r) op.removes) (adds_issued _ _ (replace_issued (reading by_operations m) id spec (reading_top m)))

@@ -8,7 +8,7 @@ use Rattle.sup_specs.specs.Values.{Bytes}
 use Rattle.sup_tables.specs.Operations.{Covers}
 use Rattle.sup_tables.proofs.PointLaws.{same_text}
 use Rattle.sup_replica.specs.declared.event.Event.{Event}
-use Rattle.sup_replica.specs.declared.event.Event.TheVariants.{Join, Leave, Start, Replace, Delete, Register, Unregister, Exit, Ship, Push, Deliver}
+use Rattle.sup_replica.specs.declared.event.Event.TheVariants.{Join, Leave, Drain, Start, Replace, Delete, Register, Unregister, Exit, Ship, Push, Deliver}
 use Rattle.sup_replica.specs.declared.event.Act.TheVariants.{Event as Of, Stop, Restart}
 use Rattle.sup_replica.specs.declared.event.Act.{Act as Deed}
 use Rattle.sup_replica.specs.declared.refusal.Refusal.{Refusal}
@@ -149,6 +149,7 @@ module _ {K : Type 0} (k : Knowledge K) (view : View K) (laws : Laws k view) whe
   at_found j at f h (Of (Deliver bytes)) now saves = other_at j at f h (Of (Deliver bytes)) now saves refl (bytes_together k view laws j f.trio h f.there bytes now saves)
   at_found j at f h (Of (Join label)) now saves = other_at j at f h (Of (Join label)) now saves refl (act_together k view laws j f.trio h f.there (Join label) now saves tt)
   at_found j at f h (Of (Leave m)) now saves = other_at j at f h (Of (Leave m)) now saves refl (act_together k view laws j f.trio h f.there (Leave m) now saves tt)
+  at_found j at f h (Of (Drain m)) now saves = other_at j at f h (Of (Drain m)) now saves refl (act_together k view laws j f.trio h f.there (Drain m) now saves tt)
   at_found j at f h (Of (Start id spec)) now saves = other_at j at f h (Of (Start id spec)) now saves refl (act_together k view laws j f.trio h f.there (Start id spec) now saves tt)
   at_found j at f h (Of (Replace id spec)) now saves = other_at j at f h (Of (Replace id spec)) now saves refl (act_together k view laws j f.trio h f.there (Replace id spec) now saves tt)
   at_found j at f h (Of (Delete id)) now saves = other_at j at f h (Of (Delete id)) now saves refl (act_together k view laws j f.trio h f.there (Delete id) now saves tt)

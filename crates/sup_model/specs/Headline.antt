@@ -4,9 +4,9 @@ use Rattle.std.specs.List.{list_all}
 use Rattle.sup_specs.specs.Values.{Bytes}
 use Rattle.sup_causal.specs.declared.dot.Dot.{Dot}
 use Rattle.sup_tables.specs.declared.row.Row.{Row}
-use Rattle.sup_tables.specs.Rows.{members, table_of, key_of}
+use Rattle.sup_tables.specs.Rows.{table_of, key_of}
 use Rattle.sup_tables.specs.Operations.{Operation, known, named, added, live, SameOperations, Covers}
-use Rattle.sup_tables.specs.Readers.{keys, entries}
+use Rattle.sup_tables.specs.Readers.{eligible, entries}
 use Rattle.sup_placement.specs.Place.{Weigher, place}
 use Rattle.sup_local_sup.specs.Keeping.{is_wanted, is_kept, is_for, Kept}
 use Rattle.sup_model.specs.Worlds.{Setting, Ops, World, Site, Answer, new}
@@ -20,7 +20,7 @@ use Rattle.sup_model.specs.Runs.{Run, all_issued, new_dots}
 pub record Agree (weigher : Weigher) (a b : Node Ops) : Type 0 where
   pub dots : (d : Dot) → known a.known d ≡ known b.known d
   pub rows : live a.known ≡ live b.known
-  pub placed : (id : Bytes) → place weigher (keys (live a.known) members) id ≡ place weigher (keys (live b.known) members) id
+  pub placed : (id : Bytes) → place weigher (eligible (live a.known)) id ≡ place weigher (eligible (live b.known)) id
 
 -- an add that no absorbed removal names is a winner or a loser of its key
 abbrev pub Stays : Node Ops → Type 0

@@ -5,3 +5,4 @@ mod ChildRows
 mod LetterRows
 mod SaveRows
 mod FurtherRows
+mod DrainRows

@@ -4,7 +4,7 @@ use Rattle.sup_specs.specs.Values.{Bytes}
 use Rattle.sup_specs.specs.declared.child.ChildSpec.{ChildSpec}
 use Rattle.sup_specs.specs.declared.child.ExitReason.{ExitReason}
 use Rattle.sup_replica.specs.declared.event.Event.{Event}
-use Rattle.sup_replica.specs.declared.event.Event.TheVariants.{Join, Leave, Start, Replace, Delete, Register, Unregister, Exit, Ship, Push}
+use Rattle.sup_replica.specs.declared.event.Event.TheVariants.{Join, Leave, Drain, Start, Replace, Delete, Register, Unregister, Exit, Ship, Push}
 use Rattle.sup_replica.specs.declared.event.Act.TheVariants.{Event as Of, Stop, Restart}
 use Rattle.sup_model.specs.declared.step.Step.{Step}
 use Rattle.sup_model.specs.declared.step.Step.TheVariants.{Node as AtNode, Deliver as Delivery, Raw}
@@ -21,6 +21,9 @@ join_as node label = event node (Join label)
 
 abbrev pub leave : Bytes → Bytes → Asked
 leave node member = event node (Leave member)
+
+abbrev pub drain : Bytes → Bytes → Asked
+drain node member = event node (Drain member)
 
 abbrev pub start : Bytes → Bytes → ChildSpec → Asked
 start node id spec = event node (Start id spec)

@@ -18,6 +18,13 @@ words_that_are_messages =
     ∷ codes "{\"ctx\":{\"cloud\":[[\"a\",2]],\"vector\":{}},\"from\":\"a\",\"kind\":\"push\",\"rows\":[],\"to\":\"b\",\"v\":1}"
     ∷ []
 
+-- the messages among the raw words of several versions
+abbrev pub words_of_both_versions : List Bytes
+words_of_both_versions =
+    codes "{\"from\":\"b\",\"kind\":\"ack\",\"n\":1,\"to\":\"a\",\"v\":2}"
+    ∷ codes "{\"from\":\"b\",\"kind\":\"ack\",\"n\":1,\"to\":\"a\",\"v\":1}"
+    ∷ []
+
 -- A node that has done nothing shows nothing.
 pub an_empty_node_is_shown : (weight : Weigher) → Tells (weighed weight) (a ∷ []) (
     show a ⇒ prints (codes "node a boot 1\n")
@@ -144,9 +151,11 @@ pub raw_words_are_messages_or_not : (weight : Weigher) → Tells (with_messages 
 unfolding has digits
 raw_words_are_messages_or_not weight = (refl, refl)
 
--- A raw word that is no message.
-pub a_raw_word_of_an_unknown_version : (weight : Weigher) → Tells (with_messages words_that_are_messages (weighed weight)) (a ∷ []) (
-    raw a (codes "{\"from\":\"b\",\"kind\":\"ack\",\"n\":1,\"to\":\"a\",\"v\":2}") ⇒ refused BadMessage
+-- Raw words of either version are messages, of another none.
+pub raw_words_of_both_versions : (weight : Weigher) → Tells (with_messages words_of_both_versions (weighed weight)) (a ∷ []) (
+    raw a (codes "{\"from\":\"b\",\"kind\":\"ack\",\"n\":1,\"to\":\"a\",\"v\":2}") ⇒ refused NoSuchMessage
+    ∷ raw a (codes "{\"from\":\"b\",\"kind\":\"ack\",\"n\":1,\"to\":\"a\",\"v\":1}") ⇒ refused NoSuchMessage
+    ∷ raw a (codes "{\"from\":\"b\",\"kind\":\"ack\",\"n\":1,\"to\":\"a\",\"v\":3}") ⇒ refused BadMessage
     ∷ [])
 unfolding has digits
-a_raw_word_of_an_unknown_version weight = (refl, refl)
+raw_words_of_both_versions weight = (refl, refl)

@@ -3,7 +3,6 @@ use Rattle.std.specs.Prelude.{ℕ, zero, suc, ◌+◌, List, [], ◌∷◌, ◌+
 use Rattle.sup_specs.specs.Values.{Bytes}
 use Rattle.sup_specs.specs.Rising.{rising}
 use Rattle.sup_specs.specs.declared.child.ChildSpec.{ChildSpec}
-use Rattle.sup_specs.specs.declared.child.MemberInfo.{MemberInfo}
 use Rattle.sup_specs.specs.declared.child.Restart.{Restart as RestartType}
 use Rattle.sup_specs.specs.declared.child.Restart.TheVariants.{Permanent}
 use Rattle.sup_specs.specs.declared.child.Shutdown.TheVariants.{Millis}
@@ -69,9 +68,6 @@ with_arg arg spec = record spec { arg = arg }
 
 abbrev pub restarts : RestartType → ChildSpec → ChildSpec
 restarts restart spec = record spec { restart = restart }
-
-abbrev pub labelled : Bytes → MemberInfo
-labelled label = record { label = label }
 
 -- what a world is made with: the options of the command line, or what stands for one that is left out
 abbrev pub weighed : Weigher → Options

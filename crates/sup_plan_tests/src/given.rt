@@ -68,6 +68,10 @@ pub(crate) fn leave(rt: &impl Abort, member: &str) -> Act {
     Act::Event(Event::Leave(name(rt, member)))
 }
 
+pub(crate) fn drain(rt: &impl Abort, member: &str) -> Act {
+    Act::Event(Event::Drain(name(rt, member)))
+}
+
 pub(crate) fn join(rt: &(impl Abort + AllocGlobal)) -> Act {
     match Text::parse(rt.alloc(), "") {
         Ok(label) => Act::Event(Event::Join(label)),

@@ -1,5 +1,5 @@
 //! Which plans can be run.
-use crate::given::{deliver, join, leave, linked, plan, push, ship, told};
+use crate::given::{deliver, drain, join, leave, linked, plan, push, ship, told};
 use sup_links::Verdict;
 use sup_plan::is_plan;
 use sup_replica::Act;
@@ -33,6 +33,11 @@ fn commands_are_told_to_nodes_of_the_plan(rt: HostRuntime) {
 #[test]
 fn a_member_that_leaves_may_be_no_node_of_the_plan(rt: HostRuntime) {
     assert!(rt; is_plan(&told(&rt, plan(&rt, &["a", "b"]), "a", leave(&rt, "z"), 0)));
+}
+
+#[test]
+fn a_member_that_is_drained_may_be_no_node_of_the_plan(rt: HostRuntime) {
+    assert!(rt; is_plan(&told(&rt, plan(&rt, &["a", "b"]), "a", drain(&rt, "z"), 0)));
 }
 
 #[test]

@@ -14,7 +14,7 @@ use Rattle.sup_lines.specs.Words.{Word, ◌>>=◌}
 use Rattle.sup_lines.specs.Values.{node_name_of, child_id_of, registered_name_of, number_of, incarnation_of}
 use Rattle.sup_lines.specs.Options.{label_of, spec_of, word_behind, if_there, option_at}
 use Rattle.sup_lines.specs.Endings.{step_at, saves_of, ended}
-use Rattle.sup_lines.specs.Forms.{join_of, leave_of, start_of, replace_of, delete_of, register_of, unregister_of, exit_of, ship_of, push_of, deliver_of, stop_of, reboot_of, deed_of}
+use Rattle.sup_lines.specs.Forms.{join_of, leave_of, drain_of, start_of, replace_of, delete_of, register_of, unregister_of, exit_of, ship_of, push_of, deliver_of, stop_of, reboot_of, deed_of}
 use Rattle.sup_lines.specs.Lines.{step_of, raw_of, settle_of, show_of, inspect_of, image_of, where_of, message_of, form_of}
 use Rattle.sup_lines.specs.Script.{ScriptText, is_plain, words_of, line_of, opening_of, in_front, each_of, behind, numbered_lines, opened, script_of}
 use Rattle.sup_program.specs.Playing.{BringsNoBytes}
@@ -54,6 +54,12 @@ unfolding leave_of
 leave_dry [] = tt
 leave_dry (node ∷ []) = tt
 leave_dry (node ∷ member ∷ words) = next Dry (node_name_of node) _ (λ name. next Dry (node_name_of member) _ (λ gone. refl))
+
+drain_dry : (words : List Word) → IfSome (drain_of words) Dry
+unfolding drain_of
+drain_dry [] = tt
+drain_dry (node ∷ []) = tt
+drain_dry (node ∷ member ∷ words) = next Dry (node_name_of node) _ (λ name. next Dry (node_name_of member) _ (λ emptied. refl))
 
 start_dry : (words : List Word) → IfSome (start_of words) Dry
 unfolding start_of
@@ -131,6 +137,7 @@ deed_dry [] = tt
 deed_dry (verb ∷ words) =
     either Dry (bytes_eq verb (codes "join")) (join_of words) _ (join_dry words)
     (either Dry (bytes_eq verb (codes "leave")) (leave_of words) _ (leave_dry words)
+    (either Dry (bytes_eq verb (codes "drain")) (drain_of words) _ (drain_dry words)
     (either Dry (bytes_eq verb (codes "start")) (start_of words) _ (start_dry words)
     (either Dry (bytes_eq verb (codes "replace")) (replace_of words) _ (replace_dry words)
     (either Dry (bytes_eq verb (codes "delete")) (delete_of words) _ (delete_dry words)
@@ -141,7 +148,7 @@ deed_dry (verb ∷ words) =
     (either Dry (bytes_eq verb (codes "push")) (push_of words) _ (push_dry words)
     (either Dry (bytes_eq verb (codes "deliver")) (deliver_of words) _ (deliver_dry words)
     (either Dry (bytes_eq verb (codes "stop")) (stop_of words) _ (stop_dry words)
-    (either Dry (bytes_eq verb (codes "restart")) (reboot_of words) None (reboot_dry words) tt))))))))))))
+    (either Dry (bytes_eq verb (codes "restart")) (reboot_of words) None (reboot_dry words) tt)))))))))))))
 
 step_dry : (now : ℕ) (saves : Bool) (deed : Deed) → IsDry deed → has_bytes (step_at now saves deed) ≡ false
 step_dry now saves (At node act) h = h

@@ -93,3 +93,12 @@ fn words_that_look_like_endings_are_ids(rt: HostRuntime) {
         b"ok (a,1)\nok (a,2)\nrefused 16 KeepFailed\nok (a,3)\nnode a boot 1\nchild !fail (a,2) worker permanent 5000 arg= unplaced\nchild @5 (a,1) worker permanent 5000 arg= unplaced\nchild kind=k (a,3) z permanent 5000 arg= unplaced\n",
     );
 }
+
+#[test]
+fn a_drained_member_loses_its_child(rt: HostRuntime) {
+    expect_flat(
+        &rt,
+        b"nodes a b\njoin a\nstart a web\nship a b\ndeliver a 1\njoin b\ndrain b a\npush b a\ndeliver b 2\nshow a\ndrain a a\ndrain a b\njoin a\nshow b\n",
+        b"ok (a,1)\nok (a,2)\n  a start web 1.1\nok sent\n  sent a 1 to b delta 2 part\nok absorbed\n  sent b 1 to a ack 2\nok (b,1)\nok (b,2) removed (a,1)\n  b start web 1.1\nok sent\n  sent b 2 to a push\nok absorbed\n  a stop web 1.1\nnode a boot 1\nmember a (b,2) draining label=\nchild web (a,2) worker permanent 5000 arg= unplaced\nrefused 23 AlreadyDraining\nrefused 7 NotMember\nrefused 6 AlreadyMember\nnode b boot 1\nmember a (b,2) draining label=\nmember b (b,1) label=\nchild web (a,2) worker permanent 5000 arg= on b\nkept web 1.1\n",
+    );
+}

@@ -50,11 +50,11 @@ fn raw_words_are_refused_as_messages_or_not(rt: HostRuntime) {
 }
 
 #[test]
-fn raw_words_of_another_version_are_no_message(rt: HostRuntime) {
+fn raw_words_of_both_versions_are_messages(rt: HostRuntime) {
     expect_flat(
         &rt,
-        b"nodes a\nraw a {\"from\":\"b\",\"kind\":\"ack\",\"n\":1,\"to\":\"a\",\"v\":2}\n",
-        b"refused 17 BadMessage\n",
+        b"nodes a\nraw a {\"from\":\"b\",\"kind\":\"ack\",\"n\":1,\"to\":\"a\",\"v\":2}\nraw a {\"from\":\"b\",\"kind\":\"ack\",\"n\":1,\"to\":\"a\",\"v\":1}\nraw a {\"from\":\"b\",\"kind\":\"ack\",\"n\":1,\"to\":\"a\",\"v\":3}\n",
+        b"refused 13 NoSuchMessage\nrefused 13 NoSuchMessage\nrefused 17 BadMessage\n",
     );
 }
 

@@ -10,19 +10,19 @@ const PUSHED_TOLD: &str =
     "ok (a,1)\nok sent\n  sent a 1 to b push\nok (a,2)\nok sent\n  sent a 2 to b push\nok (a,3)\nok sent\n  sent a 3 to b push\nok absorbed\nok absorbed\n";
 
 const GAP: &str =
-    "{\"boot\":1,\"count\":2,\"ctx\":{\"cloud\":[[\"a\",3]],\"vector\":{\"a\":1}},\"kind\":\"image\",\"node\":\"b\",\"rows\":[[\"child\",\"x\",[\"a\",1],{\"arg\":\"\",\"kind\":\"worker\",\"restart\":\"permanent\",\"shutdown\":5000}],[\"child\",\"z\",[\"a\",3],{\"arg\":\"\",\"kind\":\"worker\",\"restart\":\"permanent\",\"shutdown\":5000}]],\"v\":1}";
+    "{\"boot\":1,\"count\":2,\"ctx\":{\"cloud\":[[\"a\",3]],\"vector\":{\"a\":1}},\"kind\":\"image\",\"node\":\"b\",\"rows\":[[\"child\",\"x\",[\"a\",1],{\"arg\":\"\",\"kind\":\"worker\",\"restart\":\"permanent\",\"shutdown\":5000}],[\"child\",\"z\",[\"a\",3],{\"arg\":\"\",\"kind\":\"worker\",\"restart\":\"permanent\",\"shutdown\":5000}]],\"v\":2}";
 
 const FILLED: &str =
-    "{\"boot\":1,\"count\":3,\"ctx\":{\"cloud\":[],\"vector\":{\"a\":3}},\"kind\":\"image\",\"node\":\"b\",\"rows\":[[\"child\",\"x\",[\"a\",1],{\"arg\":\"\",\"kind\":\"worker\",\"restart\":\"permanent\",\"shutdown\":5000}],[\"child\",\"y\",[\"a\",2],{\"arg\":\"\",\"kind\":\"worker\",\"restart\":\"permanent\",\"shutdown\":5000}],[\"child\",\"z\",[\"a\",3],{\"arg\":\"\",\"kind\":\"worker\",\"restart\":\"permanent\",\"shutdown\":5000}]],\"v\":1}";
+    "{\"boot\":1,\"count\":3,\"ctx\":{\"cloud\":[],\"vector\":{\"a\":3}},\"kind\":\"image\",\"node\":\"b\",\"rows\":[[\"child\",\"x\",[\"a\",1],{\"arg\":\"\",\"kind\":\"worker\",\"restart\":\"permanent\",\"shutdown\":5000}],[\"child\",\"y\",[\"a\",2],{\"arg\":\"\",\"kind\":\"worker\",\"restart\":\"permanent\",\"shutdown\":5000}],[\"child\",\"z\",[\"a\",3],{\"arg\":\"\",\"kind\":\"worker\",\"restart\":\"permanent\",\"shutdown\":5000}]],\"v\":2}";
 
 const REMOVED: &str =
-    "{\"boot\":1,\"count\":1,\"ctx\":{\"cloud\":[],\"vector\":{\"a\":1}},\"kind\":\"image\",\"node\":\"b\",\"rows\":[],\"v\":1}";
+    "{\"boot\":1,\"count\":1,\"ctx\":{\"cloud\":[],\"vector\":{\"a\":1}},\"kind\":\"image\",\"node\":\"b\",\"rows\":[],\"v\":2}";
 
 const OPENING: &str =
-    "{\"boot\":1,\"count\":0,\"ctx\":{\"cloud\":[],\"vector\":{}},\"kind\":\"image\",\"node\":\"a\",\"rows\":[],\"v\":1}";
+    "{\"boot\":1,\"count\":0,\"ctx\":{\"cloud\":[],\"vector\":{}},\"kind\":\"image\",\"node\":\"a\",\"rows\":[],\"v\":2}";
 
 const MEMBER: &str =
-    "{\"boot\":1,\"count\":2,\"ctx\":{\"cloud\":[],\"vector\":{\"a\":2}},\"kind\":\"image\",\"node\":\"a\",\"rows\":[[\"member\",\"a\",[\"a\",1],{\"label\":\"\"}],[\"child\",\"web\",[\"a\",2],{\"arg\":\"\",\"kind\":\"worker\",\"restart\":\"permanent\",\"shutdown\":5000}]],\"v\":1}";
+    "{\"boot\":1,\"count\":2,\"ctx\":{\"cloud\":[],\"vector\":{\"a\":2}},\"kind\":\"image\",\"node\":\"a\",\"rows\":[[\"member\",\"a\",[\"a\",1],{\"label\":\"\",\"status\":\"open\"}],[\"child\",\"web\",[\"a\",2],{\"arg\":\"\",\"kind\":\"worker\",\"restart\":\"permanent\",\"shutdown\":5000}]],\"v\":2}";
 
 #[test]
 fn pushes_out_of_order_leave_a_gap(rt: HostRuntime) {

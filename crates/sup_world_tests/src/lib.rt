@@ -6,6 +6,8 @@
 #[cfg(test)]
 mod deliveries;
 #[cfg(test)]
+mod drains;
+#[cfg(test)]
 mod failing;
 #[cfg(test)]
 mod given;

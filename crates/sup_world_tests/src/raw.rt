@@ -74,7 +74,7 @@ fn a_node_that_isnt_there_is_missed_for_all_bytes(rt: HostRuntime) {
 fn a_sent_text_is_none_that_came(rt: HostRuntime) {
     plays(
         &rt,
-        "nodes a b\nstart a x\nship a b\nraw b {\"ctx\":{\"cloud\":[],\"vector\":{\"a\":1}},\"from\":\"a\",\"kind\":\"delta\",\"n\":1,\"rows\":[[\"child\",\"x\",[\"a\",1],{\"arg\":\"\",\"kind\":\"worker\",\"restart\":\"permanent\",\"shutdown\":5000}]],\"to\":\"b\",\"v\":1}\nshow b\n",
+        "nodes a b\nstart a x\nship a b\nraw b {\"ctx\":{\"cloud\":[],\"vector\":{\"a\":1}},\"from\":\"a\",\"kind\":\"delta\",\"n\":1,\"rows\":[[\"child\",\"x\",[\"a\",1],{\"arg\":\"\",\"kind\":\"worker\",\"restart\":\"permanent\",\"shutdown\":5000}]],\"to\":\"b\",\"v\":2}\nshow b\n",
         "ok (a,1)\nok sent\n  sent a 1 to b delta 1 part\nrefused 13 NoSuchMessage\nnode b boot 1\n",
     );
 }
