@@ -1,17 +1,19 @@
 -- A walk over two maps: its least key, and what is done key by key.
-use Rattle.std.proofs.Common.{◌≡◌, ◌||◌, Bool, true, false, cond, List, [], ◌∷◌, drop, Option, Some, None, refl, sym, ◌∙◌, ap, subst, ◌⊎◌, inl, inr}
+use Rattle.std.proofs.Common.{Bor, ◌≡◌, ◌||◌, Bool, true, false, cond, List, [], ◌∷◌, drop, Option, Some, None, refl, sym, ◌∙◌, ap, subst, ◌⊎◌, inl, inr}
 use Rattle.std.specs.declared.cmp.Ordering.{Ordering}
 use Rattle.std.specs.declared.cmp.Ordering.TheVariants.{Less, Equal, Greater}
 use Rattle.std.specs.Ordering.{eq_by_cmp, is_eq}
 use Rattle.std.specs.Cmp.{IsTotalOrder}
 use Rattle.std.specs.List.Sorted.{IsStrictlySortedBy}
 use Rattle.std.specs.Map.{lookup, keys_of}
-use Rattle.std.specs.Option.{is_some}
+use Rattle.std.specs.Option.{is_some, option_map}
+use Rattle.std.specs.Map.Iter.{TakesFirst, deref_pair}
 use Rattle.std.specs.BTreeMap.{is_at}
 use Rattle.std.proofs.lemmas.Cmp.{eq_by_cmp_equiv, tied_itself}
+use Rattle.std.proofs.lemmas.Option.{same_Some}
 use mathlib.Core.Bool.{false≢true}
 use Rattle.sup_specs.specs.Exact.{IsExact}
-use Rattle.sup_causal.specs.Walk.{at_first, KeysRise, IsBelowKeys, IsLeastKey}
+use Rattle.sup_causal.specs.Walk.{at_first, KeysRise, IsBelowKeys, IsLeastKey, StandsTo, IsLesserKey, past_told}
 use Rattle.sup_causal.proofs.Union.{each_weaker}
 
 -- what a list goes on with after its first element
@@ -33,23 +35,33 @@ module _ {K V : Type 0} (cmp : K → K → Ordering) where
   pub below_none : (k : K) (es : List (K × V)) → es ≡ [] → IsBelowKeys cmp k es
   below_none k es none = subst (IsBelowKeys cmp k) (sym none) tt
 
-  -- the least key is the left one's
-  pub least_left : (k : K) (v : V) (ls rs lefts : List (K × V)) → ls ≡ (k, v) ∷ lefts → KeysRise cmp ls → IsBelowKeys cmp k rs → IsLeastKey cmp k (Some v) None ls rs lefts rs
-  least_left k v ls rs lefts is s below = record { left_first = is; right_first = refl; below_left = (rises_on ls (k, v) lefts is s).0; below_right = below; held = refl }
-
-  pub least_right : (k : K) (v : V) (ls rs rights : List (K × V)) → rs ≡ (k, v) ∷ rights → KeysRise cmp rs → IsBelowKeys cmp k ls → IsLeastKey cmp k None (Some v) ls rs ls rights
-  least_right k v ls rs rights is s below = record { left_first = refl; right_first = is; below_left = below; below_right = (rises_on rs (k, v) rights is s).0; held = refl }
-
-  pub least_both : (exact : IsExact cmp) (k q : K) (v w : V) (ls rs lefts rights : List (K × V)) → cmp k q ≡ Equal → ls ≡ (k, v) ∷ lefts → rs ≡ (q, w) ∷ rights → KeysRise cmp ls → KeysRise cmp rs → IsLeastKey cmp k (Some v) (Some w) ls rs lefts rights
-  least_both exact k q v w ls rs lefts rights same is js s t =
-      let tie : rs ≡ (k, w) ∷ rights = js ∙ ap (λ x. (x, w) ∷ rights) (sym (exact k q same)) in
-      record { left_first = is; right_first = tie; below_left = (rises_on ls (k, v) lefts is s).0; below_right = (rises_on rs (k, w) rights tie t).0; held = refl }
+  -- what rises past what is told
+  pub rises_past : (o : Option V) (all rest : List (K × V)) → rest ≡ past_told o all → KeysRise cmp all → KeysRise cmp rest
+  rises_past None all rest on s = subst (KeysRise cmp) (sym on) s
+  rises_past (Some v) all rest on s = rises_rest all rest on s
 
   module _ (total : IsTotalOrder cmp) where
     -- below a first key, and so below all that rise from it
     pub below_first : (k q : K) (w : V) (rs rights : List (K × V)) → cmp k q ≡ Less → rs ≡ (q, w) ∷ rights → KeysRise cmp rs → IsBelowKeys cmp k rs
     below_first k q w rs rights less is s =
         subst (IsBelowKeys cmp k) (sym is) (less, each_weaker (λ x. cmp q x ≡ Less) (λ x. cmp k x ≡ Less) (λ x lt. total.trans k q x less lt) (keys_of rights) (rises_on rs (q, w) rights is s).0)
+
+    -- one list of a walk whose first entry stands to the key
+    side : (k : K) (o : Option V) (first : Option (Bor K × Bor V)) (all rest : List (K × V)) → TakesFirst deref_pair all first (drop 1 all) → KeysRise cmp all → StandsTo cmp k o (option_map deref_pair first) → rest ≡ past_told o all → (all ≡ at_first k o rest) × IsBelowKeys cmp k rest
+    side k (Some v) None all rest takes rises stands on = absurd cc
+    side k (Some v) (Some x) all rest takes rises stands on =
+        let goes : all ≡ (k, v) ∷ rest = goes_on all (k, v) rest (takes ∙ ap (λ e. e ∷ drop 1 all) (same_Some (deref_pair x) (k, v) stands)) on in
+        (goes, (rises_on all (k, v) rest goes rises).0)
+    side k None None all rest takes rises stands on = (sym on, below_none k rest (on ∙ takes.0))
+    side k None (Some x) all rest takes rises stands on = (sym on, subst (IsBelowKeys cmp k) (sym on) (below_first k x.0.now x.1.now all (drop 1 all) stands takes rises))
+
+    -- a step of a walk
+    pub steps : (k : K) (l r : Option V) (first_left first_right : Option (Bor K × Bor V)) (ls rs lefts rights : List (K × V)) → TakesFirst deref_pair ls first_left (drop 1 ls) → TakesFirst deref_pair rs first_right (drop 1 rs) → KeysRise cmp ls → KeysRise cmp rs
+        → IsLesserKey cmp k l r (option_map deref_pair first_left) (option_map deref_pair first_right) → lefts ≡ past_told l ls → rights ≡ past_told r rs → IsLeastKey cmp k l r ls rs lefts rights
+    steps k l r first_left first_right ls rs lefts rights takes_left takes_right s t lesser left_on right_on =
+        let left = side k l first_left ls lefts takes_left s lesser.left_stands left_on in
+        let right = side k r first_right rs rights takes_right t lesser.right_stands right_on in
+        record { left_first = left.0; right_first = right.0; below_left = left.1; below_right = right.1; held = lesser.held }
 
     absent_below : (k : K) (es : List (K × V)) → IsBelowKeys cmp k es → lookup (is_at (cmp k)) es ≡ None
     absent_below k [] below = refl

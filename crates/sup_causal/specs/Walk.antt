@@ -1,5 +1,5 @@
 -- A walk over two maps: their entries in rising order of the keys, each key of either once (this project).
-use Rattle.std.specs.Prelude.{◌≡◌, ◌||◌, true, List, ◌∷◌, Option, Some, None}
+use Rattle.std.specs.Prelude.{◌≡◌, ◌||◌, true, List, ◌∷◌, drop, Option, Some, None}
 use Rattle.std.specs.declared.cmp.Ordering.{Ordering}
 use Rattle.std.specs.declared.cmp.Ordering.TheVariants.{Less}
 use Rattle.std.specs.List.{AllByRecursion}
@@ -27,3 +27,20 @@ pub record IsLeastKey {K V : Type 0} (cmp : K → K → Ordering) (k : K) (left 
   pub below_left : IsBelowKeys cmp k lefts
   pub below_right : IsBelowKeys cmp k rights
   pub held : (is_some left || is_some right) ≡ true
+
+-- how the first entry of a list stands to a key: it is the key's, with the value that is told there, or above the key
+abbrev pub StandsTo : {K V : Type 0} → (K → K → Ordering) → K → Option V → Option (K × V) → Type 0
+StandsTo cmp k (Some v) first = first ≡ Some (k, v)
+StandsTo cmp k None None = Unit {0}
+StandsTo cmp k None (Some e) = cmp k e.0 ≡ Less
+
+-- k is the lesser key of two first entries, which have left and right there
+pub record IsLesserKey {K V : Type 0} (cmp : K → K → Ordering) (k : K) (left right : Option V) (first_left first_right : Option (K × V)) : Type 0 where
+  pub left_stands : StandsTo cmp k left first_left
+  pub right_stands : StandsTo cmp k right first_right
+  pub held : (is_some left || is_some right) ≡ true
+
+-- the entries that are left past the first, where its value is told
+abbrev pub past_told : {K V : Type 0} → Option V → List (K × V) → List (K × V)
+past_told None es = es
+past_told (Some v) es = drop 1 es

@@ -21,6 +21,6 @@ pub use lattice::Lattice;
 pub use least::Least;
 pub use map_join::MapJoin;
 pub use max_count::MaxCount;
-pub use merge::walk::KeyByKey;
+pub use merge::walk::{KeyByKey, lesser_key};
 pub use merge::{Merge, keys_rise, merge_maps};
 pub use parts::PartsFault;

@@ -1,10 +1,11 @@
 //! A walk over the keys of two maps.
 
 ghost use Rattle.std.proofs.Props.{props};
-ghost use Rattle.std.specs.Prelude.{◌≡◌, ◌+◌, length, [], MatchOption};
+ghost use Rattle.std.specs.Prelude.{◌≡◌, ◌+◌, length, [], None, MatchOption};
 ghost use Rattle.std.specs.Iterator.{at_most};
-ghost use Rattle.std.specs.Option.{option_copied};
-ghost use Rattle.sup_causal.specs.Walk.{KeysRise, IsLeastKey};
+ghost use Rattle.std.specs.Map.Iter.{deref_pair};
+ghost use Rattle.std.specs.Option.{option_copied, option_map};
+ghost use Rattle.sup_causal.specs.Walk.{KeysRise, IsLeastKey, IsLesserKey};
 
 use super::peeked::Peeked;
 use std::cmp::Ordering;
@@ -41,29 +42,28 @@ impl<'a, K: Plain, V> Iterator for KeyByKey<'a, K, V> {
     ghost remaining = { λ s. at_most (length s.left + length s.right) };
 
     fn next(&mut self) -> Option<(&'a K, Option<&'a V>, Option<&'a V>)> {
-        let Some((left_key, left)) = self.left.peek() else {
-            let (key, right) = self.right.peek()?;
-            self.right.advance();
-            return Some((key, None, Some(right)));
-        };
-        let Some((right_key, right)) = self.right.peek() else {
-            self.left.advance();
-            return Some((left_key, Some(left), None));
-        };
-        match left_key.cmp(right_key) {
-            Ordering::Less => {
-                self.left.advance();
-                Some((left_key, Some(left), None))
-            }
-            Ordering::Equal => {
-                self.left.advance();
-                self.right.advance();
-                Some((left_key, Some(left), Some(right)))
-            }
-            Ordering::Greater => {
-                self.right.advance();
-                Some((right_key, None, Some(right)))
-            }
-        }
+        let (key, left, right) = lesser_key(self.left.peek(), self.right.peek())?;
+        self.left.go_past(left);
+        self.right.go_past(right);
+        Some((key, left, right))
+    }
+}
+
+/// The lesser key of the first entries of two lists, with the values that stand under it there.
+pub fn lesser_key<'a, K: Plain, V>(
+    left: Option<(&'a K, &'a V)>,
+    right: Option<(&'a K, &'a V)>,
+) -> Option<(&'a K, Option<&'a V>, Option<&'a V>)>
+    ensures { MatchOption result ((option_map deref_pair left.entry ≡ None) × (option_map deref_pair right.entry ≡ None)) (λ x. IsLesserKey K.cmp x.0.now (option_copied x.1) (option_copied x.2) (option_map deref_pair left.entry) (option_map deref_pair right.entry)) }
+{
+    match (left, right) {
+        (None, None) => None,
+        (Some((key, value)), None) => Some((key, Some(value), None)),
+        (None, Some((key, value))) => Some((key, None, Some(value))),
+        (Some((key, value)), Some((other, another))) => match key.cmp(other) {
+            Ordering::Less => Some((key, Some(value), None)),
+            Ordering::Equal => Some((key, Some(value), Some(another))),
+            Ordering::Greater => Some((other, None, Some(another))),
+        },
     }
 }

@@ -9,8 +9,7 @@ ghost use Rattle.sup_causal.specs.Walk.{KeysRise, IsLeastKey};
 
 use crate::short_values::ShortValues;
 use crate::short_values::entries::Entries;
-use std::cmp::Ordering;
-use sup_causal::Dot;
+use sup_causal::{Dot, lesser_key};
 
 // The dots of two functions in rising order, each once, with the values that the functions have there.
 #[derive(Drop)]
@@ -44,29 +43,9 @@ impl<'a, V> Iterator for DotByDot<'a, V> {
     ghost remaining = { λ s. at_most (length s.left + length s.right) };
 
     fn next(&mut self) -> Option<(&'a Dot, Option<&'a V>, Option<&'a V>)> {
-        let Some((left_dot, left)) = self.left.peek() else {
-            let (dot, right) = self.right.peek()?;
-            self.right.advance();
-            return Some((dot, None, Some(right)));
-        };
-        let Some((right_dot, right)) = self.right.peek() else {
-            self.left.advance();
-            return Some((left_dot, Some(left), None));
-        };
-        match left_dot.cmp(right_dot) {
-            Ordering::Less => {
-                self.left.advance();
-                Some((left_dot, Some(left), None))
-            }
-            Ordering::Equal => {
-                self.left.advance();
-                self.right.advance();
-                Some((left_dot, Some(left), Some(right)))
-            }
-            Ordering::Greater => {
-                self.right.advance();
-                Some((right_dot, None, Some(right)))
-            }
-        }
+        let (dot, left, right) = lesser_key(self.left.peek(), self.right.peek())?;
+        self.left.go_past(left);
+        self.right.go_past(right);
+        Some((dot, left, right))
     }
 }

@@ -4,6 +4,8 @@ ghost use Rattle.std.specs.Prelude.{◌≡◌, drop, length};
 ghost use Rattle.std.specs.Iterator.{at_most};
 ghost use Rattle.std.specs.Map.{keys_of};
 ghost use Rattle.std.specs.Map.Iter.{TakesFirst, deref, deref_pair};
+ghost use Rattle.std.specs.Option.{option_copied};
+ghost use Rattle.sup_causal.specs.Walk.{past_told};
 
 use std::marker::Model;
 use sup_causal::Dot;
@@ -42,8 +44,17 @@ impl<'a, V> Entries<'a, V> {
         Some((&entry.0, &entry.1))
     }
 
+    // Goes past the next one, where its value is told.
+    pub(crate) fn go_past(&mut self, told: Option<&'a V>)
+        ensures { self.new ≡ past_told (option_copied told.entry) self.old }
+    {
+        if told.is_some() {
+            self.advance();
+        }
+    }
+
     // Goes on to the one after it.
-    pub(crate) fn advance(&mut self)
+    fn advance(&mut self)
         ensures { self.new ≡ drop 1 self.old }
     {
         let rest = self.rest;
