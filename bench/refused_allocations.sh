@@ -14,7 +14,8 @@ rows=$top/crates/sup_rows/data
 [ $# -gt 0 ] || set -- "$top/crates/supctl/stdin" "$top"/examples/*.script "$top"/examples/*.{cluster,members,image} \
   "$rows"/{cut-and-misdirected-messages,delivery-at-a-stopped-node,interval-after-restart-without-its-text,member-leaves-rejoins-and-restarts}/stdin \
   "$rows"/{least-dot-wins,finish-removes-the-one-dot-that-ran,restart-keeps-its-place,each-refusal-in-order,names-follow-their-child}/stdin \
-  "$rows"/{interval-after-restart-version-1,image-printed-version-1,inspected-node-tells-what-its-peers-acknowledged,removal-overtakes-its-add}/stdin
+  "$rows"/{drained-member-loses-its-child,a-drain-takes-winner-and-losers}/stdin \
+  "$rows"/{interval-after-restart-version-2,image-printed-version-2,inspected-node-tells-what-its-peers-acknowledged,removal-overtakes-its-add}/stdin
 "${CC:-cc}" -shared -fPIC -O1 -o "$work/refuse.so" "$top/bench/refuse_allocation.c" -ldl
 "$top/supctl" simulate <<<'nodes a' >"$work/output"
 program=$top/crates/supctl/out/supctl
@@ -115,7 +116,7 @@ refuse_each_allocation() {
 
 fail_each_save() {
   local line failed=0
-  for line in $(awk '/^(join|leave|start|replace|delete|register|unregister|exit|deliver|restart) / && !/ !fail$/ { print NR }' "$work/script"); do
+  for line in $(awk '/^(join|leave|drain|start|replace|delete|register|unregister|exit|deliver|restart) / && !/ !fail$/ { print NR }' "$work/script"); do
     sed "${line}{h;s/\$/ !fail/p;g}" "$work/script" >"$work/repeated"
     "$program" simulate <"$work/repeated" >"$work/output" 2>"$work/errors" || complain "line $line told to fail"
     [ "$(refused_line "refused 16 KeepFailed")" = "$line" ] || continue
