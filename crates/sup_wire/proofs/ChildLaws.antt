@@ -134,7 +134,7 @@ status_again Open = refl
 status_again Draining = refl
 
 -- what is said of a member in a version stands for this
-abbrev SaysInfo : Version → Data → MemberInfo → Type 0
+abbrev pub SaysInfo : Version → Data → MemberInfo → Type 0
 SaysInfo v d x = (d ≡ info_value v x) × IsText Visible 0 1024 x.label × IsTold v x.status
 
 info_fields_take : (l t : Data) (x : MemberInfo) → (let d = object (member (codes "label") l (member (codes "status") t no_members)) in info_in d ≡ Some x → SaysInfo Two d x)

@@ -15,3 +15,4 @@ pub mod OneCut
 pub mod Formed
 pub mod Written
 pub mod Promises
+pub mod Sealed

@@ -19,8 +19,8 @@ one_value text d e p q = same_Some d e (sym p.value ∙ q.value)
 -- two versions of one number are one
 version_tie : (v w : Version) → version_number v ≡ version_number w → v ≡ w
 version_tie One One e = refl
-version_tie One Two e = absurd (omega (arith, e))
-version_tie Two One e = absurd (omega (arith, e))
+version_tie One Two e = let bad : 1 ≡ 2 = e in absurd (omega (arith, bad))
+version_tie Two One e = let bad : 2 ≡ 1 = e in absurd (omega (arith, bad))
 version_tie Two Two e = refl
 
 -- a version's number is one of these

@@ -78,6 +78,7 @@ fn of_kind(alloc: Global, version: Version, value: &Value) -> Result<Image, Wire
 }
 
 // An image.
+#[tactic(auto, using(crate::proofs::Sealed::sealed))]
 pub(crate) fn image_of(alloc: Global, value: &Value) -> Result<Image, WireFault>
     ensures { Decodes IsDraftOfImage IsWholeImage result (version_at (view value.now)) (λ v. stored_at v (view value.now)) }
 {

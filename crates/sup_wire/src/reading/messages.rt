@@ -114,6 +114,7 @@ fn of_kind(alloc: Global, version: Version, value: &Value) -> Result<Message, Wi
 }
 
 // A message.
+#[tactic(auto, using(crate::proofs::Sealed::sealed))]
 pub(crate) fn message_of(alloc: Global, value: &Value) -> Result<Message, WireFault>
     ensures { Decodes IsDraftOf IsWholeMessage result (version_at (view value.now)) (λ v. message_at v (view value.now)) }
 {
