@@ -1,11 +1,9 @@
-use Rattle.std.proofs.Common.{◌≡◌, ◌+◌, ◌≤◌, ◌++◌, [], ◌∷◌, Bool, false, None, Some, Option, ap, sym, subst, refl, ◌∙◌, length, get_or, arith, append_assoc, Result, Ok}
+use Rattle.std.proofs.Common.{◌≡◌, ◌++◌, [], ◌∷◌, false, None, Some, Option, ap, sym, subst, refl, ◌∙◌, length, get_or, arith, append_assoc, Result, Ok}
 use Rattle.std.specs.Prelude.{OnOk}
 use Rattle.std.specs.Option.{is_some}
 use Rattle.std.specs.Str.{bytes_eq}
 use Rattle.std.specs.Map.{lookup}
 use Rattle.indexmap.proofs.CallerLemmas.{insert_entry-new}
-use Rattle.sup_specs.specs.Values.{Bytes}
-use Rattle.sup_local_sup.specs.declared.kept.Entry.{Entry}
 use Rattle.sup_local_sup.specs.Keeping.{Kept}
 use Rattle.sup_local_sup.proofs.late.move_in.Goals as goal
 
