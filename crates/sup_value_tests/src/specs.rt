@@ -6,7 +6,7 @@ use std::fmt::Display;
 use std::process::Abort;
 use sup_specs::{
     ChildId, ChildSpec, ExitReason, Kind, Label, MAX, MemberInfo, Name, NodeName, Plain,
-    ReasonFault, Restart, Shutdown, Text, TextFault,
+    ReasonFault, Restart, Shutdown, Status, Text, TextFault,
 };
 
 type Fault = Option<TextFault>;
@@ -164,9 +164,28 @@ fn names_and_texts_have_copies(rt: HostRuntime) {
     expect_copy(&rt, 7u8);
 }
 
-fn member(rt: &(impl Abort + AllocGlobal), label: &str) -> MemberInfo {
+fn member(rt: &(impl Abort + AllocGlobal), label: &str, status: Status) -> MemberInfo {
     MemberInfo {
         label: text(rt, label),
+        status,
+    }
+}
+
+// Expects a member to be less than one with label b that is draining.
+fn expect_lesser_member(rt: &(impl Abort + AllocGlobal), lesser: &MemberInfo) {
+    let greatest = member(rt, "b", Status::Draining);
+    assert!(rt; lesser.order(&greatest) == Ordering::Less);
+    expect_rise(rt, lesser, &greatest);
+}
+
+#[test]
+fn members_are_ordered_by_label_then_open_before_draining(rt: HostRuntime) {
+    for (label, status) in [
+        ("a", Status::Draining),
+        ("a", Status::Open),
+        ("b", Status::Open),
+    ] {
+        expect_lesser_member(&rt, &member(&rt, label, status));
     }
 }
 
@@ -174,7 +193,8 @@ fn member(rt: &(impl Abort + AllocGlobal), label: &str) -> MemberInfo {
 fn specifications_members_and_reasons_have_copies(rt: HostRuntime) {
     let waits = Shutdown::Millis(5);
     expect_copy(&rt, spec(&rt, "web", "port=80", Restart::Transient, waits));
-    expect_copy(&rt, member(&rt, "rack-1"));
+    expect_copy(&rt, member(&rt, "rack-1", Status::Open));
+    expect_copy(&rt, member(&rt, "rack-1", Status::Draining));
     expect_copy(&rt, Restart::Transient);
     expect_copy(&rt, Shutdown::Infinity);
     expect_copy(&rt, ExitReason::ShutdownWith(label(&rt, "moved")));
