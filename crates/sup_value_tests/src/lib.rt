@@ -3,8 +3,6 @@
 #![tactic(auto)]
 
 #[cfg(test)]
-mod assignment;
-#[cfg(test)]
 mod given;
 #[cfg(test)]
 mod placement;
