@@ -3,6 +3,8 @@
 #![tactic(auto)]
 
 #[cfg(test)]
+mod assignment;
+#[cfg(test)]
 mod given;
 #[cfg(test)]
 mod placement;

@@ -10,9 +10,9 @@ use std::process::Abort;
 use sup_placement::{FlatWeigh, Sha256Weigh, Weigh, place};
 use sup_specs::{ChildId, NodeName};
 
-const A_TO_E: [&str; 5] = ["a", "b", "c", "d", "e"];
+pub(crate) const A_TO_E: [&str; 5] = ["a", "b", "c", "d", "e"];
 
-fn nodes(rt: &(impl Abort + AllocGlobal), names: &[&str]) -> Vec<NodeName> {
+pub(crate) fn nodes(rt: &(impl Abort + AllocGlobal), names: &[&str]) -> Vec<NodeName> {
     let mut nodes = Vec::new(rt.alloc());
     for name in names {
         nodes.push(node(rt, name)).expect(rt, "room");
@@ -177,8 +177,8 @@ fn only_the_children_of_a_member_taken_away_move(rt: HostRuntime) {
 
 // Weighs all alike, and counts how often it is asked.
 #[derive(Drop)]
-struct CountingWeigh {
-    asked: Cell<u32>,
+pub(crate) struct CountingWeigh {
+    pub asked: Cell<u32>,
 }
 
 impl Weigh for CountingWeigh {
