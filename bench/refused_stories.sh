@@ -6,7 +6,9 @@
 set -eu
 . "$(dirname "$0")/room.bash"
 [ $# -gt 0 ] || set -- \
+  sup_value_tests assignment::a_refused_touch_changes_nothing_and_can_be_made_again \
   sup_local_sup_tests refused::a_refused_growth_changes_nothing_and_the_call_can_be_made_again \
+  sup_local_sup_tests refused_changes::a_refused_growth_changes_nothing_or_all_that_was_planned \
   sup_links_tests scripts::lost_doubled_and_held_messages_come_by_the_script \
   sup_links_tests scripts::a_message_goes_behind_the_copies_of_the_one_it_waits_for \
   sup_wire_tests refused::a_refused_text_of_a_message_is_written_or_read_when_asked_again \

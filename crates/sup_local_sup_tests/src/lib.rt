@@ -3,11 +3,17 @@
 #![tactic(auto)]
 
 #[cfg(test)]
+mod changes;
+#[cfg(test)]
+mod changing;
+#[cfg(test)]
 mod exits;
 #[cfg(test)]
 mod given;
 #[cfg(test)]
 mod refused;
+#[cfg(test)]
+mod refused_changes;
 #[cfg(test)]
 mod restarts;
 #[cfg(test)]

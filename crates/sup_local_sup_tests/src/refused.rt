@@ -6,14 +6,14 @@ use std::process::Abort;
 use sup_local_sup::{Effects, SupFault, Supervisor, Verdict, Wanted};
 use sup_specs::{ChildId, ExitReason, Restart};
 
-fn sure_id(rt: &(impl Abort + AllocGlobal), name: &str) -> ChildId {
+pub(crate) fn sure_id(rt: &(impl Abort + AllocGlobal), name: &str) -> ChildId {
     match try_id(rt, name) {
         Ok(id) => id,
         Err(_) => try_id(rt, name).expect(rt, "an id"),
     }
 }
 
-fn sure_child(rt: &(impl Abort + AllocGlobal), name: &str, counter: u64) -> Wanted {
+pub(crate) fn sure_child(rt: &(impl Abort + AllocGlobal), name: &str, counter: u64) -> Wanted {
     match try_child(rt, name, counter, Restart::Permanent) {
         Ok(wanted) => wanted,
         Err(_) => child(rt, name, counter, Restart::Permanent),
@@ -21,7 +21,7 @@ fn sure_child(rt: &(impl Abort + AllocGlobal), name: &str, counter: u64) -> Want
 }
 
 // A supervisor, where a refused growth isn't the end.
-fn sure_supervisor(rt: &(impl Abort + AllocGlobal)) -> Supervisor {
+pub(crate) fn sure_supervisor(rt: &(impl Abort + AllocGlobal)) -> Supervisor {
     match Supervisor::new(rt.alloc(), 1, 2, 5) {
         Ok(supervisor) => supervisor,
         Err(_) => Supervisor::new(rt.alloc(), 1, 2, 5).expect(rt, "a supervisor"),
@@ -35,7 +35,12 @@ fn sure_copy(rt: &impl Abort, supervisor: &Supervisor) -> Supervisor {
     }
 }
 
-fn expect_refused(rt: &impl Abort, fault: SupFault, supervisor: &Supervisor, kept: &[Kept<'_>]) {
+pub(crate) fn expect_refused(
+    rt: &impl Abort,
+    fault: SupFault,
+    supervisor: &Supervisor,
+    kept: &[Kept<'_>],
+) {
     assert!(rt; fault == SupFault::OutOfMemory);
     expect_kept(rt, supervisor, kept);
 }
@@ -96,7 +101,7 @@ fn keeps(
 }
 
 // Expects a crash at this moment to begin the run of this number.
-fn restarts(
+pub(crate) fn restarts(
     rt: &(impl Abort + AllocGlobal),
     supervisor: &mut Supervisor,
     run: (&str, u64),

@@ -1,5 +1,7 @@
 //! A supervisor of the tests, and what is expected of it at each call. The calls promise nothing, and end the test where
 //! one of the supervisor's fails or answers otherwise. A test that has a stage for its only local is quickly proved.
+mod changes;
+
 use crate::given::{id, inc, keep_one, keep_three, keep_two, permanent};
 use crate::seen::{
     Kept, Seen, expect_effects, expect_finished, expect_gave_up, expect_kept, expect_restarted,
