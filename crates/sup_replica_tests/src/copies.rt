@@ -68,12 +68,20 @@ fn a_registration_is_copied_with_both_names(rt: HostRuntime) {
     }
 }
 
+// Whether it's the drain of this member.
+fn is_drain_of(event: &Event, member: &NodeName) -> bool {
+    match event {
+        Event::Drain(drained) => drained.cmp(member).is_eq(),
+        _ => false,
+    }
+}
+
 #[test]
 fn a_drain_is_copied_with_its_member(rt: HostRuntime) {
     let member = NodeName::parse("b").expect(&rt, "a node's name");
     match copy(&rt, Event::Drain(member)) {
-        Some(Event::Drain(member)) => assert!(rt; member.as_str() == "b"),
-        _ => assert!(rt; false),
+        Some(copied) => assert!(rt; is_drain_of(&copied, &member)),
+        None => assert!(rt; false),
     }
 }
 
