@@ -58,8 +58,8 @@ fn options_and_endings_have_their_order(rt: HostRuntime) {
 }
 
 #[test]
-fn a_member_doesnt_drain(rt: HostRuntime) {
-    expect_bad(&rt, b"nodes a\ndrain a a\n", b"bad line 2\n");
+fn a_drain_names_its_member(rt: HostRuntime) {
+    expect_bad(&rt, b"nodes a\ndrain a\n", b"bad line 2\n");
 }
 
 #[test]
