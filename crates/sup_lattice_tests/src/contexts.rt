@@ -1,39 +1,24 @@
 //! Contexts at values that were worked out by hand.
 use crate::given::{
-    Counters, context, cut, dot, dots, entries, expect_below, expect_not_below, grow, joined, node,
+    Counters, add, context, cut, dot, dots, expect_below, expect_cut, expect_not_below, grow,
+    joined, node,
 };
 use std::process::Abort;
-use sup_causal::{CausalContext, Dot, PartsFault};
+use sup_causal::{CausalContext, PartsFault};
 use sup_specs::MAX;
-
-// Expects a context to be cut into these parts.
-fn expect_cut(
-    rt: &(impl Abort + AllocGlobal),
-    context: &CausalContext,
-    vector: Counters<'_>,
-    cloud: Counters<'_>,
-) {
-    assert!(rt; context.vector().expect(rt, "room") == entries(rt, vector));
-    assert!(rt; context.cloud().expect(rt, "room") == dots(rt, cloud));
-}
 
 fn has(rt: &impl Abort, context: &CausalContext, name: &str, counter: u64) -> bool {
     context.contains(&dot(rt, name, counter))
 }
 
-fn add(rt: &impl Abort, context: &mut CausalContext, dot: Dot) {
-    assert!(rt; dot.is_counted());
-    context.insert(dot).expect(rt, "room")
-}
-
 #[test]
 fn a_vector_stops_at_the_first_gap(rt: HostRuntime) {
     let mut known = CausalContext::empty(rt.alloc());
-    add(&rt, &mut known, dot(&rt, "a", 3));
-    add(&rt, &mut known, dot(&rt, "a", 1));
+    add(&rt, &mut known, "a", 3);
+    add(&rt, &mut known, "a", 1);
     expect_cut(&rt, &known, &[("a", 1)], &[("a", 3)]);
     assert!(rt; has(&rt, &known, "a", 1) && !has(&rt, &known, "a", 2));
-    add(&rt, &mut known, dot(&rt, "a", 2));
+    add(&rt, &mut known, "a", 2);
     expect_cut(&rt, &known, &[("a", 3)], &[]);
 }
 

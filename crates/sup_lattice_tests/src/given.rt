@@ -54,6 +54,24 @@ pub(crate) fn context(
     cut(rt, vector, cloud).expect(rt, "a cut")
 }
 
+/// Expects a context to be cut into these parts.
+pub(crate) fn expect_cut(
+    rt: &(impl Abort + AllocGlobal),
+    context: &CausalContext,
+    vector: Counters<'_>,
+    cloud: Counters<'_>,
+) {
+    assert!(rt; context.vector().expect(rt, "room") == entries(rt, vector));
+    assert!(rt; context.cloud().expect(rt, "room") == dots(rt, cloud));
+}
+
+pub(crate) fn add(rt: &impl Abort, context: &mut CausalContext, name: &str, counter: u64) {
+    let dot = dot(rt, name, counter);
+    assert!(rt; dot.is_counted());
+    context.insert(dot).expect(rt, "room");
+}
+
+/// The join, through the trait's bound.
 pub(crate) fn joined<L: Lattice>(rt: &(impl Abort + AllocGlobal), left: &L, right: &L) -> L {
     left.joined(rt.alloc(), right).expect(rt, "a join")
 }

@@ -5,6 +5,8 @@
 #[cfg(test)]
 mod contexts;
 #[cfg(test)]
+mod cuts;
+#[cfg(test)]
 mod given;
 #[cfg(test)]
 mod lattices;
