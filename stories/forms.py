@@ -4,7 +4,8 @@ import re
 
 MAX = 9_007_199_254_740_991
 TABLES = ["member", "child", "name"]
-FIELDS = {"delta": "ctx from kind n rows to v", "push": "ctx from kind rows to v", "ack": "from kind n to v", "image": "boot count ctx kind node rows v"}
+FIELDS = {"delta": "ctx from kind n rows to v", "push": "ctx from kind rows to v", "ack": "from kind n to v",
+          "image": "boot count ctx kind node rows v"}
 MESSAGES, IMAGES = ("delta", "push", "ack"), ("image",)
 
 

@@ -1,8 +1,10 @@
 #!/usr/bin/env python3
 """Plays random scripts by the program and by the rules, and stops at the first one of which both don't print the same. Members come, go and are
 drained at several nodes at once, beside children that move, lost and late messages, stops, and saves that fail. The script that differs is left
-in the file differs.script. Usage: random_scripts.py PROGRAM [COUNT [FIRST]], as random_scripts.py crates/supctl/out/supctl 500"""
+in the file differs.script. Usage: random_scripts.py PROGRAM [COUNT [FIRST]], as random_scripts.py crates/supctl/out/supctl 500. In place of the
+program an empty folder may be named: the scripts are then written there as cases for `rt try --cases FOLDER`, with what the rules say of them."""
 import argparse
+import pathlib
 import random
 import subprocess
 from collections import Counter
@@ -60,6 +62,8 @@ class Script:
         if self.chance.random() < 0.04:
             return self.pick([*self.world.nodes, "zed"])
         fits = [name for name, node in self.world.nodes.items() if node.up != (verb == "restart")]
+        if verb == "join":
+            fits = [name for name in fits if not self.world.nodes[name].state.dots(rules.MEMBER, name)]
         if verb in ("leave", "drain"):
             fits = [name for name in fits if self.world.nodes[name].state.entries(rules.MEMBER)]
         if verb in ("deliver", "message"):
@@ -71,13 +75,26 @@ class Script:
         known = list(self.world.nodes[at].state.entries(rules.MEMBER)) if at in self.world.nodes else []
         return self.pick(known if known and self.chance.random() < 0.85 else [*self.world.nodes, "zed"])
 
+    def seen_at(self, member):
+        """A node that knows of the member, if one does."""
+        seen = [name for name, node in self.world.nodes.items() if node.up and node.state.dots(rules.MEMBER, member)]
+        return self.pick(seen or [self.node_for("drain")])
+
     def clash(self):
-        """Nodes that don't hear of one another drain one member, or have it leave, and it may join again meanwhile."""
+        """Nodes that don't hear of one another drain one member, or have it leave, and it may join again meanwhile; then they may meet, and what
+        has come of it is drained or leaves."""
         member = self.member_for(self.node_for("drain"))
-        for _ in range(self.chance.randint(2, 4)):
-            verb = self.pick(["drain", "drain", "leave", "join"])
-            seen = [name for name, node in self.world.nodes.items() if node.up and node.state.dots(rules.MEMBER, member)]
-            self.say(*("join", member) if verb == "join" else (verb, self.pick(seen or [self.node_for(verb)]), " " + member))
+        for _ in range(self.chance.randint(1, 4)):
+            verb = self.pick(["drain", "drain", "leave", "rejoin"])
+            if verb == "rejoin":
+                self.say("leave", member, " " + member)
+                self.say("join", member)
+            else:
+                self.say(verb, self.seen_at(member), " " + member)
+        if self.chance.random() < 0.6:
+            self.say("settle", member)
+            self.say("show", self.seen_at(member))
+            self.say(self.pick(["drain", "leave"]), self.seen_at(member), " " + member)
 
     def meet(self):
         """A letter that comes at once, and often its acknowledgement."""
@@ -161,15 +178,16 @@ class Script:
         return text.replace(old, new)
 
 
+def text_of(lines):
+    return "".join(line + "\n" for line in lines)
+
+
 def differs(program, script):
-    options = [word for name, value in script.options.items() for word in (f"--{name}", str(value))]
-    text = "".join(line + "\n" for line in script.lines)
-    run = subprocess.run([program, "simulate", *options], input=text, text=True, capture_output=True)
-    wanted = "".join(line + "\n" for line in script.printed)
-    if (run.stdout, run.stderr, run.returncode) == (wanted, "", 0):
+    options = [f"--{name}={value}" for name, value in script.options.items()]
+    run = subprocess.run([program, "simulate", *options], input=text_of(script.lines), text=True, capture_output=True)
+    if (run.stdout, run.stderr, run.returncode) == (text_of(script.printed), "", 0):
         return False
-    with open("differs.script", "w") as file:
-        file.write(text)
+    pathlib.Path("differs.script").write_text(text_of(script.lines))
     came = run.stdout.splitlines()
     place = next((i for i, (a, b) in enumerate(zip(script.printed, came)) if a != b), min(len(script.printed), len(came)))
     print(f"options {' '.join(options)}, status {run.returncode} {run.stderr}")
@@ -177,9 +195,16 @@ def differs(program, script):
     return True
 
 
+def write_case(folder, number, script):
+    case = folder / f"{number:04}"
+    case.write_text(text_of(script.lines))
+    case.with_suffix(".args").write_text(text_of(["simulate", *(f"--{name}={value}" for name, value in script.options.items())]))
+    case.with_suffix(".stdout").write_text(text_of(script.printed))
+
+
 def main():
     words = argparse.ArgumentParser()
-    words.add_argument("program")
+    words.add_argument("program", type=pathlib.Path)
     words.add_argument("count", type=int, nargs="?", default=200)
     words.add_argument("first", type=int, nargs="?", default=1)
     asked = words.parse_args()
@@ -188,11 +213,13 @@ def main():
         script = Script(number)
         for _ in range(script.chance.randint(10, 150)):
             script.grow()
-        if differs(asked.program, script):
+        if asked.program.is_dir():
+            write_case(asked.program, number, script)
+        elif differs(asked.program, script):
             raise SystemExit(f"script {number} differs, and is in differs.script")
         seen.update({"lines": len(script.lines), "drains": sum(line.startswith("drain") for line in script.lines)})
         seen.update({"refused for draining": script.printed.count("refused 23 AlreadyDraining")})
-    print(f"{asked.count} scripts, alike: " + ", ".join(f"{count} {name}" for name, count in seen.items()))
+    print(f"{asked.count} scripts, {'written' if asked.program.is_dir() else 'alike'}: " + ", ".join(f"{count} {name}" for name, count in seen.items()))
 
 
 if __name__ == "__main__":

@@ -2,7 +2,6 @@
 ghost use Rattle.std.specs.Prelude.{◌≡◌, ◌+◌, ◌<◌, ◌≤◌, ◌++◌, [], ◌∷◌, map, filter, reverse, not, length, IfOk, OnOk, Err};
 ghost use Rattle.sup_local_sup.specs.Keeping.{is_wanted, is_kept, numbered, newly, staying, kept_of, stop, stops, start, IdsRise};
 ghost use Rattle.sup_local_sup.specs.Supervising.{others};
-ghost use Rattle.sup_local_sup.specs.Planning.{renewed_in};
 ghost use Rattle.sup_local_sup.specs.declared.fault.SupFault.TheVariants.{CountSpent};
 ghost use Rattle.sup_specs.specs.declared.limits.TheConstants.{MAX as MOST};
 ghost use Rattle.std.specs.Str.{bytes_eq};
@@ -13,6 +12,8 @@ ghost use Rattle.indexmap.specs.IndexMap.{KeepsRoom, spare};
 use crate::effect::{Effect, Incarnation};
 use crate::fault::SupFault;
 use crate::kept::Entry;
+use crate::kept_entry::KeptEntry;
+use crate::kept_list::KeptList;
 use crate::wanted::Wanted;
 use indexmap::IndexMap;
 use std::alloc::{AllocError, Global};
@@ -30,13 +31,13 @@ pub(crate) fn is_wanted(wanted: &[Wanted], id: &ChildId, entry: &Entry) -> bool
 }
 
 // Whether a wanted entry is kept.
-pub(crate) fn is_kept(kept: &IndexMap<ChildId, Entry>, w: &Wanted) -> bool
+pub(crate) fn is_kept(kept: &IndexMap<ChildId, KeptEntry>, w: &Wanted) -> bool
     ensures { result ≡ is_kept kept.now.entries w.now }
 {
     // For its clause alone: an id is kept once.
     let _once = kept.len();
     match kept.get(&w.id) {
-        Some(entry) => w.dot.cmp(&entry.dot).is_eq(),
+        Some(kept) => w.dot.cmp(&kept.entry().dot).is_eq(),
         None => false,
     }
 }
@@ -46,9 +47,9 @@ pub(crate) fn fresh(
     alloc: Global,
     boot: u64,
     given: u64,
-    kept: &IndexMap<ChildId, Entry>,
+    kept: &IndexMap<ChildId, KeptEntry>,
     wanted: &[Wanted],
-) -> Result<Vec<(ChildId, Entry)>, SupFault>
+) -> Result<Vec<(ChildId, KeptEntry)>, SupFault>
     requires { given ≤ MOST }
     ensures items { IfOk result (λ fresh. fresh.items ≡ numbered boot given (newly kept.now.entries wanted.now)) }
     ensures within { OnOk result (given + length (newly kept.now.entries wanted.now) ≤ MOST) }
@@ -71,7 +72,7 @@ pub(crate) fn fresh(
 // Adds what is wanted, as kept in the k-th run of this boot.
 fn push_newly(
     alloc: Global,
-    fresh: &mut Vec<(ChildId, Entry)>,
+    fresh: &mut Vec<(ChildId, KeptEntry)>,
     boot: u64,
     k: u64,
     w: &Wanted,
@@ -81,21 +82,19 @@ fn push_newly(
     let id = w.id.try_clone(alloc)?;
     let spec = w.spec.try_clone(alloc)?;
     let inc = Incarnation { boot, k };
-    fresh.push((
-        id,
-        Entry {
-            dot: w.dot,
-            spec,
-            inc,
-        },
-    ))?;
+    let entry = Entry {
+        dot: w.dot,
+        spec,
+        inc,
+    };
+    fresh.push((id, KeptEntry::new(alloc, entry)?))?;
     Ok(())
 }
 
 // The stops of what is kept and isn't wanted, the newest first.
 pub(crate) fn stops(
     alloc: Global,
-    kept: &IndexMap<ChildId, Entry>,
+    kept: &IndexMap<ChildId, KeptEntry>,
     wanted: &[Wanted],
 ) -> Result<Vec<Effect>, AllocError>
     requires { IdsRise wanted.now }
@@ -103,8 +102,8 @@ pub(crate) fn stops(
 {
     let mut stops = Vec::new(alloc);
     for (id, entry) in kept {
-        if !is_wanted(wanted, id, entry) {
-            stops.push(stop(alloc, id, entry)?)?;
+        if !is_wanted(wanted, id, entry.entry()) {
+            stops.push(stop(alloc, id, entry.entry())?)?;
         }
     }
     stops.reverse();
@@ -136,32 +135,32 @@ pub(crate) fn start(alloc: Global, id: &ChildId, entry: &Entry) -> Result<Effect
 pub(crate) fn push_starts(
     alloc: Global,
     effects: &mut Vec<Effect>,
-    fresh: &[(ChildId, Entry)],
+    fresh: &[(ChildId, KeptEntry)],
 ) -> Result<(), AllocError>
     ensures { OnOk result (effects.new.items ≡ effects.old.items ++ map start fresh.now) }
 {
     for (id, entry) in fresh {
-        effects.push(start(alloc, id, entry)?)?;
+        effects.push(start(alloc, id, entry.entry())?)?;
     }
     Ok(())
 }
 
 // Lets go what isn't wanted.
-pub(crate) fn keep_wanted(kept: &mut IndexMap<ChildId, Entry>, wanted: &[Wanted])
+pub(crate) fn keep_wanted(kept: &mut IndexMap<ChildId, KeptEntry>, wanted: &[Wanted])
     requires { IdsRise wanted.now }
     ensures entries { kept.new.entries ≡ staying kept.old.entries wanted.now }
     ensures room { KeepsRoom kept.old kept.new }
 {
     kept.retain(
-        |id: &ChildId, entry: &mut Entry| -> bool
+        |id: &ChildId, entry: &mut KeptEntry| -> bool
             requires { IdsRise wanted.now }
             ensures { (result ≡ is_wanted wanted.entry.now (id.now, entry.old)) × (entry.new ≡ entry.old) }
-        { is_wanted(wanted, id, entry) },
+        { is_wanted(wanted, id, entry.entry()) },
     );
 }
 
 // Adds what is newly kept, behind the rest. There is room for it.
-pub(crate) fn push_fresh(kept: &mut IndexMap<ChildId, Entry>, fresh: Vec<(ChildId, Entry)>)
+pub(crate) fn push_fresh(kept: &mut IndexMap<ChildId, KeptEntry>, fresh: Vec<(ChildId, KeptEntry)>)
     requires room { length fresh.items ≤ spare kept.old }
     requires new { IsDistinct bytes_eq (keys_of (kept.old.entries ++ fresh.items)) }
     ensures { kept.new.entries ≡ kept.old.entries ++ fresh.items }
@@ -174,10 +173,10 @@ pub(crate) fn push_fresh(kept: &mut IndexMap<ChildId, Entry>, fresh: Vec<(ChildI
 // The stops of all kept children but one, the newest first.
 pub(crate) fn stops_of_others(
     alloc: Global,
-    kept: &IndexMap<ChildId, Entry>,
+    kept: &KeptList,
     id: &ChildId,
 ) -> Result<Vec<Effect>, AllocError>
-    ensures { IfOk result (λ e. e.items ≡ reverse (map stop (filter (λ k. not (bytes_eq id.now k.0)) kept.now.entries))) }
+    ensures { IfOk result (λ e. e.items ≡ reverse (map stop (others kept.now id.now))) }
 {
     let mut stops = Vec::new(alloc);
     for (other, entry) in kept {
@@ -192,12 +191,12 @@ pub(crate) fn stops_of_others(
 // A copy of what is kept.
 pub(crate) fn copied(
     alloc: Global,
-    kept: &IndexMap<ChildId, Entry>,
-) -> Result<IndexMap<ChildId, Entry>, AllocError>
-    ensures { IfOk result (λ copy. copy.entries ≡ kept.now.entries) }
+    kept: &KeptList,
+) -> Result<IndexMap<ChildId, KeptEntry>, AllocError>
+    ensures { IfOk result (λ copy. copy.entries ≡ kept.now) }
 {
     // For its clause alone: an id is kept once.
-    let _once = kept.len();
+    kept.once();
     let entries = pairs(alloc, kept)?;
     let mut copy = IndexMap::new(alloc);
     copy.reserve(entries.len())?;
@@ -206,11 +205,8 @@ pub(crate) fn copied(
 }
 
 // Copies of what is kept, in a list.
-fn pairs(
-    alloc: Global,
-    kept: &IndexMap<ChildId, Entry>,
-) -> Result<Vec<(ChildId, Entry)>, AllocError>
-    ensures { IfOk result (λ pairs. pairs.items ≡ kept.now.entries) }
+fn pairs(alloc: Global, kept: &KeptList) -> Result<Vec<(ChildId, KeptEntry)>, AllocError>
+    ensures { IfOk result (λ pairs. pairs.items ≡ kept.now) }
 {
     let mut pairs = Vec::new(alloc);
     for (id, entry) in kept {
@@ -222,7 +218,7 @@ fn pairs(
 // Adds a copy of what is kept under an id.
 fn push_copy(
     alloc: Global,
-    pairs: &mut Vec<(ChildId, Entry)>,
+    pairs: &mut Vec<(ChildId, KeptEntry)>,
     id: &ChildId,
     entry: &Entry,
 ) -> Result<(), AllocError>
@@ -230,33 +226,22 @@ fn push_copy(
 {
     let id = id.try_clone(alloc)?;
     let spec = entry.spec.try_clone(alloc)?;
-    pairs.push((
-        id,
-        Entry {
-            dot: entry.dot,
-            spec,
-            inc: entry.inc,
-        },
-    ))?;
+    let copy = Entry {
+        dot: entry.dot,
+        spec,
+        inc: entry.inc,
+    };
+    pairs.push((id, KeptEntry::new(alloc, copy)?))?;
     Ok(())
 }
 
 // Lets one go.
-pub(crate) fn keep_others(kept: &mut IndexMap<ChildId, Entry>, id: &ChildId)
+pub(crate) fn keep_others(kept: &mut IndexMap<ChildId, KeptEntry>, id: &ChildId)
     ensures { kept.new.entries ≡ others kept.old.entries id.now }
 {
     kept.retain(
-        |other: &ChildId, entry: &mut Entry| -> bool
+        |other: &ChildId, entry: &mut KeptEntry| -> bool
             ensures { (result ≡ not (bytes_eq id.entry.now other.now)) × (entry.new ≡ entry.old) }
         { id != other },
     );
-}
-
-// Puts another run in the place of a child's last one, where it is kept.
-pub(crate) fn renew(kept: &mut IndexMap<ChildId, Entry>, id: &ChildId, inc: Incarnation)
-    ensures { kept.new.entries ≡ renewed_in kept.old.entries id.now inc (lookup (bytes_eq id.now) kept.old.entries) }
-{
-    if let Some(entry) = kept.get_mut(id) {
-        entry.inc = inc;
-    }
 }

@@ -6,11 +6,10 @@ ghost use Rattle.sup_node.specs.Whereabouts.{where_is};
 
 use crate::node::Node;
 use crate::whereis::Whereis;
-use indexmap::IndexMap;
 use std::alloc::AllocError;
-use sup_local_sup::Entry;
+use sup_local_sup::KeptList;
 use sup_placement::{Weigh, place};
-use sup_specs::{ChildId, Name, NodeName};
+use sup_specs::{Name, NodeName};
 use sup_tables::Tables;
 use sup_wire::Image;
 
@@ -30,8 +29,8 @@ impl<W: Weigh> Node<W> {
     }
 
     /// The children that it keeps running, each found by its id, in the order in which they were started.
-    pub fn kept(&self) -> &IndexMap<ChildId, Entry>
-        ensures { result.now.entries ≡ (station_of self.now).node.supervisor.kept }
+    pub fn kept(&self) -> &KeptList
+        ensures { result.now ≡ (station_of self.now).node.supervisor.kept }
     {
         self.state.replica.kept()
     }

@@ -170,7 +170,7 @@ info_takes Two d x e =
     let f = just (codes "label" ∷ codes "status" ∷ []) d j.0 in
     let is = f.1.1 in
     let r = info_fields_take f.0 f.1.0 x (subst (λ z. info_in z ≡ Some x) is j.1) in
-    (is ∙ r.0, r.1)
+    (is ∙ r.0, r.1, r.2)
 
 pub info_again : (v : Version) (x : MemberInfo) → IsText Visible 0 1024 x.label → IsTold v x.status → info_at v (info_value v x) ≡ Some x
 unfolding info_at has_just info_in status_in

@@ -5,4 +5,4 @@ use Rattle.sup_node_text.proofs.kept.kept_text.Given as goal
 
 -- what was written, and the lines of what is still to come
 abbrev pub invariant-loop-id : goal.invariant-loop-id
-invariant-loop-id l = string_bytes l.text ++ flat_map kept_line l.id-iterator ≡ flat_map kept_line l.kept.entries
+invariant-loop-id l = string_bytes l.text ++ flat_map kept_line l.id-iterator ≡ flat_map kept_line l.kept

@@ -1,0 +1,8 @@
+use Rattle.std.proofs.Common.{◌≡◌, ◌++◌, map}
+use Rattle.sup_local_sup.specs.Keeping.{stop}
+use Rattle.sup_local_sup.specs.Supervising.{others}
+use Rattle.sup_local_sup.specs.Changing.{under}
+use Rattle.sup_local_sup.proofs.remaining.push_other_stops.Given as goal
+
+abbrev pub invariant-loop-id : goal.invariant-loop-id
+invariant-loop-id l = l.stops.items ++ map stop (under (others l.id-iterator l.ended) l.ids) ≡ l.fn.stops.items ++ map stop (under (others l.kept l.ended) l.ids)
