@@ -24,7 +24,7 @@ use sup_specs::Plain;
 /// A map, and the functions that it gets by a join.
 #[derive(Drop)]
 pub struct ReadyMap<K: Plain, V: Plain> {
-    changing: Changing<K, V>,
+    pub(crate) changing: Changing<K, V>,
     pub ghost ready: { IsReady K.cmp changing.stores changing.index changing.changed },
 }
 
@@ -92,7 +92,7 @@ fn change_all<K: Plain, V: Plain>(
 }
 
 // The join of the functions under a key. An `Err` is want of memory.
-fn joined_under<K: Plain, V: Plain>(
+pub(crate) fn joined_under<K: Plain, V: Plain>(
     alloc: Global,
     stores: &BTreeMap<K, DotFun<V>>,
     mine: &CausalContext,

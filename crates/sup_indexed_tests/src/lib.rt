@@ -6,3 +6,5 @@
 mod given;
 #[cfg(test)]
 mod joins;
+#[cfg(test)]
+mod plans;

@@ -1,0 +1,55 @@
+//! Maps that are made ready for what is planned.
+
+ghost use Rattle.std.specs.Prelude.{◌≡◌, None, IfOk, IfErr, OnOk};
+ghost use Rattle.std.specs.BTreeMap.{get};
+ghost use Rattle.sup_causal.specs.declared.dot.Dot.{Dot as DotValue};
+ghost use Rattle.sup_dot_store.specs.Index.{value_under};
+ghost use Rattle.sup_indexed.specs.Changed.{IsReady, changed_value};
+
+use crate::changing::Changing;
+use crate::indexed_map::IndexedMap;
+use crate::joining::ReadyMap;
+use crate::planning::PlannedMap;
+use std::alloc::{AllocError, Global};
+use std::collections::BTreeMap;
+use sup_dot_store::DotFun;
+use sup_specs::Plain;
+
+impl<K: Plain, V: Plain> IndexedMap<K, V> {
+    ghost use Rattle.sup_indexed.specs.Contents.{functions_of, functions_before, functions_to_be, functions_planned};
+
+    /// Makes a plan ready, in any map. An `Err` is want of memory, and gives a map of the same rows back.
+    pub fn open_for(self, alloc: Global, plan: PlannedMap<K, V>) -> Result<ReadyMap<K, V>, Self>
+        ensures planned { IfOk result (λ r. (k : K) (d : DotValue) → changed_value K.cmp (functions_to_be r) (functions_before r) k d ≡ changed_value K.cmp (functions_planned plan) (functions_of self) k d) }
+        ensures same { IfOk result (λ r. (k : K) (d : DotValue) → value_under K.cmp (functions_before r) k d ≡ value_under K.cmp (functions_of self) k d) }
+        ensures err { IfErr result (λ m. (k : K) (d : DotValue) → value_under K.cmp (functions_of m) k d ≡ value_under K.cmp (functions_of self) k d) }
+    {
+        let mut changing = match Changing::of(self) {
+            Ok(changing) => changing,
+            Err(map) => return Err(map),
+        };
+        match change_planned(alloc, &mut changing, plan.changed) {
+            Ok(()) => Ok(ReadyMap { changing }),
+            Err(_) => Err(changing.given_up()),
+        }
+    }
+}
+
+// Has all functions that are planned changed. An `Err` is want of memory, and leaves no value changed.
+fn change_planned<K: Plain, V: Plain>(
+    alloc: Global,
+    changing: &mut Changing<K, V>,
+    planned: BTreeMap<K, DotFun<V>>,
+) -> Result<(), AllocError>
+    requires none { (k : K) → get K.cmp changing.old.changed k ≡ None }
+    requires ready { IsReady K.cmp changing.old.stores changing.old.index changing.old.changed }
+    ensures same { (k : K) (d : DotValue) → value_under K.cmp changing.new.stores k d ≡ value_under K.cmp changing.old.stores k d }
+    ensures changed { OnOk result ((k : K) → get K.cmp changing.new.changed k ≡ get K.cmp planned k) }
+    ensures ready { OnOk result (IsReady K.cmp changing.new.stores changing.new.index changing.new.changed) }
+{
+    let mut left = planned;
+    while let Some((key, function)) = left.pop_first() {
+        changing.change(alloc, key, function)?;
+    }
+    Ok(())
+}
