@@ -22,3 +22,8 @@ pub mod OneForm
 pub mod StateJoins
 pub mod OneOperationLaws
 pub mod CountedRows
+pub mod EligibleLaws
+pub mod PlannedJoins
+pub mod TouchedLaws
+pub mod OpenLaws
+pub mod AfterLaws

@@ -2,6 +2,7 @@
 #![tactic(auto)]
 
 mod adding;
+mod after;
 mod delta;
 pub mod fault;
 mod from_rows;
@@ -9,6 +10,9 @@ mod joining;
 pub mod laws;
 pub mod lent;
 mod one_operation;
+mod opening;
+mod openness;
+pub mod planning;
 mod putting;
 mod readers;
 mod removing;
@@ -20,6 +24,8 @@ pub mod tables;
 
 pub use fault::{PutFault, RowsFault};
 pub use lent::{LentEntry, LentRow};
+pub use opening::OpenTables;
+pub use planning::{PlannedTables, Touched};
 pub use row::{Entry, Row};
 pub use table::{Loser, Winner};
 pub use tables::Tables;

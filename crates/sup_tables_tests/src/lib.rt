@@ -16,3 +16,5 @@ mod reading;
 mod seen;
 #[cfg(test)]
 mod stories;
+#[cfg(test)]
+mod touching;

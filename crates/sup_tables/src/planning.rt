@@ -1,0 +1,159 @@
+//! Joins that are planned beside the tables, and what they touch.
+ghost use Rattle.std.specs.Prelude.{◌≡◌, ◌↔◌, ◌||◌, IsTrue, IfOk, IfSome, OnOk, OnErr};
+ghost use Rattle.std.specs.Option.{option_map};
+ghost use Rattle.std.specs.BTreeMap.{get};
+ghost use Rattle.std.specs.List.Sorted.{IsStrictlySortedBy};
+ghost use Rattle.sup_specs.specs.Values.{text_cmp};
+ghost use Rattle.sup_causal.specs.declared.dot.Dot.{Dot as DotValue};
+ghost use Rattle.sup_causal.specs.Dots.{has, IsCounted};
+ghost use Rattle.sup_indexed.specs.Contents.{functions_of, functions_planned};
+ghost use Rattle.sup_indexed.specs.Touched.{first_in, function_after};
+ghost use Rattle.sup_tables.specs.Rows.{children};
+ghost use Rattle.sup_tables.specs.Readers.{winner};
+ghost use Rattle.sup_tables.specs.States.{State};
+ghost use Rattle.sup_tables.specs.Joined.{join_states};
+ghost use Rattle.sup_tables.specs.Stored.{AreCovered, stored_in, child_row};
+ghost use Rattle.sup_tables.specs.Planned.{IsPlanFor, ArePlanned, AreTouched, MembersDiffer};
+
+use crate::openness::Openness;
+use crate::tables::{Stores, Table, Tables};
+use std::alloc::{AllocError, Global};
+use std::mem::replace;
+use sup_causal::{CausalContext, Dot, Lattice};
+use sup_indexed::PlannedMap;
+use sup_specs::{ChildId, ChildSpec, MemberInfo, Name, NodeName, Plain};
+
+/// A join of tables that is planned: the rows of each key that it may change, and the dots that are known then. It
+/// borrows nothing.
+#[derive(Drop)]
+pub struct PlannedTables {
+    pub(crate) members: PlannedMap<NodeName, MemberInfo>,
+    pub(crate) children: PlannedMap<ChildId, ChildSpec>,
+    pub(crate) names: PlannedMap<Name, ChildId>,
+    pub(crate) context: CausalContext,
+}
+
+/// What a join touches: whether children may be placed on other members than before, and the children with another
+/// winner, rising by id.
+#[derive(Drop)]
+pub struct Touched {
+    pub members: bool,
+    pub children: Vec<ChildId>,
+}
+
+impl Tables {
+    /// Plans a join with other tables. Nothing changes. An `Err` is want of memory, or of a count of the rows.
+    pub fn plan_join(&self, alloc: Global, delta: &Tables) -> Result<PlannedTables, AllocError>
+        ensures { IfOk result (λ p. IsPlanFor p self.now (join_states self.now delta.now)) }
+    {
+        let Some(_rows) = self.row_count().checked_add(delta.row_count()) else {
+            return Err(AllocError);
+        };
+        let planned = planned(
+            alloc,
+            self.stores(),
+            self.context(),
+            delta.stores(),
+            delta.context(),
+        )?;
+        Ok(planned)
+    }
+
+    /// What a plan touches.
+    pub fn touched_by(&self, alloc: Global, plan: &PlannedTables) -> Result<Touched, AllocError>
+        ensures rise { IfOk result (λ t. IsStrictlySortedBy text_cmp t.children.items) }
+        ensures children { IfOk result (λ t. (new : State) → IsPlanFor plan.now self.now new → AreTouched t.children.items self.now new) }
+        ensures members { IfOk result (λ t. (new : State) → IsPlanFor plan.now self.now new → (IsTrue t.members ↔ MembersDiffer self.now new)) }
+    {
+        // For its clause: tables are in their one form.
+        self.context();
+        let store = self.stores();
+        let children = store.second.first.touched_by(alloc, &plan.children)?;
+        Ok(Touched {
+            members: store.first.differs_in(&plan.members, &Openness),
+            children,
+        })
+    }
+
+    /// Takes in what other tables know, and tells what that touched. An `Err` changes nothing.
+    pub fn join_touching(&mut self, alloc: Global, delta: &Tables) -> Result<Touched, AllocError>
+        ensures state { OnOk result (self.new ≡ join_states self.old delta.now) }
+        ensures err { OnErr result (self.new ≡ self.old) }
+        ensures rise { IfOk result (λ t. IsStrictlySortedBy text_cmp t.children.items) }
+        ensures children { IfOk result (λ t. AreTouched t.children.items self.old self.new) }
+        ensures members { IfOk result (λ t. IsTrue t.members ↔ MembersDiffer self.old self.new) }
+    {
+        let plan = self.plan_join(alloc, delta)?;
+        let touched = self.touched_by(alloc, &plan)?;
+        let tables = replace(self, Tables::empty(alloc));
+        match tables.open(alloc, plan) {
+            Ok(open) => {
+                *self = open.carried_out();
+                Ok(touched)
+            }
+            Err(tables) => {
+                *self = tables;
+                Err(AllocError)
+            }
+        }
+    }
+
+    /// The dot and the value of a child's winner once the plan is carried out. The dot passes [`Dot::is_counted`].
+    pub fn child_after<'a>(
+        &'a self,
+        plan: &'a PlannedTables,
+        id: &ChildId,
+    ) -> Option<(Dot, &'a ChildSpec)>
+        ensures winner { (new : State) → IsPlanFor plan.now self.now new → option_map (λ r. child_row id.now r.0 r.1.now) result ≡ winner new.rows children id.now }
+        ensures counted { (new : State) → IsPlanFor plan.now self.now new → IfSome result (λ r. IsCounted r.0) }
+    {
+        // For its clauses: tables are in their one form, and the counters of known dots in their limits.
+        self.context();
+        plan.context.counted();
+        first_after(&self.stores().second.first, &plan.children, id)
+    }
+}
+
+// The first value of a key, by dot, once a plan is carried out.
+fn first_after<'a, K: Plain, V: Plain>(
+    table: &'a Table<K, V>,
+    plan: &'a PlannedMap<K, V>,
+    key: &K,
+) -> Option<(Dot, &'a V)>
+    ensures { option_map (λ r. (r.0, r.1.now)) result ≡ first_in (function_after (get K.cmp (functions_planned plan.now) key.now) (get K.cmp (functions_of table.now) key.now)) }
+{
+    let values = table.get_after(plan, key)?;
+    let (dot, value) = values.first()?;
+    Some((*dot, value))
+}
+
+// The plan of a join of stores under their contexts.
+fn planned(
+    alloc: Global,
+    store: &Stores,
+    mine: &CausalContext,
+    other: &Stores,
+    theirs: &CausalContext,
+) -> Result<PlannedTables, AllocError>
+    requires mine { AreCovered mine.now (stored_in store.now) }
+    requires theirs { AreCovered theirs.now (stored_in other.now) }
+    ensures contexts { IfOk result (λ p. (d : DotValue) → has p.context d ≡ (has mine.now d || has theirs.now d)) }
+    ensures planned { IfOk result (λ p. ArePlanned p mine.now (stored_in store.now) theirs.now (stored_in other.now)) }
+{
+    let members = store.first.plan_with(alloc, mine, &other.first, theirs)?;
+    let children = store
+        .second
+        .first
+        .plan_with(alloc, mine, &other.second.first, theirs)?;
+    let names = store
+        .second
+        .second
+        .plan_with(alloc, mine, &other.second.second, theirs)?;
+    let context = mine.joined(alloc, theirs)?;
+    Ok(PlannedTables {
+        members,
+        children,
+        names,
+        context,
+    })
+}
