@@ -1,4 +1,5 @@
-//! Maps that are made ready for what is planned.
+//! Maps that are opened for what is planned: all room is taken, so what follows can't be refused. Of two maps the first
+//! can be given up where the second is refused.
 
 ghost use Rattle.std.specs.Prelude.{◌≡◌, None, IfOk, IfErr, OnOk};
 ghost use Rattle.std.specs.BTreeMap.{get};
@@ -8,17 +9,23 @@ ghost use Rattle.sup_indexed.specs.Changed.{IsReady, changed_value};
 
 use crate::changing::Changing;
 use crate::indexed_map::IndexedMap;
-use crate::joining::ReadyMap;
 use crate::planning::PlannedMap;
 use std::alloc::{AllocError, Global};
 use std::collections::BTreeMap;
 use sup_dot_store::DotFun;
 use sup_specs::Plain;
 
+/// A map, and the functions that it gets.
+#[derive(Drop)]
+pub struct ReadyMap<K: Plain, V: Plain> {
+    changing: Changing<K, V>,
+    pub ghost ready: { IsReady K.cmp changing.stores changing.index changing.changed },
+}
+
 impl<K: Plain, V: Plain> IndexedMap<K, V> {
     ghost use Rattle.sup_indexed.specs.Contents.{functions_of, functions_before, functions_to_be, functions_planned};
 
-    /// Makes a plan ready, in any map. An `Err` is want of memory, and gives a map of the same rows back.
+    /// Takes all room that a plan needs, in any map. An `Err` is want of memory, and gives a map of the same rows back.
     pub fn open_for(self, alloc: Global, plan: PlannedMap<K, V>) -> Result<ReadyMap<K, V>, Self>
         ensures planned { IfOk result (λ r. (k : K) (d : DotValue) → changed_value K.cmp (functions_to_be r) (functions_before r) k d ≡ changed_value K.cmp (functions_planned plan) (functions_of self) k d) }
         ensures same { IfOk result (λ r. (k : K) (d : DotValue) → value_under K.cmp (functions_before r) k d ≡ value_under K.cmp (functions_of self) k d) }
@@ -32,6 +39,20 @@ impl<K: Plain, V: Plain> IndexedMap<K, V> {
             Ok(()) => Ok(ReadyMap { changing }),
             Err(_) => Err(changing.given_up()),
         }
+    }
+
+    /// The map with the functions changed. It takes no memory.
+    pub fn carry_out(ready: ReadyMap<K, V>) -> Self
+        ensures { (k : K) (d : DotValue) → value_under K.cmp (functions_of result) k d ≡ changed_value K.cmp (functions_to_be ready) (functions_before ready) k d }
+    {
+        ready.changing.carried_out()
+    }
+
+    /// The map as it was. It takes no memory.
+    pub fn give_up(ready: ReadyMap<K, V>) -> Self
+        ensures { (k : K) (d : DotValue) → value_under K.cmp (functions_of result) k d ≡ value_under K.cmp (functions_before ready) k d }
+    {
+        ready.changing.given_up()
     }
 }
 

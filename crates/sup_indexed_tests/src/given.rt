@@ -3,12 +3,14 @@
 use std::process::Abort;
 use sup_causal::{CausalContext, Dot, Lattice};
 use sup_dot_store::{Causal, DotFun, DotMap, DotStore};
-use sup_indexed::IndexedMap;
+use sup_indexed::{IndexedMap, PlannedMap};
 use sup_specs::NodeName;
 
 pub(crate) type Table = DotMap<u8, DotFun<u8>>;
 
 pub(crate) type Indexed = IndexedMap<u8, u8>;
+
+pub(crate) type Plan = PlannedMap<u8, u8>;
 
 /// Dots, by node and counter.
 pub(crate) type Dots<'a> = &'a [(&'a str, u64)];
@@ -90,4 +92,37 @@ pub(crate) fn rows(rt: &(impl Abort + AllocGlobal), rows: Rows<'_>) -> Vec<(u8, 
         all.push((*key, dot(rt, *of), *value)).expect(rt, "room");
     }
     all
+}
+
+/// Expects a map to have these rows, and to count them.
+pub(crate) fn expect_rows(rt: &(impl Abort + AllocGlobal), table: Indexed, wanted: Rows<'_>) {
+    assert!(rt; table.count() == Some(wanted.len()));
+    assert!(rt; rows_of(rt, &table.into_map()) == rows(rt, wanted));
+}
+
+/// What a join with another state changes.
+pub(crate) fn planned(
+    rt: &(impl Abort + AllocGlobal),
+    state: &Causal<Indexed>,
+    other: &Causal<Indexed>,
+) -> Plan {
+    let (store, theirs) = (state.store(), other.store());
+    store
+        .plan_with(rt.alloc(), state.context(), theirs, other.context())
+        .expect(rt, "room")
+}
+
+/// The join with another state, planned and carried out.
+pub(crate) fn in_place(
+    rt: &(impl Abort + AllocGlobal),
+    state: Causal<Indexed>,
+    other: &Causal<Indexed>,
+) -> Causal<Indexed> {
+    let plan = planned(rt, &state, other);
+    let (table, context) = state.into_parts();
+    let ready = table.open_for(rt.alloc(), plan).ok().expect(rt, "room");
+    let context = context
+        .joined(rt.alloc(), other.context())
+        .expect(rt, "room");
+    Causal::of(IndexedMap::carry_out(ready), context).expect(rt, "the dots of all rows")
 }

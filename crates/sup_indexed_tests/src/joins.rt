@@ -1,28 +1,30 @@
 //! Joins in place, beside merges, at values that were worked out by hand.
 use crate::given::{
-    Dots, Indexed, Known, Rows, dots, indexed, merged, rows, rows_of, under_two_keys,
+    Dots, Indexed, Known, Rows, dots, expect_rows, in_place, indexed, merged, rows, rows_of,
+    under_two_keys,
 };
 use std::process::Abort;
 use sup_causal::Lattice;
-use sup_dot_store::{Both, Causal, DotStore};
-use sup_indexed::{IndexedMap, JoinInPlace, join_from, joined_with};
+use sup_dot_store::{Causal, DotStore};
+use sup_indexed::IndexedMap;
 
-// Expects a map to have these rows, and to count them.
-fn expect_rows(rt: &(impl Abort + AllocGlobal), state: Causal<Indexed>, wanted: Rows<'_>) {
+// Expects a state to have these rows, and to count them.
+fn expect_state(rt: &(impl Abort + AllocGlobal), state: Causal<Indexed>, wanted: Rows<'_>) {
     let (table, _) = state.into_parts();
-    assert!(rt; table.count() == Some(wanted.len()));
-    assert!(rt; rows_of(rt, &table.into_map()) == rows(rt, wanted));
+    expect_rows(rt, table, wanted);
 }
 
-// Expects a join in place to tell whether it changed anything.
-fn grow<S: JoinInPlace>(
+// The join in place, which is expected to bring something that is new, or nothing.
+fn grown(
     rt: &(impl Abort + AllocGlobal),
-    state: &mut Causal<S>,
-    other: &Causal<S>,
+    state: Causal<Indexed>,
+    other: &Causal<Indexed>,
     changes: bool,
-) {
-    assert!(rt; join_from(rt.alloc(), state, other).expect(rt, "room") == changes);
-    assert!(rt; other.leq(state));
+) -> Causal<Indexed> {
+    assert!(rt; other.leq(&state) != changes);
+    let grown = in_place(rt, state, other);
+    assert!(rt; other.leq(&grown));
+    grown
 }
 
 // Expects the join of the two to have these rows, by a merge, anew and in place.
@@ -46,14 +48,10 @@ fn expect_joins(
     wanted: Rows<'_>,
 ) {
     let anew = indexed(rt, left).joined(rt.alloc(), other);
-    expect_rows(rt, anew.expect(rt, "room"), wanted);
-    let (in_place, done) = joined_with(rt.alloc(), indexed(rt, left), other);
-    done.expect(rt, "room");
-    expect_rows(rt, in_place, wanted);
-    let mut grown = indexed(rt, left);
-    grow(rt, &mut grown, other, changes);
-    grow(rt, &mut grown, other, false);
-    expect_rows(rt, grown, wanted);
+    expect_state(rt, anew.expect(rt, "room"), wanted);
+    let once = grown(rt, indexed(rt, left), other, changes);
+    let twice = grown(rt, once, other, false);
+    expect_state(rt, twice, wanted);
 }
 
 #[test]
@@ -125,10 +123,9 @@ fn expect_left(rt: &(impl Abort + AllocGlobal), known: Known<'_>, gone: Dots<'_>
     let (mut table, context) = indexed(rt, known).into_parts();
     table.retract(&dots(rt, gone));
     assert!(rt; table.is_empty() == left.is_empty());
-    let mut state = Causal::of(table, context).expect(rt, "the dots of all rows");
+    let state = Causal::of(table, context).expect(rt, "the dots of all rows");
     // The rows of the dots that went are gone for the others, too.
-    grow(rt, &mut state, &indexed(rt, known), false);
-    expect_rows(rt, state, left);
+    expect_state(rt, grown(rt, state, &indexed(rt, known), false), left);
 }
 
 #[test]
@@ -139,61 +136,13 @@ fn rows_without_dots_leave_the_index(rt: HostRuntime) {
 }
 
 #[test]
-fn two_maps_are_joined_in_place_together(rt: HostRuntime) {
-    let pair = |known| {
-        let (first, context) = indexed(&rt, known).into_parts();
-        let (second, _) = indexed(&rt, known).into_parts();
-        Causal::of(Both { first, second }, context).expect(&rt, "the dots of all rows")
-    };
-    let mut both = pair((&[(1, ("a", 1), 7)], &[]));
-    grow(
-        &rt,
-        &mut both,
-        &pair((&[(2, ("b", 1), 8)], &[("a", 1)])),
-        true,
-    );
-    let (both, _) = both.into_parts();
-    let wanted = rows(&rt, &[(2, ("b", 1), 8)]);
-    assert!(rt; rows_of(&rt, &both.first.into_map()) == wanted);
-    assert!(rt; rows_of(&rt, &both.second.into_map()) == wanted);
-}
-
-// The state whose join with another was made ready and given up.
-fn given_up(
-    rt: &(impl Abort + AllocGlobal),
-    state: Causal<Indexed>,
-    other: &Causal<Indexed>,
-) -> Causal<Indexed> {
-    let (table, context) = state.into_parts();
-    let (theirs, known) = (other.store(), other.context());
-    assert!(rt; theirs.covered_by(known));
-    let ready = table.ready(rt.alloc(), &context, theirs, known);
-    let table: Indexed = IndexedMap::give_up(ready.ok().expect(rt, "room"));
-    Causal::of(table, context).expect(rt, "the dots of all rows")
-}
-
-#[test]
-fn a_join_that_is_given_up_leaves_the_rows(rt: HostRuntime) {
-    let more: Known<'_> = (&[(1, ("b", 1), 8), (2, ("b", 2), 9)], &[("a", 1)]);
-    let state = indexed(&rt, (&[(1, ("a", 1), 7)], &[]));
-    let mut state = given_up(&rt, state, &indexed(&rt, more));
-    grow(&rt, &mut state, &indexed(&rt, more), true);
-    expect_rows(&rt, state, &[(1, ("b", 1), 8), (2, ("b", 2), 9)]);
-}
-
-#[test]
 fn a_dot_under_two_keys_goes_from_both(rt: HostRuntime) {
     let table = under_two_keys(&rt, ("a", 1));
     let table = IndexedMap::of_map(rt.alloc(), table);
     let (_, context) = indexed(&rt, (&[], &[("a", 1)])).into_parts();
-    let mut state = Causal::of(table, context).expect(&rt, "the dot of the rows");
-    grow(
-        &rt,
-        &mut state,
-        &indexed(&rt, (&[(2, ("a", 1), 5)], &[])),
-        true,
-    );
-    expect_rows(&rt, state, &[(2, ("a", 1), 5)]);
+    let state = Causal::of(table, context).expect(&rt, "the dot of the rows");
+    let other = indexed(&rt, (&[(2, ("a", 1), 5)], &[]));
+    expect_state(&rt, grown(&rt, state, &other, true), &[(2, ("a", 1), 5)]);
 }
 
 #[test]
@@ -208,14 +157,14 @@ fn a_state_of_few_dots_is_found_by_an_index(rt: HostRuntime) {
         (7, ("a", 7), 7),
         (8, ("a", 8), 7),
     ];
-    let mut state = indexed(&rt, (many, &[]));
-    grow(&rt, &mut state, &indexed(&rt, (&[], &[("b", 1)])), true);
+    let other = indexed(&rt, (&[], &[("b", 1)]));
+    let state = grown(&rt, indexed(&rt, (many, &[])), &other, true);
     // What it has, what it has not, what is greater there, and what is gone there.
     assert!(rt; indexed(&rt, (&[(3, ("a", 3), 7)], &[])).leq(&state));
     assert!(rt; !indexed(&rt, (&[(3, ("a", 9), 7)], &[])).leq(&state));
     assert!(rt; !indexed(&rt, (&[(3, ("a", 3), 6)], &[])).leq(&state));
     assert!(rt; !indexed(&rt, (&[], &[("a", 3)])).leq(&state));
-    expect_rows(&rt, state, many);
+    expect_state(&rt, state, many);
 }
 
 #[test]

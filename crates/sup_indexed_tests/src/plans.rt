@@ -1,9 +1,11 @@
 //! Joins in three steps: planned beside a map, opened, and carried out or given up.
-use crate::given::{Indexed, Known, Rows, indexed, merged, rows, rows_of};
+use crate::given::{
+    Indexed, Known, Plan, Rows, expect_rows, indexed, merged, planned, rows, rows_of,
+};
 use std::process::Abort;
 use sup_causal::Lattice;
 use sup_dot_store::Causal;
-use sup_indexed::{IndexedMap, JoinInPlace, PlannedMap, Property, ReadyMap};
+use sup_indexed::{IndexedMap, Property, ReadyMap};
 
 // Two values under 1, and one under 2 and 3.
 const HERE: Known<'_> = (
@@ -30,17 +32,6 @@ const TOGETHER: Rows<'_> = &[
     (4, ("b", 6), 9),
 ];
 
-fn planned(
-    rt: &(impl Abort + AllocGlobal),
-    state: &Causal<Indexed>,
-    other: &Causal<Indexed>,
-) -> PlannedMap<u8, u8> {
-    let (store, theirs) = (state.store(), other.store());
-    store
-        .plan_with(rt.alloc(), state.context(), theirs, other.context())
-        .expect(rt, "room")
-}
-
 // The map of these rows, opened for a plan of the join with those.
 fn opened(rt: &(impl Abort + AllocGlobal), here: Causal<Indexed>) -> ReadyMap<u8, u8> {
     let plan = planned(rt, &here, &indexed(rt, THERE));
@@ -51,11 +42,6 @@ fn opened(rt: &(impl Abort + AllocGlobal), here: Causal<Indexed>) -> ReadyMap<u8
 fn with_index(rt: &(impl Abort + AllocGlobal), known: Known<'_>) -> Causal<Indexed> {
     let (table, context) = indexed(rt, known).into_parts();
     Causal::of(table.with_index(), context).expect(rt, "the dots of all rows")
-}
-
-fn expect_rows(rt: &(impl Abort + AllocGlobal), table: Indexed, wanted: Rows<'_>) {
-    assert!(rt; table.count() == Some(wanted.len()));
-    assert!(rt; rows_of(rt, &table.into_map()) == rows(rt, wanted));
 }
 
 #[test]
@@ -109,7 +95,7 @@ fn a_property_of_first_values_comes_or_goes(rt: HostRuntime) {
 }
 
 // How many values the function under a key has once the plan is carried out.
-fn count_after(state: &Causal<Indexed>, plan: &PlannedMap<u8, u8>, key: u8) -> Option<usize> {
+fn count_after(state: &Causal<Indexed>, plan: &Plan, key: u8) -> Option<usize> {
     let function = state.store().get_after(plan, &key)?;
     Some(function.values().len())
 }
