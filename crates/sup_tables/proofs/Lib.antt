@@ -17,7 +17,7 @@ pub mod GreatestLaws
 pub mod CoverTests
 pub mod WorkedRows
 pub mod PlacedRows
-pub mod JoinedInPlace
+pub mod RowCounts
 pub mod OneForm
 pub mod StateJoins
 pub mod OneOperationLaws

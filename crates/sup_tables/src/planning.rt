@@ -85,11 +85,21 @@ impl Tables {
     {
         let plan = self.plan_join(alloc, delta)?;
         let touched = self.touched_by(alloc, &plan)?;
+        self.follow(alloc, plan)?;
+        Ok(touched)
+    }
+
+    // Becomes what the plan makes. An `Err` is want of memory, and changes nothing.
+    pub(crate) fn follow(&mut self, alloc: Global, plan: PlannedTables) -> Result<(), AllocError>
+        requires { (new : State) × IsPlanFor plan self.old new }
+        ensures made { OnOk result ((new : State) → IsPlanFor plan self.old new → self.new ≡ new) }
+        ensures err { OnErr result (self.new ≡ self.old) }
+    {
         let tables = replace(self, Tables::empty(alloc));
         match tables.open(alloc, plan) {
             Ok(open) => {
                 *self = open.carried_out();
-                Ok(touched)
+                Ok(())
             }
             Err(tables) => {
                 *self = tables;
