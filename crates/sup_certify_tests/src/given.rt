@@ -72,6 +72,38 @@ pub(crate) fn comes(rt: &(impl Abort + AllocGlobal), bytes: &[u8]) -> Act {
     Act::Event(Event::Deliver(MessageText::new(bytes)))
 }
 
+pub(crate) fn push(rt: &impl Abort, to: &str) -> Act {
+    Act::Event(Event::Push(node(rt, to)))
+}
+
+/// A plan of three nodes, a, b and c.
+pub(crate) fn plan_of_three(rt: &(impl Abort + AllocGlobal)) -> Plan {
+    Plan {
+        config: Config::default(),
+        nodes: vec![in rt.alloc(); node(rt, "a"), node(rt, "b"), node(rt, "c")].expect(rt, "room"),
+        commands: Vec::new(rt.alloc()),
+        scripts: Vec::new(rt.alloc()),
+    }
+}
+
+/// Their histories.
+pub(crate) fn histories_of_three(
+    rt: &(impl Abort + AllocGlobal),
+    a: Vec<Entry>,
+    b: Vec<Entry>,
+    c: Vec<Entry>,
+) -> Histories {
+    let mut all = Vec::new(rt.alloc());
+    for (name, entries) in [("a", a), ("b", b), ("c", c)] {
+        all.push(History {
+            node: node(rt, name),
+            entries,
+        })
+        .expect(rt, "room");
+    }
+    Histories::new(all)
+}
+
 /// A plan of two nodes without commands and scripts, which certification doesn't look at.
 pub(crate) fn plan(rt: &(impl Abort + AllocGlobal), first: &str, second: &str) -> Plan {
     Plan {

@@ -2,7 +2,7 @@
 ghost use Rattle.std.specs.Prelude.{◌≡◌};
 ghost use Rattle.sup_node_gate.specs.Gates.{IsOf};
 
-use crate::given::{Caller, Gate, comes, drain, gate, join, ship, start};
+use crate::given::{Caller, Gate, comes, drain, gate, join, push, ship, start};
 use std::process::Abort;
 use sup_node_gate::Entry;
 use sup_placement::FlatWeigh;
@@ -84,4 +84,61 @@ pub(crate) fn disturbed(rt: &(impl Abort + AllocGlobal), name: &str) -> Vec<Entr
     }
     done(rt, &at, &mut pass, join(rt));
     closed(rt, at, pass)
+}
+
+/// Node c starts one and pushes it to b; b takes that, starts two and pushes this to a; a takes that.
+pub(crate) fn chain(rt: &(impl Abort + AllocGlobal)) -> (Vec<Entry>, Vec<Entry>, Vec<Entry>) {
+    let (a, mut at_a) = gate(rt, "a");
+    let (b, mut at_b) = gate(rt, "b");
+    let (c, mut at_c) = gate(rt, "c");
+    done(rt, &c, &mut at_c, start(rt, "one"));
+    let one = letter(rt, &done(rt, &c, &mut at_c, push(rt, "b")));
+    done(rt, &b, &mut at_b, comes(rt, one.as_slice()));
+    done(rt, &b, &mut at_b, start(rt, "two"));
+    let two = letter(rt, &done(rt, &b, &mut at_b, push(rt, "a")));
+    done(rt, &a, &mut at_a, comes(rt, two.as_slice()));
+    (
+        closed(rt, a, at_a),
+        closed(rt, b, at_b),
+        closed(rt, c, at_c),
+    )
+}
+
+// The push of a node that has started this child and nothing else.
+fn pushed(rt: &(impl Abort + AllocGlobal), name: &str, child: &str, to: &str) -> Vec<u8> {
+    let (at, mut pass) = gate(rt, name);
+    done(rt, &at, &mut pass, start(rt, child));
+    letter(rt, &done(rt, &at, &mut pass, push(rt, to)))
+}
+
+// A node to which this text comes first, and which starts a child and pushes it then.
+fn answering(
+    rt: &(impl Abort + AllocGlobal),
+    name: &str,
+    text: &[u8],
+    child: &str,
+    to: &str,
+) -> (Vec<u8>, Vec<Entry>) {
+    let (at, mut pass) = gate(rt, name);
+    done(rt, &at, &mut pass, comes(rt, text));
+    done(rt, &at, &mut pass, start(rt, child));
+    let sent = letter(rt, &done(rt, &at, &mut pass, push(rt, to)));
+    (sent, closed(rt, at, pass))
+}
+
+/// To each of a and b comes first what the other pushes last.
+pub(crate) fn circular(rt: &(impl Abort + AllocGlobal)) -> (Vec<Entry>, Vec<Entry>) {
+    let by_a = pushed(rt, "a", "one", "b");
+    let by_b = pushed(rt, "b", "two", "a");
+    let (also_by_a, a) = answering(rt, "a", by_b.as_slice(), "one", "b");
+    let (also_by_b, b) = answering(rt, "b", by_a.as_slice(), "two", "a");
+    assert!(rt;
+        by_a.as_slice() == also_by_a.as_slice(),
+        "a pushes another text"
+    );
+    assert!(rt;
+        by_b.as_slice() == also_by_b.as_slice(),
+        "b pushes another text"
+    );
+    (a, b)
 }

@@ -1,6 +1,6 @@
 //! Histories that make a run.
-use crate::given::{child, histories, node, plan};
-use crate::histories::{disturbed, drained, joined, lost_and_doubled};
+use crate::given::{child, histories, histories_of_three, node, plan, plan_of_three};
+use crate::histories::{chain, disturbed, drained, joined, lost_and_doubled};
 use std::process::Abort;
 use sup_certify::{Run, certify};
 use sup_model::Step;
@@ -81,4 +81,12 @@ fn nodes_are_gone_round_in_the_order_of_their_names(rt: HostRuntime) {
         panic!(rt; "no act")
     };
     assert!(rt; *at == node(&rt, "a"));
+}
+
+#[test]
+fn a_chain_of_three_nodes_is_a_run(rt: HostRuntime) {
+    let (a, b, c) = chain(&rt);
+    let run = certified(&rt, &plan_of_three(&rt), &histories_of_three(&rt, a, b, c));
+    assert!(rt; run.steps.len() == 6);
+    assert!(rt; arrivals(run.steps.as_slice()) == (2, 0));
 }

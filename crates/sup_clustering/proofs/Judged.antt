@@ -1,5 +1,5 @@
 -- Histories that a plan's threads gave can be judged, so a fault of their judgement is that of a replay.
-use Rattle.std.specs.Prelude.{◌≡◌, false, List, [], ◌∷◌}
+use Rattle.std.specs.Prelude.{◌≡◌, ◌≢◌, false, List, [], ◌∷◌}
 use Rattle.std.specs.List.{AllByRecursion, IsDistinct}
 use Rattle.std.specs.Str.{bytes_eq}
 use Rattle.std.specs.Cmp.Lexicographic.{nat_list_eq_equiv}
@@ -17,6 +17,7 @@ use Rattle.sup_world.specs.Naming.{AreWorldNames}
 use Rattle.sup_world.specs.Seen.{Seen}
 use Rattle.sup_cluster.specs.Runs as threads
 use Rattle.sup_certify.specs.Certified.{IsNewWorld}
+use Rattle.sup_certify.specs.Complete.{HasRun}
 use Rattle.sup_certify.specs.Faults.{CanJudge, IsFaultFrom, IsFaultOf}
 use Rattle.sup_certify.specs.declared.fault.CertifyFault.{CertifyFault}
 use Rattle.sup_certify.specs.declared.fault.CertifyFault.TheVariants.{Stuck, Differs, OutOfMemory}
@@ -43,18 +44,19 @@ replayed g config names hs fault can (inl j) = absurd (j.1 can)
 replayed g config names hs fault can (inr j) = j.1
 
 -- such a fault, where memory was not wanted
-no_run : (g : Weigher) (plan : Plan) (hs : List History) (fault : CertifyFault) → (fault ≡ OutOfMemory → ⊥) → threads.IsRunOf g plan hs
-    → (fault ≡ OutOfMemory) ⊎ ((start : List Seen) × IsNewWorld g plan.config plan.nodes.items start × IsFaultFrom g start hs fault) → IsNoRun g plan fault
-no_run g plan hs fault room ran (inl e) = absurd (room e)
-no_run g plan hs fault room ran (inr r) = record { histories = hs; ran = ran; start = r.0; is_new = r.1; ends = r.2 }
+no_run : (g : Weigher) (plan : Plan) (hs : List History) (fault : CertifyFault) → fault ≢ OutOfMemory → threads.IsRunOf g plan hs
+    → (fault ≡ OutOfMemory) ⊎ ((start : List Seen) × IsNewWorld g plan.config plan.nodes.items start × IsFaultFrom g start hs fault) → (fault ≢ OutOfMemory → ¬ HasRun g plan.config plan.nodes.items hs) → IsNoRun g plan fault
+no_run g plan hs fault room ran (inl e) none = absurd (room e)
+no_run g plan hs fault room ran (inr r) none = record { histories = hs; ran = ran; start = r.0; is_new = r.1; ends = r.2; none = none room }
 
 -- what a plan's threads did can be judged
 can_judge : (g : Weigher) (plan : Plan) (hs : List History) → IsPlan plan → threads.IsRunOf g plan hs → CanJudge plan.nodes.items hs
 can_judge g plan hs p ran = record { are_of = ran.nodes; named = names_make plan p }
 
 -- why what a plan's threads did is not certified
-pub uncertified : (g : Weigher) (plan : Plan) (hs : List History) (fault : CertifyFault) → IsPlan plan → threads.IsRunOf g plan hs → IsFaultOf g plan.config plan.nodes.items hs fault → IsUncertified g plan fault
-uncertified g plan hs OutOfMemory p ran j = tt
-uncertified g plan hs Stuck p ran j = no_run g plan hs Stuck (λ e. cc) ran (replayed g plan.config plan.nodes.items hs Stuck (can_judge g plan hs p ran) j)
-uncertified g plan hs (Differs node place) p ran j =
-    no_run g plan hs (Differs node place) (λ e. cc) ran (replayed g plan.config plan.nodes.items hs (Differs node place) (can_judge g plan hs p ran) j)
+pub uncertified : (g : Weigher) (plan : Plan) (hs : List History) (fault : CertifyFault) → IsPlan plan → threads.IsRunOf g plan hs → IsFaultOf g plan.config plan.nodes.items hs fault
+    → (fault ≢ OutOfMemory → ¬ HasRun g plan.config plan.nodes.items hs) → IsUncertified g plan fault
+uncertified g plan hs OutOfMemory p ran j none = tt
+uncertified g plan hs Stuck p ran j none = no_run g plan hs Stuck (λ e. cc) ran (replayed g plan.config plan.nodes.items hs Stuck (can_judge g plan hs p ran) j) none
+uncertified g plan hs (Differs node place) p ran j none =
+    no_run g plan hs (Differs node place) (λ e. cc) ran (replayed g plan.config plan.nodes.items hs (Differs node place) (can_judge g plan hs p ran) j) none

@@ -14,6 +14,7 @@ use Rattle.sup_world.specs.Seen.{Seen}
 use Rattle.sup_world.specs.Settling.{SettlesTo}
 use Rattle.sup_cluster.specs.Runs as threads
 use Rattle.sup_certify.specs.Certified.{MakeRun, IsNewWorld}
+use Rattle.sup_certify.specs.Complete.{HasRun}
 use Rattle.sup_certify.specs.Faults.{IsFaultFrom}
 use Rattle.sup_certify.specs.Follows.{IsRunOf, KnowsAll}
 use Rattle.sup_certify.specs.declared.fault.CertifyFault.{CertifyFault}
@@ -43,13 +44,15 @@ pub record PrintsCluster (weigher : Weigher) (plan : Plan) (said : List ℕ) : T
   pub settles : SettlesFrom weigher sites after
   pub says : said ≡ cluster_text weigher after plan.nodes.items
 
--- what the plan's threads did is judged to be no run: in a new world of its nodes a run of the first entries of each history ends by this fault
+-- what the plan's threads did is judged to be no run: in a new world of its nodes a run of the first entries of each history ends by this fault, and no order of
+-- all entries that keeps each history's own is a run
 pub record IsNoRun (weigher : Weigher) (plan : Plan) (fault : CertifyFault) : Type 0 where
   pub histories : List History
   pub ran : threads.IsRunOf weigher plan histories
   pub start : List Seen
   pub is_new : IsNewWorld weigher plan.config plan.nodes.items start
   pub ends : IsFaultFrom weigher start histories fault
+  pub none : ¬ HasRun weigher plan.config plan.nodes.items histories
 
 -- why a plan's run is not certified
 abbrev pub IsUncertified : Weigher → Plan → CertifyFault → Type 0

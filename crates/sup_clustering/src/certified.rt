@@ -22,7 +22,8 @@ use sup_world::{Settled, World};
 ///
 /// # Errors
 ///
-/// Why the threads gave no histories; or why these are no run; or `OutOfMemory`, which stands also where settling is refused.
+/// Why the threads gave no histories; or why these are no run, in whatever order; or `OutOfMemory`, which stands also where settling is
+/// refused.
 pub fn plan_text<T: Threads + Wait + Sync, G: Weigh + Copy + Drop + Send + Sync>(
     rt: &T,
     alloc: Global,
