@@ -1,6 +1,7 @@
 #!/usr/bin/env bash
-# Times judgements beside replays: a run of five nodes with N commands each is made once in each call of `sup_certify_times`, and judged,
-# or its steps made again in a world, so many times more. Runs of threads are no two the same, so that each figure is the least of some rounds.
+# Times judgements beside replays: a run is made once in each call of `sup_certify_times`, and judged, or its steps made again in a world, so
+# many times more. One run is of five nodes with N commands each; in the other one node pushes the same text a thousand times. Runs of
+# threads are no two the same, so that each figure is the least of some rounds.
 # usage: bench/certify.sh [N [TIMES [ROUNDS]]]
 set -eu
 commands=${1:-400}
@@ -19,12 +20,25 @@ awk -v commands="$commands" 'BEGIN {
     for (place = 0; place < commands; place++)
       if (place % 10 == 9) print "ship " node[at] " " node[at % 5 + 1]
       else print "start " node[at] " child-" at "-" place
-}' >"$work/script"
-once=$(least "$rounds" "$work/script" "$program" 0 0)
-judged=$(least "$rounds" "$work/script" "$program" "$times" 0)
-replayed=$(least "$rounds" "$work/script" "$program" 0 "$times")
-awk -v once="$once" -v judged="$judged" -v replayed="$replayed" -v times="$times" 'BEGIN {
-  judgement = (judged - once) / times
-  replay = (replayed - once) / times
-  printf "a judgement: %.0f ms, the same steps by a world: %.0f ms, %.2f times as long\n", judgement / 1000, replay / 1000, judgement / replay
-}'
+}' >"$work/many"
+awk 'BEGIN {
+  print "nodes a b"
+  print "start a child"
+  for (place = 0; place < 1000; place++) print "push a b"
+}' >"$work/repeated"
+
+# What the run of a script takes.
+measure() {
+  local once judged replayed
+  once=$(least "$rounds" "$2" "$program" 0 0)
+  judged=$(least "$rounds" "$2" "$program" "$times" 0)
+  replayed=$(least "$rounds" "$2" "$program" 0 "$times")
+  awk -v run="$1" -v once="$once" -v judged="$judged" -v replayed="$replayed" -v times="$times" 'BEGIN {
+    judgement = (judged - once) / times
+    replay = (replayed - once) / times
+    printf "%s: a judgement %.0f ms, the same steps by a world %.0f ms, %.2f times as long\n", run, judgement / 1000, replay / 1000, judgement / replay
+  }'
+}
+
+measure "five nodes" "$work/many"
+measure "a text a thousand times" "$work/repeated"

@@ -66,14 +66,14 @@ pub(crate) fn ship(rt: &impl Abort, to: &str) -> Act {
     Act::Event(Event::Ship(node(rt, to)))
 }
 
+pub(crate) fn push(rt: &impl Abort, to: &str) -> Act {
+    Act::Event(Event::Push(node(rt, to)))
+}
+
 /// These bytes come.
 pub(crate) fn comes(rt: &(impl Abort + AllocGlobal), bytes: &[u8]) -> Act {
     let bytes = bytes.to_vec(rt.alloc()).expect(rt, "room");
     Act::Event(Event::Deliver(MessageText::new(bytes)))
-}
-
-pub(crate) fn push(rt: &impl Abort, to: &str) -> Act {
-    Act::Event(Event::Push(node(rt, to)))
 }
 
 /// A plan of three nodes, a, b and c.

@@ -86,6 +86,19 @@ pub(crate) fn disturbed(rt: &(impl Abort + AllocGlobal), name: &str) -> Vec<Entr
     closed(rt, at, pass)
 }
 
+/// The history of a node that joins, stops, refuses a start, and comes back.
+pub(crate) fn interrupted(rt: &(impl Abort + AllocGlobal), name: &str) -> Vec<Entry> {
+    let (at, mut pass) = gate(rt, name);
+    done(rt, &at, &mut pass, join(rt));
+    done(rt, &at, &mut pass, Act::Stop);
+    match at.try_call(&mut pass, start(rt, "late"), 0, &FlatWeigh) {
+        Ok(Err(_)) => {}
+        _ => panic!(rt; "it is stopped"),
+    }
+    done(rt, &at, &mut pass, Act::Restart);
+    closed(rt, at, pass)
+}
+
 /// Node c starts one and pushes it to b; b takes that, starts two and pushes this to a; a takes that.
 pub(crate) fn chain(rt: &(impl Abort + AllocGlobal)) -> (Vec<Entry>, Vec<Entry>, Vec<Entry>) {
     let (a, mut at_a) = gate(rt, "a");

@@ -1,6 +1,6 @@
 //! Histories that make a run.
 use crate::given::{child, histories, histories_of_three, node, plan, plan_of_three};
-use crate::histories::{chain, disturbed, drained, joined, lost_and_doubled};
+use crate::histories::{chain, disturbed, drained, interrupted, joined, lost_and_doubled};
 use std::process::Abort;
 use sup_certify::{Run, certify};
 use sup_model::Step;
@@ -71,6 +71,14 @@ fn a_node_that_is_drained_makes_a_run(rt: HostRuntime) {
         panic!(rt; "no member")
     };
     assert!(rt; info.status == Status::Draining);
+}
+
+#[test]
+fn a_stop_and_a_restart_are_steps_of_a_run(rt: HostRuntime) {
+    let both = histories(&rt, ("a", interrupted(&rt, "a")), ("b", joined(&rt, "b")));
+    let run = certified(&rt, &plan(&rt, "a", "b"), &both);
+    assert!(rt; run.steps.len() == 5);
+    assert!(rt; arrivals(run.steps.as_slice()) == (0, 0));
 }
 
 #[test]

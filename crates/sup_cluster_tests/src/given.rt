@@ -72,6 +72,10 @@ pub(crate) fn start(rt: &(impl Abort + AllocGlobal), id: &str) -> Act {
     Act::Event(Event::Start(id, spec))
 }
 
+pub(crate) fn drain(rt: &impl Abort, member: &str) -> Act {
+    Act::Event(Event::Drain(node(rt, member)))
+}
+
 pub(crate) fn ship(rt: &impl Abort, to: &str) -> Act {
     Act::Event(Event::Ship(node(rt, to)))
 }

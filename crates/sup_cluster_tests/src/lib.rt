@@ -7,6 +7,8 @@ mod bad_plans;
 #[cfg(test)]
 mod failing;
 #[cfg(test)]
+mod five;
+#[cfg(test)]
 mod given;
 #[cfg(test)]
 mod lossy;

@@ -1,0 +1,44 @@
+//! Five nodes that drain, over links that lose and double.
+use crate::given::{drain, is_certified, join, linked, plan, ship, start, told};
+use std::process::Abort;
+use sup_cluster::{Quiet, run};
+use sup_links::Verdict;
+use sup_placement::FlatWeigh;
+use sup_plan::Plan;
+
+// The node joins and starts a child, and is drained then. It ships to the next one before that and behind it, over a link that loses the
+// first message and doubles the second.
+fn with_member(
+    rt: &(impl Abort + AllocGlobal),
+    plan: Plan,
+    name: &str,
+    child: &str,
+    next: &str,
+) -> Plan {
+    let plan = linked(rt, plan, name, next, &[Verdict::Lose, Verdict::Twice]);
+    let plan = told(rt, plan, name, join(rt));
+    let plan = told(rt, plan, name, start(rt, child));
+    let plan = told(rt, plan, name, ship(rt, next));
+    let plan = told(rt, plan, name, drain(rt, name));
+    told(rt, plan, name, ship(rt, next))
+}
+
+fn ring(rt: &(impl Abort + AllocGlobal)) -> Plan {
+    let plan = plan(rt, &["a", "b", "c", "d", "e"]);
+    let plan = with_member(rt, plan, "a", "one", "b");
+    let plan = with_member(rt, plan, "b", "two", "c");
+    let plan = with_member(rt, plan, "c", "three", "d");
+    let plan = with_member(rt, plan, "d", "four", "e");
+    with_member(rt, plan, "e", "five", "a")
+}
+
+#[test]
+fn a_hundred_runs_of_five_nodes_that_drain_are_certified(rt: HostRuntime) {
+    let plan = ring(&rt);
+    for _ in 0..100 {
+        let Ok(histories) = run(&rt, rt.alloc(), &plan, &Quiet, &Quiet, &FlatWeigh) else {
+            panic!(rt; "no histories")
+        };
+        assert!(rt; is_certified(&rt, &plan, &histories));
+    }
+}
