@@ -37,17 +37,17 @@ use Rattle.sup_world.specs.Moves.{ReadsIn}
 use Rattle.sup_world.specs.Runs.{StepGoes}
 use Rattle.sup_world.specs.Seen.{Seen}
 use Rattle.sup_world.specs.Telling.{Shows, TellsOf}
+use Rattle.sup_world.specs.Alone.{names_in, mail_sent, as_read, alone, post_by, world_by}
+use Rattle.sup_world.proofs.Acting.{reads_none}
+use Rattle.sup_world.proofs.AloneLaws.{acts, act_alone, mail_alone, raw_alone, after_alone, there_by_name}
+use Rattle.sup_world.proofs.NameLaws.{StaysNamed}
+use Rattle.sup_world.proofs.Localities.{names_by, weigher_by, codec_by, own_by, other_by, name_is, mail_there, alone_named}
 use Rattle.sup_certify.specs.Orders.{Placed, of_node}
 use Rattle.sup_certify.specs.Certified.{IsStepOf, IsRunBy, answer_of}
 use Rattle.sup_certify.proofs.Exchanges.{Begins, of_node_both, of_one, of_none}
 use Rattle.sup_certify.proofs.FailureLaws.{named_in, FailedBy, failed_more, stand_named, carried_here}
 use Rattle.sup_certify.proofs.ReplayLaws.{IsSaidBy, by_itself, Replayed, replayed_both, replayed_split, replayed_one, replayed_mail}
 use Rattle.sup_certify.proofs.TextLaws.{mail_is_sent, known_step}
-use Rattle.sup_world.specs.Alone.{names_in, mail_sent, as_read, alone, post_by, world_by}
-use Rattle.sup_world.proofs.Acting.{reads_none}
-use Rattle.sup_world.proofs.AloneLaws.{acts, act_alone, mail_alone, raw_alone, after_alone, there_by_name}
-use Rattle.sup_world.proofs.NameLaws.{StaysNamed}
-use Rattle.sup_world.proofs.Localities.{names_by, weigher_by, codec_by, own_by, other_by, name_is, mail_there, alone_named}
 
 some_there : {X : Type 0} (o : Option X) → is_some o ≡ true → (x : X) × (o ≡ Some x)
 some_there None e = absurd (true≢false (sym e))
