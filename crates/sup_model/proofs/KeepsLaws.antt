@@ -23,6 +23,7 @@ use Rattle.sup_local_sup.specs.declared.leaving.Ruling.{Ruling}
 use Rattle.sup_local_sup.specs.declared.leaving.Ruling.TheVariants.{Stale, Restart as Again, Finish, GiveUp}
 use Rattle.sup_local_sup.specs.Planning.{ruling, left, restart_kept, restarted_with}
 use Rattle.sup_local_sup.specs.Supervising.{Supervisor, renewed, with_all}
+use Rattle.sup_local_sup.proofs.AgainLaws.{again_wanted, again_kept}
 use Rattle.sup_local_sup.proofs.KeptLaws.{none_more, none_less}
 use Rattle.sup_replica.specs.declared.event.Event.{Event}
 use Rattle.sup_replica.specs.declared.event.Event.TheVariants.{Join, Leave, Drain, Start, Replace, Delete, Register, Unregister, Exit, Ship, Push, Deliver}
@@ -75,50 +76,11 @@ command_good s n (Ok op) reply = issues_good s n (reply op) Nobody (op ∷ [])
 command_good s n (Err r) reply = tt
 
 -- a restart keeps the child and the dot of its entry
-abbrev ByDot : (Kept → Bool) → Type 0
-ByDot p = (x : Bytes) (e f : Entry) → e.dot ≡ f.dot → p (x, e) ≡ p (x, f)
-
-all-set : (p : Kept → Bool) → ByDot p → (id : Bytes) (e new : Entry) → new.dot ≡ e.dot → (es : List Kept) → lookup (bytes_eq id) es ≡ Some e → list_all p (set_value (bytes_eq id) es new) ≡ list_all p es
-all-set p dots id e new d [] at = refl
-all-set p dots id e new d (x ∷ es) at =
-    elim (bytes_eq id x.0) as (λ b. cond b (Some x.1) (lookup (bytes_eq id) es) ≡ Some e → list_all p (cond b ((x.0, new) ∷ es) (x ∷ set_value (bytes_eq id) es new)) ≡ (p x && list_all p es)) [
-      | true ↦ λ f. ap (λ b. b && list_all p es) (dots x.0 new x.1 (d ∙ ap (λ (o : Option Entry). (unwrap_or o e).dot) (sym f)))
-      | false ↦ λ f. ap (λ b. p x && b) (all-set p dots id e new d es f)
-    ] at
-
-any-set : (p : Kept → Bool) → ByDot p → (id : Bytes) (e new : Entry) → new.dot ≡ e.dot → (es : List Kept) → lookup (bytes_eq id) es ≡ Some e → list_any p (set_value (bytes_eq id) es new) ≡ list_any p es
-any-set p dots id e new d [] at = refl
-any-set p dots id e new d (x ∷ es) at =
-    elim (bytes_eq id x.0) as (λ b. cond b (Some x.1) (lookup (bytes_eq id) es) ≡ Some e → list_any p (cond b ((x.0, new) ∷ es) (x ∷ set_value (bytes_eq id) es new)) ≡ (p x || list_any p es)) [
-      | true ↦ λ f. ap (λ b. b || list_any p es) (dots x.0 new x.1 (d ∙ ap (λ (o : Option Entry). (unwrap_or o e).dot) (sym f)))
-      | false ↦ λ f. ap (λ b. p x || b) (any-set p dots id e new d es f)
-    ] at
-
-all-renewed : (p : Kept → Bool) → ByDot p → (v : Supervisor) (id : Bytes) (o : Option Entry) → lookup (bytes_eq id) v.kept ≡ o → list_all p (restart_kept v id o) ≡ list_all p v.kept
-all-renewed p dots v id None at = refl
-all-renewed p dots v id (Some e) at = all-set p dots id e (renewed v e) refl v.kept at
-
-any-renewed : (p : Kept → Bool) → ByDot p → (v : Supervisor) (id : Bytes) (o : Option Entry) → lookup (bytes_eq id) v.kept ≡ o → list_any p (restart_kept v id o) ≡ list_any p v.kept
-any-renewed p dots v id None at = refl
-any-renewed p dots v id (Some e) at = any-set p dots id e (renewed v e) refl v.kept at
-
-all-alike : {X : Type 0} (p q : X → Bool) → ((x : X) → p x ≡ q x) → (xs : List X) → list_all p xs ≡ list_all q xs
-all-alike p q same [] = refl
-all-alike p q same (x ∷ xs) = λ i. same x i && all-alike p q same xs i
-
 pub renewed_good : (s : Weigher) (n : Node Ops) (id : Bytes) (now : ℕ) → Good s n → Good s (record n { supervisor = restarted_with with_all n.supervisor id now })
 renewed_good s n id now good up =
     let g = good up in
     let ws = wanted by_operations s n in
-    let v = n.supervisor in
-    let o = lookup (bytes_eq id) v.kept in
-    record {
-      none_more = all-renewed (is_wanted ws) (λ x e f d i. list_any (λ (w : Wanted). is_for w x (d i)) ws) v id o refl ∙ g.none_more;
-      none_less =
-          all-alike (is_kept (restart_kept v id o)) (is_kept v.kept)
-          (λ w. any-renewed (λ k. bytes_eq w.id k.0 && dot_eq w.dot k.1.dot) (λ x e f d i. bytes_eq w.id x && dot_eq w.dot (d i)) v id o refl) ws
-          ∙ g.none_less;
-    }
+    record { none_more = again_wanted n.supervisor id ws ∙ g.none_more; none_less = again_kept n.supervisor id ws ∙ g.none_less }
 
 exit_good : (s : Weigher) (n : Node Ops) (id : Bytes) (now : ℕ) (r : Ruling) → Good s n → After (GoodOutcome s) (exit_step by_operations s n id now r)
 exit_good s n id now Stale good = tt
