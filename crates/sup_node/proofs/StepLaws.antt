@@ -1,5 +1,7 @@
 -- What the checks of a step say, and what a step makes ready.
-use Rattle.std.specs.Prelude.{◌≡◌, ℕ, ◌+◌, ◌<◌, ◌≤◌, Bool, true, false, ◌||◌, nat_lt, is_ok, is_some, length, List, [], Option, Some, Result, Ok, Err, refl}
+use Rattle.std.specs.Str.{bytes_eq}
+use Rattle.std.specs.Map.{lookup}
+use Rattle.std.specs.Prelude.{◌≡◌, ℕ, ◌+◌, ◌<◌, ◌≤◌, Bool, true, false, ◌||◌, ◌&&◌, nat_lt, is_ok, is_some, length, List, [], Option, Some, Result, Ok, Err, refl}
 use Rattle.std.proofs.Common.{None, sym, ap, ◌∙◌, arith, subst}
 use Rattle.std.proofs.Math.Bool.{or-true}
 use Rattle.std.proofs.lemmas.Bool.{and_from}
@@ -20,7 +22,9 @@ use Rattle.sup_local_sup.specs.declared.effect.Effect.{Effect}
 use Rattle.sup_local_sup.specs.declared.leaving.Leaving.{Leaving}
 use Rattle.sup_local_sup.specs.declared.leaving.Leaving.TheVariants.{Nobody}
 use Rattle.sup_local_sup.specs.Supervising.{Supervisor}
-use Rattle.sup_local_sup.specs.Planning.{left, restarted}
+use Rattle.sup_local_sup.specs.declared.leaving.Ruling.TheVariants.{Restart}
+use Rattle.sup_local_sup.specs.Planning.{left, restarted, restart_effects}
+use Rattle.sup_local_sup.proofs.AgainLaws.{again_wanted, again_kept}
 use Rattle.sup_local_sup.proofs.KeptLaws.{none_more, none_less}
 use Rattle.sup_replica.specs.declared.refusal.Refusal.{Refusal}
 use Rattle.sup_replica.specs.declared.refusal.Refusal.TheVariants.{CountSpent}
@@ -28,10 +32,10 @@ use Rattle.sup_replica.specs.declared.done.Reply.{Reply}
 use Rattle.sup_replica.specs.declared.done.Reply.TheVariants.{Added, Removed, Replaced, Restarted, Known}
 use Rattle.sup_replica.specs.Checks.{refused_if}
 use Rattle.sup_replica.specs.Nodes.{Node, Outcome}
-use Rattle.sup_replica.specs.Steps.{passes_greatest, only, issues, command}
+use Rattle.sup_replica.specs.Steps.{passes_greatest, only, issues, command, exit_step, wanted}
 use Rattle.sup_replica.specs.Acts.{absorbs}
 use Rattle.sup_replica.specs.ByTables.{by_tables}
-use Rattle.sup_node.specs.declared.change.Change.TheVariants.{Nothing, Learns}
+use Rattle.sup_node.specs.declared.change.Change.TheVariants.{Nothing, Begins, Learns}
 use Rattle.sup_node.specs.declared.change.Ready.{Ready}
 use Rattle.sup_node.specs.declared.change.Intake.{Intake}
 use Rattle.sup_node.specs.Changes.{Readies, IsIntake, IsNoIntake, kept_by, wanted_with, checked, newer, learns}
@@ -101,10 +105,17 @@ module _ (g : Weigher) (n : Node State) (own : Option State) (reply : Reply) (le
   pub counts_spent : MAX ≤ n.count → checked (Ok (learns g n own reply leaving delta)) ≡ Err CountSpent
   counts_spent h = is_untold (learns g n own reply leaving delta) (count_passes (learns g n own reply leaving delta).node (omega (arith, h)))
 
--- a restart
-module _ (w : Weigher) (n : Node State) (id : Bytes) (now : ℕ) where
-  abbrev again : List Effect → Outcome State
-  again effects = record { done = record { reply = Restarted; effects = effects }; node = record n { supervisor = restarted n.supervisor id now }; letter = None; saves = false }
+-- a restart keeps what is kept
+pub keeps_again : (g : Weigher) (n : Node State) (id : Bytes) (now : ℕ) → keeps_placed g n ≡ true → keeps_placed g (record n { supervisor = restarted n.supervisor id now }) ≡ true
+keeps_again g n id now h = (λ i. again_wanted n.supervisor id (wanted by_tables g n) i && again_kept n.supervisor id (wanted by_tables g n) i) ∙ h
+
+pub begun_ready : (g : Weigher) (n : Node State) (id again : Bytes) (now : ℕ) (effects : List Effect) → again ≡ id → effects ≡ restart_effects n.supervisor id (lookup (bytes_eq id) n.supervisor.kept)
+    → passes_greatest (record n { supervisor = restarted n.supervisor id now }) ≡ false → keeps_placed g n ≡ true
+    → Readies g (exit_step by_tables g n id now Restart) n (Ok (record { reply = Restarted; effects = effects; change = Begins again now }))
+begun_ready g n id again now effects same told passes keeps =
+    let o : List Effect → Outcome State = λ es. record { done = record { reply = Restarted; effects = es }; node = record n { supervisor = restarted n.supervisor id now }; letter = None; saves = false } in
+    subst (λ x. Readies g (exit_step by_tables g n id now Restart) n (Ok (record { reply = Restarted; effects = effects; change = Begins x now }))) (sym same)
+    (ap (λ es. checked (Ok (o es))) (sym told) ∙ is_told (o effects) passes, tt, keeps_again g n id now keeps)
 
 -- a delta that brings nothing new
 pub known_ready : (w : Weigher) (n : Node State) (delta : State) (covered : Bool) (effects : List Effect) → covered ≡ true → join_states n.known delta ≡ n.known → effects ≡ [] → passes_greatest n ≡ false → keeps_placed w n ≡ true
