@@ -2,7 +2,6 @@
 use crate::given::{IMAGE, OPENING, node};
 use crate::made::{alone, joined_kept, lent, opening, start};
 use std::process::Abort;
-use sup_causal::Lattice;
 use sup_wire::{Image, LentImage, encode_image, encode_lent_image};
 
 fn expect_text(rt: &(impl Abort + AllocGlobal), image: &LentImage<'_>, wanted: &str) {
@@ -30,12 +29,11 @@ fn the_image_that_a_planned_join_will_leave_is_written_before_the_join(rt: HostR
     let tables = alone(&rt).expect(&rt, "room");
     let started = start(&rt, &tables, "web").expect(&rt, "room");
     let plan = tables.plan_join(rt.alloc(), &started).expect(&rt, "room");
-    let joined = tables.joined(rt.alloc(), &started).expect(&rt, "room");
     let image = LentImage {
         node: node(&rt, "a"),
         boot: 1,
         count: 2,
-        context: joined.context(),
+        context: tables.context_after(&plan),
         rows: tables
             .lent_rows_after(rt.alloc(), &plan)
             .expect(&rt, "room"),
