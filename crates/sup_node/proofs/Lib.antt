@@ -2,3 +2,5 @@ pub mod PlacingLaws
 pub mod StepLaws
 pub mod PlanLaws
 pub mod TouchLaws
+pub mod OpenedLaws
+pub mod IntakeLaws

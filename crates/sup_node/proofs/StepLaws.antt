@@ -23,7 +23,9 @@ use Rattle.sup_local_sup.specs.declared.leaving.Leaving.{Leaving}
 use Rattle.sup_local_sup.specs.declared.leaving.Leaving.TheVariants.{Nobody}
 use Rattle.sup_local_sup.specs.Supervising.{Supervisor}
 use Rattle.sup_local_sup.specs.declared.leaving.Ruling.TheVariants.{Restart}
-use Rattle.sup_local_sup.specs.Planning.{left, restarted, restart_effects}
+use Rattle.sup_local_sup.specs.declared.wanted.Wanted.{Wanted}
+use Rattle.sup_local_sup.specs.Keeping.{newly}
+use Rattle.sup_local_sup.specs.Planning.{Plan, plan_of, carried_out, left, kept_of_leaving, leaving_after, leaving_effects, restarted, restart_effects}
 use Rattle.sup_local_sup.proofs.AgainLaws.{again_wanted, again_kept}
 use Rattle.sup_local_sup.proofs.KeptLaws.{none_more, none_less}
 use Rattle.sup_replica.specs.declared.refusal.Refusal.{Refusal}
@@ -31,13 +33,14 @@ use Rattle.sup_replica.specs.declared.refusal.Refusal.TheVariants.{CountSpent}
 use Rattle.sup_replica.specs.declared.done.Reply.{Reply}
 use Rattle.sup_replica.specs.declared.done.Reply.TheVariants.{Added, Removed, Replaced, Restarted, Known}
 use Rattle.sup_replica.specs.Checks.{refused_if}
-use Rattle.sup_replica.specs.Nodes.{Node, Outcome}
+use Rattle.sup_replica.specs.Nodes.{Node, Outcome, wanted_at}
 use Rattle.sup_replica.specs.Steps.{passes_greatest, only, issues, command, exit_step, wanted}
 use Rattle.sup_replica.specs.Acts.{absorbs}
 use Rattle.sup_replica.specs.ByTables.{by_tables}
 use Rattle.sup_node.specs.declared.change.Change.TheVariants.{Nothing, Begins, Learns}
 use Rattle.sup_node.specs.declared.change.Ready.{Ready}
 use Rattle.sup_node.specs.declared.change.Intake.{Intake}
+use Rattle.sup_node.specs.declared.change.Intake.TheVariants.{Whole}
 use Rattle.sup_node.specs.Changes.{Readies, IsIntake, IsNoIntake, kept_by, wanted_with, checked, newer, learns}
 use Rattle.sup_node.specs.Placed.{keeps, keeps_placed}
 use Rattle.sup_node.proofs.PlanLaws.{not-above}
@@ -52,9 +55,6 @@ within_greatest n a b c = λ i. not-above MAX n.count a i || (not-above MAX n.su
 pub given_passes : (n : Node State) → MAX + 1 ≤ n.supervisor.given → passes_greatest n ≡ true
 given_passes n a = (λ i. nat_lt MAX n.count || (lt-true MAX n.supervisor.given a i || nat_lt MAX n.supervisor.boot)) ∙ or-true (nat_lt MAX n.count)
 
-pub count_passes : (n : Node State) → MAX + 1 ≤ n.count → passes_greatest n ≡ true
-count_passes n a = λ i. lt-true MAX n.count a i || (nat_lt MAX n.supervisor.given || nat_lt MAX n.supervisor.boot)
-
 -- an outcome whose numbers are in their limits is told, and another isn't
 pub is_told : (o : Outcome State) → passes_greatest o.node ≡ false → checked (Ok o) ≡ Ok o
 is_told o e = ap (λ b. refused_if b CountSpent (Ok o)) e
@@ -67,6 +67,25 @@ pub ready_same : (g : Weigher) (step other : Result (Outcome State) Refusal) (n 
 ready_same g step other n (Ok p) e h = (ap checked e ∙ h.0, h.1)
 ready_same g step other n (Err refusal) e (inl f) = inl (ap checked e ∙ f)
 ready_same g step other n (Err refusal) e (inr f) = inr (f.0, ap is_ok e ∙ f.1)
+
+-- a delta that is taken in by a merge of the tables and a plan of all that is kept
+module _ (g : Weigher) (n : Node State) (leaving : Leaving) (delta tables : State) (ws : List Wanted) (te : tables ≡ join_states n.known delta) (we : ws ≡ wanted_at g n.name tables.rows) where
+  wanted_is : ws ≡ wanted_with g n delta
+  wanted_is = we ∙ ap (λ (t : State). wanted_at g n.name t.rows) te
+
+  pub whole_is : (whole plan : Plan) (effects : List Effect) → whole ≡ plan_of n.supervisor leaving ws → plan ≡ record whole { effects = [] } → effects ≡ whole.effects → whole.given ≤ MAX → IsIntake g n leaving delta (Whole tables plan) effects
+  whole_is whole plan effects he pe ee within = record {
+    makes = te;
+    kept =
+        ap (λ (p : Plan). carried_out n.supervisor p) pe
+        ∙ ap (λ (p : Plan). carried_out n.supervisor p) he
+        ∙ ap (leaving_after n.supervisor leaving) wanted_is;
+    told = ee ∙ ap (λ (p : Plan). p.effects) he ∙ ap (leaving_effects n.supervisor leaving) wanted_is;
+    within = subst (λ (p : Plan). p.given ≤ MAX) (sym pe) within;
+  }
+
+  pub whole_spent : MAX < n.supervisor.given + length (newly (kept_of_leaving n.supervisor.kept leaving) ws) → IsNoIntake g n leaving delta CountSpent
+  whole_spent h = inr (refl, subst (λ (vs : List Wanted). MAX < n.supervisor.given + length (newly (kept_of_leaving n.supervisor.kept leaving) vs)) wanted_is h)
 
 -- a delta that is taken in
 module _ (g : Weigher) (n : Node State) (own : Option State) (reply : Reply) (leaving : Leaving) (delta : State) where
@@ -94,16 +113,12 @@ module _ (g : Weigher) (n : Node State) (own : Option State) (reply : Reply) (le
     learned_ready a c = (
       ap (λ o. checked (Ok o)) is_made
           ∙ is_told (made (kept_by n.supervisor intake) effects) (within_greatest (made (kept_by n.supervisor intake) effects).node a is.within c),
-      is.makes,
-      keeps_then,
+      (is.makes, keeps_then),
     )
 
   pub untaken : (r : Refusal) → IsNoIntake g n leaving delta r → Readies g (Ok (learns g n own reply leaving delta)) n (Err r)
-  untaken r (inl e) = inr (e, tt)
+  untaken r (inl e) = inr (e, refl)
   untaken r (inr e) = inl (is_untold (learns g n own reply leaving delta) (given_passes (learns g n own reply leaving delta).node (omega (arith, e.1))) ∙ ap Err (sym e.0))
-
-  pub counts_spent : MAX ≤ n.count → checked (Ok (learns g n own reply leaving delta)) ≡ Err CountSpent
-  counts_spent h = is_untold (learns g n own reply leaving delta) (count_passes (learns g n own reply leaving delta).node (omega (arith, h)))
 
 -- a restart keeps what is kept
 pub keeps_again : (g : Weigher) (n : Node State) (id : Bytes) (now : ℕ) → keeps_placed g n ≡ true → keeps_placed g (record n { supervisor = restarted n.supervisor id now }) ≡ true
@@ -115,7 +130,14 @@ pub begun_ready : (g : Weigher) (n : Node State) (id again : Bytes) (now : ℕ) 
 begun_ready g n id again now effects same told passes keeps =
     let o : List Effect → Outcome State = λ es. record { done = record { reply = Restarted; effects = es }; node = record n { supervisor = restarted n.supervisor id now }; letter = None; saves = false } in
     subst (λ x. Readies g (exit_step by_tables g n id now Restart) n (Ok (record { reply = Restarted; effects = effects; change = Begins x now }))) (sym same)
-    (ap (λ es. checked (Ok (o es))) (sym told) ∙ is_told (o effects) passes, tt, keeps_again g n id now keeps)
+    (ap (λ es. checked (Ok (o es))) (sym told) ∙ is_told (o effects) passes, (tt, keeps_again g n id now keeps))
+
+-- who goes on from an image keeps what is placed on it
+pub restarted_keeps : (g : Weigher) (n : Node State) (s : Supervisor) (plan : Plan) (ws wanted : List Wanted) → n.supervisor ≡ carried_out s plan → plan ≡ plan_of s Nobody ws → ws ≡ wanted → wanted ≡ wanted_at g n.name n.known.rows → keeps_placed g n ≡ true
+restarted_keeps g n s plan ws wanted se pe we ke =
+    ap (λ (v : Supervisor). keeps v.kept (wanted_at g n.name n.known.rows)) (se ∙ ap (carried_out s) pe)
+    ∙ ap (λ (vs : List Wanted). keeps (plan_of s Nobody ws).kept vs) (sym (we ∙ ke))
+    ∙ and_from _ _ (none_more s.boot s.given s.kept ws) (none_less s.boot s.given s.kept ws)
 
 -- a delta that brings nothing new
 pub known_ready : (w : Weigher) (n : Node State) (delta : State) (covered : Bool) (effects : List Effect) → covered ≡ true → join_states n.known delta ≡ n.known → effects ≡ [] → passes_greatest n ≡ false → keeps_placed w n ≡ true
@@ -124,8 +146,7 @@ known_ready w n delta covered effects ce je ee pe keeps = (
   ap (λ b. checked (Ok (absorbs by_tables w n delta None b))) ce
       ∙ (λ i. checked (Ok (only (record n { known = je i }) Known (sym ee i) None)))
       ∙ is_told (only n Known effects None) pe,
-  tt,
-  keeps,
+  (tt, keeps),
 )
 
 -- where there is such a member, what a drain names are its dots

@@ -1,5 +1,5 @@
 -- What is wanted with a delta is what was wanted, with what it touches replaced.
-use Rattle.std.specs.Prelude.{◌≡◌, Bool, true, false, not, ◌&&◌, ◌||◌, cond, List, [], ◌∷◌, ◌++◌, map, flat_map, filter, filter_map, Option, Some, None, is_some, slice_get, ◌↔◌, refl}
+use Rattle.std.specs.Prelude.{◌≡◌, Bool, true, false, not, ◌&&◌, ◌||◌, cond, List, [], ◌∷◌, ◌++◌, map, flat_map, filter, filter_map, Option, Some, None, is_some, refl}
 use Rattle.std.specs.List.{AllByRecursion, list_any, list_all, cons_option}
 use Rattle.std.specs.List.Sorted.{IsStrictlySortedBy}
 use Rattle.std.specs.Str.{bytes_eq}
@@ -8,17 +8,17 @@ use Rattle.std.specs.Cmp.Lexicographic.{texts_ties}
 use Rattle.std.specs.declared.cmp.Ordering.TheVariants.{Less}
 use Rattle.std.proofs.Common.{sym, ap, ◌∙◌, subst}
 use Rattle.std.proofs.Math.Bool.{and-false}
-use Rattle.std.proofs.lemmas.Bool.{and_from, or_left, or_right}
+use Rattle.std.proofs.lemmas.Bool.{or_left, or_right}
 use Rattle.std.proofs.lemmas.List.Folds.{list_any-append}
 use mathlib.Core.Bool.{true≢false}
 use Rattle.sup_specs.specs.Values.{Bytes, text_cmp}
 use Rattle.sup_specs.specs.OrderLaws.{text_total, text_tie}
 use Rattle.sup_specs.specs.Rising.{among}
-use Rattle.sup_specs.proofs.RisingLaws.{among-rising, rising_same, rising_rises}
+use Rattle.sup_specs.proofs.RisingLaws.{rising_same, rising_rises}
 use Rattle.sup_causal.specs.Dots.{dot_eq}
 use Rattle.sup_tables.specs.declared.row.Row.{Row}
-use Rattle.sup_tables.specs.Rows.{children, is_at, is_in, key_of}
-use Rattle.sup_tables.specs.Readers.{entries, winner, keys, eligible}
+use Rattle.sup_tables.specs.Rows.{children, is_in, key_of}
+use Rattle.sup_tables.specs.Readers.{winner, keys, eligible}
 use Rattle.sup_tables.specs.States.{State}
 use Rattle.sup_tables.specs.Planned.{AreTouched}
 use Rattle.sup_tables.proofs.AddLaws.{and-first, and-second}
@@ -305,11 +305,11 @@ module _ (g : Weigher) (me : Bytes) (old new : State) (ids : List Bytes) (rise :
       (sorted_filter (has g me hosts new.rows) (filter (is_named changes) ks) (sorted_filter (is_named changes) ks (keys_rise new.rows)))
       (sorted_filter (has g me hosts new.rows) ids rise)
       (λ q.
-        among_filter (has g me hosts new.rows) (filter (is_named changes) ks) q
-        ∙ ap (λ b. b && has g me hosts new.rows q) (among_filter (is_named changes) ks q)
-        ∙ narrow g me hosts new.rows (among text_cmp ks q) (is_named changes q) (has g me hosts new.rows q) (there g me hosts new.rows q)
-        ∙ ap (λ b. b && has g me hosts new.rows q) (named_is g me hosts new.rows ids q)
-        ∙ sym (among_filter (has g me hosts new.rows) ids q)))
+      among_filter (has g me hosts new.rows) (filter (is_named changes) ks) q
+      ∙ ap (λ b. b && has g me hosts new.rows q) (among_filter (is_named changes) ks q)
+      ∙ narrow g me hosts new.rows (among text_cmp ks q) (is_named changes q) (has g me hosts new.rows q) (there g me hosts new.rows q)
+      ∙ ap (λ b. b && has g me hosts new.rows q) (named_is g me hosts new.rows ids q)
+      ∙ sym (among_filter (has g me hosts new.rows) ids q)))
       ∙ sym (valued g me hosts new.rows ids)
       ∙ sym (news_listed g me hosts new.rows ids)
 
@@ -320,9 +320,9 @@ module _ (g : Weigher) (me : Bytes) (old new : State) (ids : List Bytes) (rise :
         (each g me (eligible old.rows) old.rows (keys old.rows children))
         (sym (ap (list_any (λ w. is_for w k.0 k.1.dot)) (wanted_listed g me old.rows)) ∙ e)
         (λ w u f.
-          let id : k.0 ≡ w.id = exact_from_eq k.0 w.id (and-first (bytes_eq k.0 w.id) _ f) in
-          untouched w.id (ap (among text_cmp ids) (sym id) ∙ unnamed k.0 n) (is_wanted (wanted_at g me new.rows) k)
-          (λ same_winner. is_there w.id w (later w.id w same_winner u) (λ v. is_for v k.0 k.1.dot) f))
+        let id : k.0 ≡ w.id = exact_from_eq k.0 w.id (and-first (bytes_eq k.0 w.id) _ f) in
+        untouched w.id (ap (among text_cmp ids) (sym id) ∙ unnamed k.0 n) (is_wanted (wanted_at g me new.rows) k)
+        (λ same_winner. is_there w.id w (later w.id w same_winner u) (λ v. is_for v k.0 k.1.dot) f))
 
     all_kept : AllByRecursion (λ (k : Kept). is_wanted (wanted_at g me old.rows) k ≡ true) kept
     all_kept = all_from (is_wanted (wanted_at g me old.rows)) kept (and-first _ _ keeps_old)

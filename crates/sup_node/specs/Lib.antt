@@ -2,6 +2,7 @@ pub mod Placed
 pub mod Changes
 pub mod Carrying
 pub mod Texts
+pub mod NodeStates
 pub mod Contents
 pub mod NodeSteps
 pub mod Openings

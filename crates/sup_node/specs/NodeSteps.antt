@@ -1,5 +1,5 @@
 -- What a node that runs answers to an event, and what it becomes: the station's step, over the bytes that come and leave (this project).
-use Rattle.std.specs.Prelude.{◌≡◌, ◌+◌, ◌≤◌, ℕ, Bool, true, false, List, [], Option, None, Result, Ok, Err, if◌then◌else◌}
+use Rattle.std.specs.Prelude.{◌≡◌, ◌≤◌, ℕ, Bool, true, false, List, [], Option, None, Result, Ok, Err, if◌then◌else◌}
 use mathlib.Core.Logic.{◌⊎◌}
 use Rattle.sup_specs.specs.Values.{Bytes}
 use Rattle.sup_tables.specs.States.{State}

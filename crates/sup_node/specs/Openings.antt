@@ -1,12 +1,11 @@
 -- A node that is opened for a delta: what it was, and what it is to be (this project).
-use Rattle.std.specs.Prelude.{◌≡◌, ◌+◌, ◌≤◌, ◌<◌, true}
+use Rattle.std.specs.Prelude.{◌≡◌, ◌+◌, ◌≤◌, ◌<◌}
 use Rattle.sup_specs.specs.declared.limits.TheConstants.{MAX}
 use Rattle.sup_tables.specs.States.{State}
 use Rattle.sup_tables.specs.Joined.{no_state}
 use Rattle.sup_tables.specs.Opened.{IsOpen}
 use Rattle.sup_anti_entropy.specs.Contents.{buffer_of}
 use Rattle.sup_anti_entropy.specs.Buffers.{holds_more}
-use Rattle.sup_placement.specs.Place.{Weigher}
 use Rattle.sup_local_sup.specs.Changing.{carried}
 use Rattle.sup_local_sup.specs.Planning.{carried_out}
 use Rattle.sup_local_sup.specs.Supervising.{Supervisor}
@@ -15,7 +14,6 @@ use Rattle.sup_node.specs.declared.opened.OpenIntake.{OpenIntake}
 use Rattle.sup_node.specs.declared.opened.OpenIntake.TheVariants.{Whole, Touched}
 use Rattle.sup_node.specs.declared.opened.OpenState.{OpenState}
 use Rattle.sup_node.specs.Changes.{newer}
-use Rattle.sup_node.specs.Placed.{keeps_placed}
 
 -- tables that are known here become these; those that are open are known nowhere meanwhile
 abbrev pub Becomes : OpenIntake → State → State → State → Type 0

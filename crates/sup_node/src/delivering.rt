@@ -5,7 +5,7 @@ ghost use Rattle.sup_placement.specs.Place.{Weigher};
 ghost use Rattle.sup_wire.specs.Faults.{IsInRange};
 ghost use Rattle.sup_wire.specs.Forms.{IsCount};
 ghost use Rattle.sup_replica.specs.Stations.{a_delta, a_push, an_ack};
-ghost use Rattle.sup_node.specs.Contents.{station_in};
+ghost use Rattle.sup_node.specs.NodeStates.{station_in};
 ghost use Rattle.sup_node.specs.NodeSteps.{Plans};
 ghost use Rattle.sup_node.specs.Placed.{keeps_placed};
 ghost use Rattle.sup_node.specs.Taking.{Takes};

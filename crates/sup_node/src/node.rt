@@ -1,6 +1,6 @@
 //! A node.
 ghost use Rattle.std.specs.Prelude.{◌≡◌, true, IfOk, IsErr, OnOk, OnErr, MatchResult};
-ghost use Rattle.sup_node.specs.Contents.{station_in};
+ghost use Rattle.sup_node.specs.NodeStates.{station_in};
 ghost use Rattle.sup_node.specs.Placed.{keeps_placed};
 
 use crate::planned::Planned;

@@ -1,10 +1,7 @@
 //! A node's state that is opened for a delta: all memory is taken, and nothing can be refused any more.
-ghost use Rattle.std.specs.Prelude.{◌≡◌, true};
+ghost use Rattle.std.specs.Prelude.{◌≡◌, ◌<◌, ◌≤◌, true};
+ghost use Rattle.sup_specs.specs.declared.limits.TheConstants.{MAX as MOST};
 ghost use Rattle.sup_anti_entropy.specs.Contents.{buffer_of};
-ghost use Rattle.sup_replica.specs.Stations.{Station};
-ghost use Rattle.sup_tables.specs.States.{State};
-ghost use Rattle.sup_node.specs.Contents.{station_in};
-ghost use Rattle.sup_node.specs.Openings.{IsOpenState};
 
 use crate::replica::Replica;
 use crate::state::NodeState;
@@ -33,10 +30,16 @@ pub(crate) enum OpenIntake {
 }
 
 impl OpenState {
+    ghost use Rattle.sup_tables.specs.States.{State};
+    ghost use Rattle.sup_node.specs.NodeStates.{station_in};
+    ghost use Rattle.sup_node.specs.Openings.{Becomes, kept_with, with_known, grown_to};
+
     // The state with the delta. It takes no memory.
     pub fn carried_out(self) -> NodeState
-        requires { (old : Station State) × (new : Station State) × IsOpenState self old new }
-        ensures { (old : Station State) (new : Station State) → IsOpenState self old new → station_in result ≡ new }
+        requires tables { (old : State) × (new : State) × Becomes self.intake self.replica.known old new }
+        requires given { (kept_with self.replica.supervisor self.intake).given ≤ MOST }
+        requires count { self.replica.count < MOST }
+        ensures { (old : State) (new : State) → Becomes self.intake self.replica.known old new → station_in result ≡ grown_to self (with_known self old) new }
     {
         let OpenState {
             replica,
@@ -45,10 +48,7 @@ impl OpenState {
             delta,
             own,
         } = self;
-        let mut replica = match intake {
-            OpenIntake::Whole(tables, plan) => replica.whole_with(tables, plan),
-            OpenIntake::Touched(tables, kept) => replica.touched_with(tables, kept),
-        };
+        let mut replica = replica.with_intake(intake);
         replica.counts(own);
         let _noted = buffer.note(delta);
         NodeState { replica, buffer }
@@ -56,8 +56,8 @@ impl OpenState {
 
     // The state as it was. It takes no memory.
     pub fn given_up(self) -> NodeState
-        requires { (old : Station State) × (new : Station State) × IsOpenState self old new }
-        ensures { (old : Station State) (new : Station State) → IsOpenState self old new → station_in result ≡ old }
+        requires { (old : State) × (new : State) × Becomes self.intake self.replica.known old new }
+        ensures { (old : State) (new : State) → Becomes self.intake self.replica.known old new → station_in result ≡ with_known self old }
     {
         let OpenState {
             replica,

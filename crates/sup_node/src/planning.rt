@@ -1,6 +1,6 @@
 //! Events, each made ready where it belongs.
 ghost use Rattle.std.specs.Prelude.{◌≡◌, true};
-ghost use Rattle.sup_node.specs.Contents.{station_in};
+ghost use Rattle.sup_node.specs.NodeStates.{station_in};
 ghost use Rattle.sup_node.specs.NodeSteps.{Plans};
 ghost use Rattle.sup_node.specs.Placed.{keeps_placed};
 ghost use Rattle.sup_node.specs.Taking.{planned_of};

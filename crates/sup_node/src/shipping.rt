@@ -2,7 +2,7 @@
 ghost use Rattle.std.specs.Prelude.{◌≡◌, ℕ, true};
 ghost use Rattle.sup_placement.specs.Place.{Weigher};
 ghost use Rattle.sup_replica.specs.declared.event.Event.TheVariants.{Ship, Push};
-ghost use Rattle.sup_node.specs.Contents.{station_in};
+ghost use Rattle.sup_node.specs.NodeStates.{station_in};
 ghost use Rattle.sup_node.specs.NodeSteps.{Plans};
 ghost use Rattle.sup_node.specs.Placed.{keeps_placed};
 

@@ -28,7 +28,7 @@ impl NodeState {
     ghost use Rattle.sup_node.specs.Carrying.{takes_memory};
     ghost use Rattle.sup_tables.specs.Joined.{join_states};
     ghost use Rattle.sup_node.specs.Changes.{Makes, kept_by, station_after};
-    ghost use Rattle.sup_node.specs.Contents.{station_in};
+    ghost use Rattle.sup_node.specs.NodeStates.{station_in};
     ghost use Rattle.sup_node.specs.NodeSteps.{MayChange, IsRestart, IsRestartRefused, fresh_station};
     ghost use Rattle.sup_node.specs.Openings.{IsOpenState};
     ghost use Rattle.sup_node.specs.Placed.{keeps_placed};
@@ -118,19 +118,24 @@ impl NodeState {
     {
         let NodeState { replica, buffer } = self;
         let Learned { intake, delta, own } = learned;
-        let (replica, intake) = match intake {
-            Intake::Whole(tables, plan) => (replica, OpenIntake::Whole(tables, plan)),
+        match intake {
+            Intake::Whole(tables, plan) => Ok(OpenState {
+                replica,
+                buffer,
+                intake: OpenIntake::Whole(tables, plan),
+                delta,
+                own,
+            }),
             Intake::Touched(plan, kept) => match replica.open(plan) {
-                Ok((rest, tables)) => (rest, OpenIntake::Touched(tables, kept)),
-                Err(replica) => return Err(NodeState { replica, buffer }),
+                Ok((replica, tables)) => Ok(OpenState {
+                    replica,
+                    buffer,
+                    intake: OpenIntake::Touched(tables, kept),
+                    delta,
+                    own,
+                }),
+                Err(replica) => Err(NodeState { replica, buffer }),
             },
-        };
-        Ok(OpenState {
-            replica,
-            buffer,
-            intake,
-            delta,
-            own,
-        })
+        }
     }
 }

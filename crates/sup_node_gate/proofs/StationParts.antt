@@ -8,7 +8,8 @@ use Rattle.sup_replica.specs.declared.event.Act.{Act}
 use Rattle.sup_replica.specs.declared.refusal.Refusal.{Refusal}
 use Rattle.sup_replica.specs.declared.refusal.Refusal.TheVariants.{OutOfMemory, HistoryFull}
 use Rattle.sup_node.specs.declared.node.Node.{Node}
-use Rattle.sup_node.specs.Contents.{station_in, station_of}
+use Rattle.sup_node.specs.Contents.{station_of}
+use Rattle.sup_node.specs.NodeStates.{station_in}
 use Rattle.sup_station.specs.declared.station.Station.{Station}
 use Rattle.sup_station.specs.Stills.{Still, still_of, Goes}
 use Rattle.sup_node_gate.specs.declared.view.Holding.{Holding}

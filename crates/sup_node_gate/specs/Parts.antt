@@ -2,7 +2,7 @@
 use Rattle.std.specs.Prelude.{◌≡◌, List, Option}
 use Rattle.std.specs.Option.{option_map}
 use Rattle.sup_specs.specs.Values.{Bytes}
-use Rattle.sup_node.specs.Contents.{station_in}
+use Rattle.sup_node.specs.NodeStates.{station_in}
 use Rattle.sup_station.specs.declared.station.Station.{Station}
 use Rattle.sup_station.specs.Stills.{Still}
 use Rattle.sup_node_gate.specs.declared.view.Holding.{Holding}

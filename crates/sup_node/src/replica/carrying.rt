@@ -1,19 +1,19 @@
 //! What is ready is carried out.
-ghost use Rattle.std.specs.Prelude.{◌≡◌, ◌+◌, ◌<◌, ◌≤◌, length, IfOk, IfErr, OnOk, OnErr};
+ghost use Rattle.std.specs.Prelude.{◌≡◌, ◌+◌, ◌<◌, ◌≤◌, IfOk, IfErr, OnOk, OnErr};
 ghost use Rattle.sup_specs.specs.declared.limits.TheConstants.{MAX as MOST};
 ghost use Rattle.sup_tables.specs.States.{State};
 ghost use Rattle.sup_tables.specs.Joined.{no_state};
 ghost use Rattle.sup_tables.specs.Planned.{IsPlanFor};
 ghost use Rattle.sup_tables.specs.Opened.{IsOpen};
-ghost use Rattle.sup_local_sup.specs.Changing.{carried};
-ghost use Rattle.sup_local_sup.specs.Planning.{restarted, carried_out};
+ghost use Rattle.sup_local_sup.specs.Planning.{restarted};
 ghost use Rattle.sup_node.specs.Changes.{Makes, kept_by, newer};
+ghost use Rattle.sup_node.specs.Openings.{Becomes, kept_with};
 
 use crate::change::Intake;
+use crate::opened::OpenIntake;
 use crate::replica::Replica;
 use std::alloc::AllocError;
 use std::mem::replace;
-use sup_local_sup::{Plan, PlannedChange};
 use sup_specs::ChildId;
 use sup_tables::{OpenTables, PlannedTables, Tables};
 
@@ -34,11 +34,7 @@ impl Replica {
     }
 
     // Takes a delta in, as it was made ready. An `Err` is want of memory, and changes nothing.
-    pub(crate) fn take_in(
-        &mut self,
-        intake: Intake,
-        own: Option<Tables>,
-    ) -> Result<(), AllocError>
+    pub(crate) fn take_in(&mut self, intake: Intake, own: Option<Tables>) -> Result<(), AllocError>
         requires tables { (new : State) × Makes intake self.old.known new }
         requires given { (kept_by self.old.supervisor intake).given ≤ MOST }
         requires count { self.old.count < MOST }
@@ -99,25 +95,25 @@ impl Replica {
         replica
     }
 
-    // It knows these tables, and keeps what is planned.
-    pub(crate) fn whole_with(self, tables: Tables, plan: Plan) -> Replica
-        ensures { result ≡ record self { known = tables; supervisor = carried_out self.supervisor plan } }
+    // It has taken in what it was opened for, but for the count.
+    pub(crate) fn with_intake(self, intake: OpenIntake) -> Replica
+        requires tables { (old : State) × (new : State) × Becomes intake self.known old new }
+        requires given { (kept_with self.supervisor intake).given ≤ MOST }
+        ensures becomes { (old : State) (new : State) → Becomes intake self.known old new → result ≡ record self { known = new; supervisor = kept_with self.supervisor intake } }
+        ensures count { result.count ≡ self.count }
+        ensures up { result.up ≡ self.up }
     {
         let mut replica = self;
-        let _effects = replica.supervisor.carry_out(plan);
-        replica.tables = tables;
-        replica
-    }
-
-    // It knows what the open tables become, and keeps what is planned.
-    pub(crate) fn touched_with(self, tables: OpenTables, kept: PlannedChange) -> Replica
-        requires open { (old : State) × (new : State) × IsOpen tables old new }
-        requires given { self.supervisor.given + length kept.fresh ≤ MOST }
-        ensures { (old : State) (new : State) → IsOpen tables old new → result ≡ record self { known = new; supervisor = carried self.supervisor kept } }
-    {
-        let mut replica = self;
-        let _effects = replica.supervisor.carry_out_change(kept);
-        replica.tables = tables.carried_out();
+        match intake {
+            OpenIntake::Whole(tables, plan) => {
+                let _effects = replica.supervisor.carry_out(plan);
+                replica.tables = tables;
+            }
+            OpenIntake::Touched(tables, kept) => {
+                let _effects = replica.supervisor.carry_out_change(kept);
+                replica.tables = tables.carried_out();
+            }
+        }
         replica
     }
 }

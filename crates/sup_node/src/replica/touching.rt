@@ -1,6 +1,8 @@
 //! What is wanted now under the ids that a delta touches.
 ghost use Rattle.std.specs.Prelude.{◌≡◌, true, map, IfOk, IfSome};
 ghost use Rattle.std.specs.Option.{option_copied};
+ghost use Rattle.sup_specs.specs.Values.{text_cmp};
+ghost use Rattle.sup_specs.specs.Rising.{among};
 ghost use Rattle.sup_causal.specs.Dots.{IsCounted};
 ghost use Rattle.sup_tables.specs.States.{State};
 ghost use Rattle.sup_tables.specs.Planned.{IsPlanFor};
@@ -66,9 +68,21 @@ pub(super) fn reaches(children: &[ChildId], leaving: &Leaving) -> bool
 {
     match leaving {
         Leaving::Nobody => true,
-        Leaving::Finished(id) => children.iter().any(|child| child == id),
+        Leaving::Finished(id) => is_listed(children, id),
         Leaving::GaveUp(_) => false,
     }
+}
+
+// Whether an id is one of these.
+fn is_listed(ids: &[ChildId], id: &ChildId) -> bool
+    ensures { result ≡ true → among text_cmp ids.now id.now ≡ true }
+{
+    for other in ids {
+        if id.cmp(other).is_eq() {
+            return true;
+        }
+    }
+    false
 }
 
 // The child whose run has ended.

@@ -56,7 +56,7 @@ impl Replica {
         rows: Vec<LentRow<'_>>,
     ) -> Result<Vec<u8>, AllocError>
         requires { self.now.count < MOST }
-        ensures { IfOk result (λ text. (new : State) → context.now ≡ new.context → rows_lent rows.items ≡ new.rows → IsWhole new → IsWritten text.items (image_with self.now new)) }
+        ensures { IfOk result (λ text. (new : State) → context.now ≡ new.context → rows_lent rows.entry.items ≡ new.rows → IsWhole new → IsWritten text.items (image_with self.now new)) }
     {
         let image = LentImage {
             node: self.name,

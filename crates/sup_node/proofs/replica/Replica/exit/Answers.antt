@@ -11,7 +11,7 @@ returns-in-Restart-clause-ready g c =
     let n = c.args.self.now in
     let w = g.W.Weigh.weight_of in
     ready_same w (up_step by_tables w n (Exit c.args.id.now c.args.inc c.args.reason.now) c.args.now) (exit_step by_tables w n c.args.id.now c.args.now (Restart)) n c.begin_again.result
-    (ap (exit_step by_tables w n c.args.id.now c.args.now) (sym c.in-Restart.ensures.ruling)) (c.begin_again.ensures.ready g.W.Weigh.weight_of c.requires)
+    (ap (exit_step by_tables w n c.args.id.now c.args.now) (sym c.in-Restart.ensures.ruling)) (c.begin_again.ensures.ready g.W.Weigh.weight_of c.requires.keeps)
 
 pub returns-in-Finish-clause-ready : goal.returns-in-Finish-clause-ready
 returns-in-Finish-clause-ready g c =

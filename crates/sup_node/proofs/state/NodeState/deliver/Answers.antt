@@ -1,7 +1,7 @@
 use Rattle.std.proofs.Common.{subst}
 use Rattle.sup_wire.specs.Drafts.{IsDraftOf}
 use Rattle.sup_wire.specs.Faults.{Says}
-use Rattle.sup_node.specs.Contents.{station_in}
+use Rattle.sup_node.specs.NodeStates.{station_in}
 use Rattle.sup_node.proofs.PlanLaws.{takes-plans}
 use Rattle.sup_node.proofs.state.NodeState.deliver.Goals as goal
 

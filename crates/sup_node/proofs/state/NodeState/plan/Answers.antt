@@ -1,7 +1,7 @@
 use Rattle.std.specs.Prelude.{refl}
 use Rattle.std.proofs.Common.{sym, subst}
 use Rattle.sup_replica.specs.declared.event.Event.TheVariants.{Join, Leave, Drain, Start, Delete, Replace, Register, Unregister, Exit}
-use Rattle.sup_node.specs.Contents.{station_in}
+use Rattle.sup_node.specs.NodeStates.{station_in}
 use Rattle.sup_node.specs.NodeSteps.{Plans}
 use Rattle.sup_node.proofs.PlanLaws.{is_own}
 use Rattle.sup_node.proofs.state.NodeState.plan.Goals as goal

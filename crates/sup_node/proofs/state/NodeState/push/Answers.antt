@@ -3,7 +3,7 @@ use Rattle.std.specs.Option.{option_copied}
 use Rattle.std.proofs.Common.{sym, ap, ◌∙◌, subst}
 use Rattle.sup_replica.specs.declared.event.Event.TheVariants.{Push}
 use Rattle.sup_replica.specs.Stations.{a_push}
-use Rattle.sup_node.specs.Contents.{station_in}
+use Rattle.sup_node.specs.NodeStates.{station_in}
 use Rattle.sup_node.specs.NodeSteps.{IsPlanOf}
 use Rattle.sup_node.specs.Texts.{IsLetter}
 use Rattle.sup_node.proofs.PlanLaws.{differs, push-ready}

@@ -5,7 +5,7 @@ use Rattle.sup_anti_entropy.specs.Buffers.{shipped}
 use Rattle.sup_anti_entropy.specs.Contents.{buffer_of, shipment_of}
 use Rattle.sup_replica.specs.declared.event.Event.TheVariants.{Ship}
 use Rattle.sup_replica.specs.Stations.{a_delta}
-use Rattle.sup_node.specs.Contents.{station_in}
+use Rattle.sup_node.specs.NodeStates.{station_in}
 use Rattle.sup_node.specs.NodeSteps.{IsPlanOf}
 use Rattle.sup_node.proofs.PlanLaws.{differs, shipped-as, ship-ready}
 use Rattle.sup_node.proofs.state.NodeState.ship.Goals as goal

@@ -1,5 +1,5 @@
 use Rattle.std.proofs.Common.{sym, subst}
-use Rattle.sup_node.specs.Contents.{station_in}
+use Rattle.sup_node.specs.NodeStates.{station_in}
 use Rattle.sup_node.specs.Taking.{Takes}
 use Rattle.sup_node.specs.Texts.{mail_of}
 use Rattle.sup_node.proofs.state.NodeState.take.Goals as goal

@@ -2,7 +2,7 @@ use Rattle.std.specs.Prelude.{◌≤◌, ℕ}
 use Rattle.std.proofs.Common.{sym, ◌∙◌, subst}
 use Rattle.sup_replica.specs.ByTables.{by_tables}
 use Rattle.sup_replica.specs.Stations.{an_ack, mail_step}
-use Rattle.sup_node.specs.Contents.{station_in}
+use Rattle.sup_node.specs.NodeStates.{station_in}
 use Rattle.sup_node.specs.NodeSteps.{IsReady}
 use Rattle.sup_node.proofs.PlanLaws.{not-above, ack-ready}
 use Rattle.sup_node.proofs.state.NodeState.take_ack.Goals as goal

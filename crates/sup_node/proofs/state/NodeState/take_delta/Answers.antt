@@ -4,7 +4,7 @@ use Rattle.sup_replica.specs.ByTables.{by_tables}
 use Rattle.sup_replica.specs.Nodes.{delta}
 use Rattle.sup_replica.specs.Acts.{answer_to}
 use Rattle.sup_replica.specs.Stations.{a_delta, an_ack, as_message, mail_step}
-use Rattle.sup_node.specs.Contents.{station_in}
+use Rattle.sup_node.specs.NodeStates.{station_in}
 use Rattle.sup_node.specs.NodeSteps.{IsReady}
 use Rattle.sup_node.specs.Texts.{IsLetter}
 use Rattle.sup_node.proofs.PlanLaws.{named_same, taken-ready}

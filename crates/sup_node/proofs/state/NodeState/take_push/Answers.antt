@@ -3,7 +3,7 @@ use Rattle.std.proofs.Common.{sym, ◌∙◌, subst}
 use Rattle.sup_replica.specs.ByTables.{by_tables}
 use Rattle.sup_replica.specs.Nodes.{push}
 use Rattle.sup_replica.specs.Stations.{a_push, as_message, mail_step}
-use Rattle.sup_node.specs.Contents.{station_in}
+use Rattle.sup_node.specs.NodeStates.{station_in}
 use Rattle.sup_node.specs.NodeSteps.{IsReady}
 use Rattle.sup_node.proofs.PlanLaws.{taken-ready}
 use Rattle.sup_node.proofs.state.NodeState.take_push.Goals as goal
