@@ -65,6 +65,13 @@ fn a_join_touches_members_where_other_ones_are_open(rt: HostRuntime) {
     expect_touched(&rt, &b, &a, &[], true);
 }
 
+fn is_kind(kind: &str, wanted: Option<&str>) -> bool {
+    match wanted {
+        Some(wanted) => kind == wanted,
+        None => false,
+    }
+}
+
 // Expects a plan of the join to tell what a merge gives, and this kind of a child's winner.
 fn expect_told(
     rt: &(impl Abort + AllocGlobal),
@@ -74,8 +81,11 @@ fn expect_told(
     wanted: Option<&str>,
 ) {
     let plan = mine.plan_join(rt.alloc(), other).expect(rt, "room");
-    let found = mine.child_after(&plan, &child_id(rt, id));
-    assert!(rt; found.map(|(_, spec)| spec.kind.as_str()) == wanted);
+    let is_told = match mine.child_after(&plan, &child_id(rt, id)) {
+        Some((_, spec)) => is_kind(spec.kind.as_str(), wanted),
+        None => wanted.is_none(),
+    };
+    assert!(rt; is_told);
     let joined = merged(rt, mine, other);
     let rows = mine.lent_rows_after(rt.alloc(), &plan).expect(rt, "room");
     expect_same_lent(rt, &rows, &joined);
@@ -99,16 +109,24 @@ fn a_plan_tells_what_is_to_be(rt: HostRuntime) {
 
 // The tables after a join in three steps.
 fn carried_out(rt: &(impl Abort + AllocGlobal), mine: Tables, other: &Tables) -> Tables {
-    let plan = mine.plan_join(rt.alloc(), other).expect(rt, "room");
-    let open = mine.open(rt.alloc(), plan).ok().expect(rt, "room");
-    open.carried_out()
+    let Ok(plan) = mine.plan_join(rt.alloc(), other) else {
+        panic!(rt; "no room");
+    };
+    match mine.open(rt.alloc(), plan) {
+        Ok(open) => open.carried_out(),
+        Err(_) => panic!(rt; "no room"),
+    }
 }
 
 // The tables after a join that is given up in its last step.
 fn given_up(rt: &(impl Abort + AllocGlobal), mine: Tables, other: &Tables) -> Tables {
-    let plan = mine.plan_join(rt.alloc(), other).expect(rt, "room");
-    let open = mine.open(rt.alloc(), plan).ok().expect(rt, "room");
-    open.given_up()
+    let Ok(plan) = mine.plan_join(rt.alloc(), other) else {
+        panic!(rt; "no room");
+    };
+    match mine.open(rt.alloc(), plan) {
+        Ok(open) => open.given_up(),
+        Err(_) => panic!(rt; "no room"),
+    }
 }
 
 #[test]
