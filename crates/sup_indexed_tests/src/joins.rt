@@ -145,26 +145,33 @@ fn a_dot_under_two_keys_goes_from_both(rt: HostRuntime) {
     expect_state(&rt, grown(&rt, state, &other, true), &[(2, ("a", 1), 5)]);
 }
 
+// Eight rows under as many keys.
+const MANY: Rows<'static> = &[
+    (1, ("a", 1), 7),
+    (2, ("a", 2), 7),
+    (3, ("a", 3), 7),
+    (4, ("a", 4), 7),
+    (5, ("a", 5), 7),
+    (6, ("a", 6), 7),
+    (7, ("a", 7), 7),
+    (8, ("a", 8), 7),
+];
+
+// These rows once one dot more is known.
+fn many(rt: &(impl Abort + AllocGlobal)) -> Causal<Indexed> {
+    let other = indexed(rt, (&[], &[("b", 1)]));
+    grown(rt, indexed(rt, (MANY, &[])), &other, true)
+}
+
 #[test]
 fn a_state_of_few_dots_is_found_by_an_index(rt: HostRuntime) {
-    let many: Rows<'_> = &[
-        (1, ("a", 1), 7),
-        (2, ("a", 2), 7),
-        (3, ("a", 3), 7),
-        (4, ("a", 4), 7),
-        (5, ("a", 5), 7),
-        (6, ("a", 6), 7),
-        (7, ("a", 7), 7),
-        (8, ("a", 8), 7),
-    ];
-    let other = indexed(&rt, (&[], &[("b", 1)]));
-    let state = grown(&rt, indexed(&rt, (many, &[])), &other, true);
+    let state = many(&rt);
     // What it has, what it has not, what is greater there, and what is gone there.
     assert!(rt; indexed(&rt, (&[(3, ("a", 3), 7)], &[])).leq(&state));
     assert!(rt; !indexed(&rt, (&[(3, ("a", 9), 7)], &[])).leq(&state));
     assert!(rt; !indexed(&rt, (&[(3, ("a", 3), 6)], &[])).leq(&state));
     assert!(rt; !indexed(&rt, (&[], &[("a", 3)])).leq(&state));
-    expect_state(&rt, state, many);
+    expect_state(&rt, state, MANY);
 }
 
 #[test]
