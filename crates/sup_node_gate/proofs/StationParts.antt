@@ -17,7 +17,7 @@ use Rattle.sup_node_gate.specs.Histories.{Answer, entered, standing_of, is_enter
 use Rattle.sup_node_gate.specs.Parts.{parts_of, still_in, still_at, IsLike}
 use Rattle.sup_node_gate.specs.Holdings.{Adds, AddsIfRoom, EntersIfMay}
 
-states : {W : Type 0} (o : Option (Node W)) → option_map station_in (option_map (λ n. n.state) o) ≡ option_map station_of o
+states : {W : Type 0} {g : _} (o : Option (Node W g)) → option_map station_in (option_map (λ n. n.state) o) ≡ option_map station_of o
 states None = refl
 states (Some n) = refl
 

@@ -40,7 +40,7 @@ IsInspected weigher at None peers said = said ≡ down_text at
 IsInspected weigher at (Some s) peers said = IsInspectText weigher at s peers said
 
 -- of a node that is lent
-abbrev pub node_at : {W : Type 0} → Option (Bor (Node W)) → Option (Station State)
+abbrev pub node_at : {W : Type 0} {g : _} → Option (Bor (Node W g)) → Option (Station State)
 node_at None = None
 node_at (Some n) = Some (station_of n.now)
 

@@ -53,7 +53,7 @@ abbrev pub shown_of : Station State → Shown
 shown_of s = record { boot = s.node.supervisor.boot; rows = s.node.known.rows; kept = s.node.supervisor.kept }
 
 -- of a node that is lent, and nothing of a stopped one
-abbrev pub shown_at : {W : Type 0} → Option (Bor (Node W)) → Option Shown
+abbrev pub shown_at : {W : Type 0} {g : _} → Option (Bor (Node W g)) → Option Shown
 shown_at None = None
 shown_at (Some n) = Some (shown_of (station_of n.now))
 
