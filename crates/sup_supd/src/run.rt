@@ -106,7 +106,9 @@ fn keeper_at(
     rt: &HostRuntime,
     path: &str,
 ) -> Result<DiskKeeper<SystemDisk<HostRuntime>>, Unserved> {
-    let handle = rt.clone()?;
+    let Ok(handle) = rt.clone() else {
+        return Err(Unserved::OutOfMemory);
+    };
     let disk = match SystemDisk::at(alloc, handle, path) {
         Ok(disk) => disk,
         Err(_) => return Err(Unserved::OutOfMemory),
