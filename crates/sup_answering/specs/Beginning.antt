@@ -12,10 +12,10 @@ use Rattle.sup_replica.specs.declared.event.Act.TheVariants.{Restart}
 use Rattle.sup_replica.specs.declared.done.Done.{Done}
 use Rattle.sup_replica.specs.declared.done.Reply.TheVariants.{Boot}
 use Rattle.sup_replica.specs.declared.refusal.Refusal.{Refusal}
-use Rattle.sup_replica.specs.declared.refusal.Refusal.TheVariants.{KeepFailed, BadMessage, OutOfMemory}
+use Rattle.sup_replica.specs.declared.refusal.Refusal.TheVariants.{BadMessage}
 use Rattle.sup_node.specs.Texts.{IsImageReadAs}
 use Rattle.sup_station.specs.Stills.{Still, Goes, Refuses}
-use Rattle.sup_station.specs.Opening.{Opens}
+use Rattle.sup_station.specs.Opening.{Opens, IsKeepRefusal}
 use Rattle.sup_told.specs.Told.{told_text}
 use Rattle.sup_answering.specs.Answering.{Known}
 use Rattle.sup_answering.specs.declared.begin.BeginFault.{BeginFault}
@@ -42,13 +42,8 @@ IsOthersImage name bytes = (image : Image) × IsImageReadAs bytes (Some image) �
 abbrev pub IsNoBegin : Weigher → Bytes → Config → Bytes → BeginFault → Type 0
 IsNoBegin weigher name config kept (BadImage fault) = IsFault SaysImage kept (text_fault fault)
 IsNoBegin weigher name config kept OthersImage = IsOthersImage name kept
-IsNoBegin weigher name config kept (Refused refusal) = (refusal ≡ KeepFailed) ⊎ Refuses weigher (stopped name config kept) None Restart 0 refusal
+IsNoBegin weigher name config kept (Refused refusal) = IsKeepRefusal refusal ⊎ Refuses weigher (stopped name config kept) None Restart 0 refusal
 IsNoBegin weigher name config kept NoMemory = Unit {0}
-
--- a refusal that no image is the reason of
-abbrev pub fault_by : Refusal → BeginFault
-fault_by OutOfMemory = NoMemory
-fault_by refusal = Refused refusal
 
 -- why bytes are no image of the node of this name, or that they are one
 abbrev pub IsImageFault : Bytes → Bytes → BeginFault → Type 0

@@ -44,9 +44,7 @@ is_acked_at (Ok done) = is_acked done.reply
 is_acked_at (Err refusal) = false
 
 -- the peers behind an act's end: with who acknowledged by it
-abbrev pub HearsFrom : Act → Bool → List Bytes → List Bytes → Type 0
-HearsFrom act false before after = after ≡ before
-HearsFrom act true before after = (peer : Option Bytes) × Acknowledges act peer × (after ≡ with_peer peer before)
-
 abbrev pub Hears : Act → Result Done Refusal → List Bytes → List Bytes → Type 0
-Hears act end before after = HearsFrom act (is_acked_at end) before after
+Hears act end before after =
+    (is_acked_at end ≡ false → after ≡ before)
+    × (is_acked_at end ≡ true → (peer : Option Bytes) × Acknowledges act peer × (after ≡ with_peer peer before))

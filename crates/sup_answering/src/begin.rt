@@ -1,7 +1,7 @@
 //! How a node begins.
 
 ghost use Rattle.std.specs.Prelude.{◌≡◌, [], true, false, IfOk, IfErr};
-ghost use Rattle.sup_answering.specs.Beginning.{Begins, IsImageFault, IsNoBegin, fault_by};
+ghost use Rattle.sup_answering.specs.Beginning.{Begins, IsImageFault, IsNoBegin};
 
 use crate::filter::Filter;
 use std::alloc::{AllocError, Global};
@@ -26,10 +26,10 @@ pub enum BeginFault {
     /// What is kept is an image of another node.
     #[error("the image of another node")]
     OthersImage,
-    /// The image can't be kept, or has no next boot.
+    /// The image can't be kept, or has no next boot; or memory was refused.
     #[error("the node can't begin")]
     Refused(Refusal),
-    /// Memory was refused.
+    /// Memory was refused to the first answer, or to why an image is none.
     #[error("out of memory")]
     NoMemory,
 }
@@ -91,7 +91,7 @@ fn open<K: ImageKeeper, W: Weigh + Drop>(
 {
     let station = match Station::new(alloc, name, config, keeper) {
         Ok(station) => station,
-        Err(refused) => return Err(fault_by(refused.reason)),
+        Err(refused) => return Err(BeginFault::Refused(refused.reason)),
     };
     let done = Done {
         reply: Reply::Boot(1),
@@ -128,7 +128,7 @@ fn go_on<K: ImageKeeper, W: Weigh + Drop>(
         Err(Refusal::BadMessage) => {
             return Err(image_fault(alloc, &name, station.keeper().stored()));
         }
-        Err(refusal) => return Err(fault_by(refusal)),
+        Err(refusal) => return Err(BeginFault::Refused(refusal)),
     };
     let first = told_text(alloc, Ok(done))?;
     let filter = Filter {
@@ -139,16 +139,6 @@ fn go_on<K: ImageKeeper, W: Weigh + Drop>(
         alloc,
     };
     Ok(Begun { filter, first })
-}
-
-// A refusal that no image is the reason of.
-fn fault_by(refusal: Refusal) -> BeginFault
-    ensures { result ≡ fault_by refusal }
-{
-    match refusal {
-        Refusal::OutOfMemory => BeginFault::NoMemory,
-        _ => BeginFault::Refused(refusal),
-    }
 }
 
 // Why these bytes are no image of the node of this name.

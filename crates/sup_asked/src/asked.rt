@@ -32,11 +32,7 @@ pub enum Asked {
 /// # Errors
 ///
 /// Refused only for memory.
-pub fn read_asked(
-    alloc: Global,
-    name: &NodeName,
-    line: &[u8],
-) -> Result<Option<Asked>, AllocError>
+pub fn read_asked(alloc: Global, name: &NodeName, line: &[u8]) -> Result<Option<Asked>, AllocError>
     ensures { IfOk result (λ asked. asked ≡ asked_of name.now line.now) }
 {
     let Some(text) = plain_text(line) else {
@@ -52,11 +48,7 @@ pub fn read_asked(
     }
 }
 
-fn read_words(
-    alloc: Global,
-    name: &NodeName,
-    text: &str,
-) -> Result<Option<Asked>, AllocError>
+fn read_words(alloc: Global, name: &NodeName, text: &str) -> Result<Option<Asked>, AllocError>
     ensures { IfOk result (λ asked. asked ≡ asked_in name.now None text.now) }
 {
     if text == "members" {

@@ -32,7 +32,10 @@ fn a_save_that_held_is_all_that_a_loss_of_power_leaves(rt: HostRuntime) {
     let mut keeper = keeping_one(&rt, Next::Holds);
     assert_eq!(rt; keeper.save(b"two"), Ok(()));
     for is_ahead in [false, true] {
-        assert_eq!(rt; left_by(&rt, keeper.disk(), is_ahead).as_slice(), b"two".as_slice());
+        assert_eq!(rt;
+            left_by(&rt, keeper.disk(), is_ahead).as_slice(),
+            b"two".as_slice()
+        );
     }
     assert_eq!(rt; keeper.stored(), b"two".as_slice());
 }
@@ -46,13 +49,18 @@ fn a_save_that_failed_before_the_rename_keeps_the_old_bytes(rt: HostRuntime) {
         assert_eq!(rt; keeper.failures(), 1);
         assert_eq!(rt; keeper.stored(), b"one".as_slice());
         for is_ahead in [false, true] {
-            assert_eq!(rt; left_by(&rt, keeper.disk(), is_ahead).as_slice(), b"one".as_slice());
+            assert_eq!(rt;
+                left_by(&rt, keeper.disk(), is_ahead).as_slice(),
+                b"one".as_slice()
+            );
         }
     }
 }
 
 #[test]
-fn a_save_that_failed_behind_it_loses_the_keeper_and_leaves_the_old_or_the_new_bytes(rt: HostRuntime) {
+fn a_save_that_failed_behind_it_loses_the_keeper_and_leaves_the_old_or_the_new_bytes(
+    rt: HostRuntime,
+) {
     for next in [Next::RenameFails, Next::RenameIsUntold, Next::FolderFails] {
         let mut keeper = keeping_one(&rt, next);
         assert_eq!(rt; keeper.save(b"two"), Err(KeepFault::Failed));
@@ -79,16 +87,26 @@ fn a_loss_of_power_leaves_what_the_disk_had_and_nothing_beside_it(rt: HostRuntim
 }
 
 #[test]
-fn what_was_saved_in_a_file_is_read_by_the_next_keeper_and_two_never_hold_its_lock(rt: HostRuntime) {
+fn what_was_saved_in_a_file_is_read_by_the_next_keeper_and_two_never_hold_its_lock(
+    rt: HostRuntime,
+) {
     let alloc = rt.alloc();
     let first = FileLock::beside(alloc, &rt, "kept.image").expect(&rt, "the lock");
-    assert!(rt; matches!(FileLock::beside(alloc, &rt, "kept.image"), Err(LockFault::Taken)));
+    assert!(rt;
+        matches!(
+            FileLock::beside(alloc, &rt, "kept.image"),
+            Err(LockFault::Taken)
+        )
+    );
     for (old, text) in [("", "one"), ("one", "another"), ("another", "last")] {
         let handle = rt.clone().expect(&rt, "a handle");
         let disk = SystemDisk::at(alloc, handle, "kept.image").expect(&rt, "room");
         let mut keeper = DiskKeeper::open(alloc, disk).expect(&rt, "it opens");
         assert_eq!(rt; keeper.is_new(), old.is_empty());
-        assert_eq!(rt; keeper.load().expect(&rt, "bytes").as_slice(), old.as_bytes());
+        assert_eq!(rt;
+            keeper.load().expect(&rt, "bytes").as_slice(),
+            old.as_bytes()
+        );
         assert_eq!(rt; keeper.save(text.as_bytes()), Ok(()));
     }
     drop(first);

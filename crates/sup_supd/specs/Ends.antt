@@ -8,7 +8,7 @@ use Rattle.sup_jobs.specs.declared.fault.Ended.{Ended}
 use Rattle.sup_jobs.specs.Tells.{Tells}
 use Rattle.sup_replica.specs.Configs.{Config}
 use Rattle.sup_replica.specs.declared.refusal.Refusal.{Refusal}
-use Rattle.sup_replica.specs.declared.refusal.Refusal.TheVariants.{KeepFailed, CountSpent}
+use Rattle.sup_replica.specs.declared.refusal.Refusal.TheVariants.{CountSpent, OutOfMemory as NoRoom}
 use Rattle.sup_talk.specs.Hosts.{Seen}
 use Rattle.sup_talk.specs.declared.talking.TalkEnd.{TalkEnd}
 use Rattle.sup_talk.specs.declared.talking.TalkEnd.TheVariants.{Ended as HeardOut, Over, Spent}
@@ -27,6 +27,7 @@ pub record Told : Type 0 where
 
 abbrev pub refusal_told : Refusal → Told
 refusal_told CountSpent = record { status = 1; line = codes "bad image CountSpent\n" }
+refusal_told NoRoom = record { status = 3; line = fault_text OutOfMemory }
 refusal_told refusal = record { status = 3; line = fault_text Device }
 
 -- of a node that didn't begin

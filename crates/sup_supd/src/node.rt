@@ -34,7 +34,16 @@ pub fn run_node<K: ImageKeeper, H: Host, E: Write>(
         (E.contents errors.old) (E.contents errors.new) result }
 {
     match weighing {
-        Weighing::Sha256 => run_by(alloc, name, config, Sha256Weigh, keeper, is_new, host, errors),
+        Weighing::Sha256 => run_by(
+            alloc,
+            name,
+            config,
+            Sha256Weigh,
+            keeper,
+            is_new,
+            host,
+            errors,
+        ),
         Weighing::Flat => run_by(alloc, name, config, FlatWeigh, keeper, is_new, host, errors),
     }
 }
@@ -83,8 +92,11 @@ fn refuse<E: Write>(fault: BeginFault, errors: &mut E) -> Ended
         BeginFault::BadImage(fault) => finish(errors, Err(Fault::BadImage(fault))),
         BeginFault::OthersImage => bad_image(errors, b"bad image OtherNode\n"),
         BeginFault::Refused(Refusal::CountSpent) => bad_image(errors, b"bad image CountSpent\n"),
+        BeginFault::NoMemory | BeginFault::Refused(Refusal::OutOfMemory) => finish(
+            errors,
+            Err(Fault::OutOfMemory),
+        ),
         BeginFault::Refused(_) => finish(errors, Err(Fault::Device)),
-        BeginFault::NoMemory => finish(errors, Err(Fault::OutOfMemory)),
     }
 }
 

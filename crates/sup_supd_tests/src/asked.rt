@@ -18,9 +18,24 @@ fn a_line_of_a_script_asks_without_its_node(rt: HostRuntime) {
     assert!(rt; matches!(asked(&rt, b"members"), Some(Asked::Members)));
     assert!(rt; matches!(asked(&rt, b"where www"), Some(Asked::Where(_))));
     assert!(rt; matches!(asked(&rt, b"join"), Some(Asked::Does(Event::Join(_), 0))));
-    assert!(rt; matches!(asked(&rt, b"start web arg=x"), Some(Asked::Does(Event::Start(_, _), 0))));
-    assert!(rt; matches!(asked(&rt, b"drain b"), Some(Asked::Does(Event::Drain(_), 0))));
-    assert!(rt; matches!(asked(&rt, b"exit web 1.1 crash @7"), Some(Asked::Does(Event::Exit { .. }, 7))));
+    assert!(rt;
+        matches!(
+            asked(&rt, b"start web arg=x"),
+            Some(Asked::Does(Event::Start(_, _), 0))
+        )
+    );
+    assert!(rt;
+        matches!(
+            asked(&rt, b"drain b"),
+            Some(Asked::Does(Event::Drain(_), 0))
+        )
+    );
+    assert!(rt;
+        matches!(
+            asked(&rt, b"exit web 1.1 crash @7"),
+            Some(Asked::Does(Event::Exit { .. }, 7))
+        )
+    );
 }
 
 #[test]
@@ -31,7 +46,12 @@ fn a_message_is_all_that_stands_behind_the_space(rt: HostRuntime) {
         }
         _ => rt.panic("a message"),
     }
-    assert!(rt; matches!(asked(&rt, b"deliver "), Some(Asked::Does(Event::Deliver(_), 0))));
+    assert!(rt;
+        matches!(
+            asked(&rt, b"deliver "),
+            Some(Asked::Does(Event::Deliver(_), 0))
+        )
+    );
 }
 
 #[test]

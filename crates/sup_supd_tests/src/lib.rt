@@ -3,6 +3,7 @@
 
 #[cfg(test)]
 mod asked;
+pub mod later_disk;
 #[cfg(test)]
 mod runs;
 #[cfg(test)]

@@ -1,8 +1,9 @@
 //! Stories of a node, from what is kept and the lines of its host to its status.
 
+use crate::later_disk::LaterDisk;
 use std::process::Abort;
 use sup_command_line::Weighing;
-use sup_disk::{DiskKeeper, MemDisk, Next};
+use sup_disk::{Disk, DiskKeeper, MemDisk, Next};
 use sup_jobs::Ended;
 use sup_replica::Config;
 use sup_specs::NodeName;
@@ -32,6 +33,19 @@ fn expect(
         is_flushed: false,
         next,
     };
+    expect_on(rt, disk, lines, said, status, line);
+}
+
+// The same over any disk.
+fn expect_on<D: Disk>(
+    rt: &(impl Abort + AllocGlobal),
+    disk: D,
+    lines: &[u8],
+    said: &[u8],
+    status: u8,
+    line: &[u8],
+) {
+    let alloc = rt.alloc();
     let keeper = DiskKeeper::open(alloc, disk).expect(rt, "it opens");
     let is_new = keeper.is_new();
     let name = NodeName::parse("a").expect(rt, "a name");
@@ -48,12 +62,19 @@ fn expect(
         &mut host,
         &mut told,
     );
-    assert!(rt; ended == Ended { status, told: Ok(()) });
+    assert!(rt;
+        ended
+            == Ended {
+                status,
+                told: Ok(())
+            }
+    );
     assert_eq!(rt; host.writer().as_slice(), said);
     assert_eq!(rt; told.as_slice(), line);
 }
 
-const IMAGE: &[u8] = b"{\"boot\":1,\"count\":1,\"ctx\":{\"cloud\":[],\"vector\":{\"a\":1}},\"kind\":\"image\",\"node\":\"a\",\"rows\":[[\"member\",\"a\",[\"a\",1],{\"label\":\"\",\"status\":\"open\"}]],\"v\":2}";
+const IMAGE: &[u8] =
+    b"{\"boot\":1,\"count\":1,\"ctx\":{\"cloud\":[],\"vector\":{\"a\":1}},\"kind\":\"image\",\"node\":\"a\",\"rows\":[[\"member\",\"a\",[\"a\",1],{\"label\":\"\",\"status\":\"open\"}]],\"v\":2}";
 
 #[test]
 fn a_new_node_tells_its_boot_and_answers_line_by_line(rt: HostRuntime) {
@@ -110,10 +131,47 @@ fn an_image_is_shown_as_it_is_kept(rt: HostRuntime) {
 #[test]
 fn a_disk_that_fails_at_the_begin_has_no_node(rt: HostRuntime) {
     for file in [None, Some(IMAGE)] {
-        for next in [Next::WriteFails, Next::FlushFails, Next::RenameFails, Next::FolderFails] {
+        for next in [
+            Next::WriteFails,
+            Next::FlushFails,
+            Next::RenameFails,
+            Next::FolderFails,
+        ] {
             expect(&rt, file, next, b"show\n", b"", 3, b"device\n");
         }
     }
+}
+
+#[test]
+fn a_save_that_fails_before_the_rename_is_refused_and_the_node_goes_on(rt: HostRuntime) {
+    let disk = LaterDisk {
+        holds: 2,
+        fails_late: false,
+    };
+    expect_on(
+        &rt,
+        disk,
+        b"join\nstart web\nstart db\nship b\n",
+        b"ok boot 1\n\nok (a,1)\n\nrefused 16 KeepFailed\n\nrefused 16 KeepFailed\n\nok sent\n  send b {\"ctx\":{\"cloud\":[],\"vector\":{\"a\":1}},\"from\":\"a\",\"kind\":\"delta\",\"n\":1,\"rows\":[[\"member\",\"a\",[\"a\",1],{\"label\":\"\",\"status\":\"open\"}]],\"to\":\"b\",\"v\":2}\n\n",
+        0,
+        b"",
+    );
+}
+
+#[test]
+fn a_save_that_fails_at_the_rename_is_refused_and_no_line_is_heard_behind_it(rt: HostRuntime) {
+    let disk = LaterDisk {
+        holds: 2,
+        fails_late: true,
+    };
+    expect_on(
+        &rt,
+        disk,
+        b"join\nstart web\nstart db\nshow\n",
+        b"ok boot 1\n\nok (a,1)\n\nrefused 16 KeepFailed\n\n",
+        3,
+        b"device\n",
+    );
 }
 
 #[test]

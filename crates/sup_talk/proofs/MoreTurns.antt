@@ -54,13 +54,13 @@ Talks-more answers over most s t u a b c turns turn before on heard answered exc
   follows = Follows-more answers over s t u turns turn before.follows on answered;
   heard = All-append (λ turn. IsHeard most turn.taken turn.heard) turns (turn ∷ []) before.heard (All-cons (λ turn. IsHeard most turn.taken turn.heard) turn [] heard (All-nil (λ turn. IsHeard most turn.taken turn.heard)));
   exchanges =
-    let taken = flat_map-append (λ turn. turn.taken) turns (turn ∷ []) ∙ ap (λ l. taken_by turns ++ l) (append-nil turn.taken) in
-    let said = flat_map-append (λ turn. turn.said) turns (turn ∷ []) ∙ ap (λ l. said_by turns ++ l) (append-nil turn.said) in
-    let events = flat_map-append (λ turn. Heard turn.heard ∷ Told turn.said ∷ []) turns (turn ∷ []) in
-    subst (λ x. Exchanges a c x (said_by (turns ++ (turn ∷ []))) (events_of (turns ++ (turn ∷ [])))) (sym taken)
+      let taken = flat_map-append (λ turn. turn.taken) turns (turn ∷ []) ∙ ap (λ l. taken_by turns ++ l) (append-nil turn.taken) in
+      let said = flat_map-append (λ turn. turn.said) turns (turn ∷ []) ∙ ap (λ l. said_by turns ++ l) (append-nil turn.said) in
+      let events = flat_map-append (λ turn. Heard turn.heard ∷ Told turn.said ∷ []) turns (turn ∷ []) in
+      subst (λ x. Exchanges a c x (said_by (turns ++ (turn ∷ []))) (events_of (turns ++ (turn ∷ [])))) (sym taken)
       (subst (λ x. Exchanges a c (taken_by turns ++ turn.taken) x (events_of (turns ++ (turn ∷ [])))) (sym said)
-        (subst (λ x. Exchanges a c (taken_by turns ++ turn.taken) (said_by turns ++ turn.said) x) (sym events)
-          (Exchanges-trans a b c (taken_by turns) turn.taken (said_by turns) turn.said (events_of turns) (Heard turn.heard ∷ Told turn.said ∷ []) before.exchanges exchanged)));
+      (subst (λ x. Exchanges a c (taken_by turns ++ turn.taken) (said_by turns ++ turn.said) x) (sym events)
+      (Exchanges-trans a b c (taken_by turns) turn.taken (said_by turns) turn.said (events_of turns) (Heard turn.heard ∷ Told turn.said ∷ []) before.exchanges exchanged)));
 }
 
 one-more : (turns : List Turn) (turn : Turn) → length (turns ++ (turn ∷ [])) ≡ length turns + 1
@@ -89,6 +89,6 @@ turn-of answers most s t a b c got text said replies is same told =
       line.1,
       heard.2,
       subst (λ x. Exchanges a c x text.items (Heard heard.0 ∷ Told text.items ∷ [])) (append-nil line.0)
-        (Exchanges-trans a b c line.0 [] [] text.items (Heard heard.0 ∷ []) (Told text.items ∷ []) line.2
+          (Exchanges-trans a b c line.0 [] [] text.items (Heard heard.0 ∷ []) (Told text.items ∷ []) line.2
           (subst (λ x. Exchanges b c [] x (Told x ∷ [])) same told)),
     )

@@ -6,7 +6,6 @@ ghost use Rattle.sup_talk.specs.Taking.{TakesByte, TakesLine, is_spent};
 mod questions;
 
 pub use questions::Questions;
-
 use std::alloc::Global;
 use std::io::Read;
 use thiserror::Error;
@@ -77,10 +76,7 @@ pub fn take_line<R: Read>(
 }
 
 // The next byte, or none at the end. An interrupted reader is asked again.
-fn take_byte<R: Read>(
-    reader: &mut R,
-    questions: &mut Questions,
-) -> Result<Option<u8>, LineFault>
+fn take_byte<R: Read>(reader: &mut R, questions: &mut Questions) -> Result<Option<u8>, LineFault>
     ensures byte { TakesByte result (R.remaining reader.old) (R.remaining reader.new) }
     ensures asked { OnOk result (questions.old.asked < questions.new.asked) }
     ensures device { IsErr result → is_spent questions.new ≡ true }

@@ -2,6 +2,5 @@
 #![tactic(auto)]
 
 pub mod fakes;
-
 #[cfg(test)]
 mod tests;

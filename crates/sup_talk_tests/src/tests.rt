@@ -32,7 +32,9 @@ fn talks(
 }
 
 #[test]
-fn an_interrupted_reader_is_asked_again_and_a_line_that_nobody_ended_is_passed_over(rt: HostRuntime) {
+fn an_interrupted_reader_is_asked_again_and_a_line_that_nobody_ended_is_passed_over(
+    rt: HostRuntime,
+) {
     let bytes = b"one\n\ntwo\nthr".to_vec(rt.alloc()).expect(&rt, "room");
     let (text, end) = talks(&rt, bytes, false, 100);
     assert_eq!(rt; text.as_slice(), b"one!!two!".as_slice());
@@ -48,7 +50,9 @@ fn a_reader_that_fails_ends_the_talk_behind_the_last_answer(rt: HostRuntime) {
 }
 
 #[test]
-fn a_writer_that_fails_has_got_a_front_of_the_answer_and_no_line_is_heard_behind_it(rt: HostRuntime) {
+fn a_writer_that_fails_has_got_a_front_of_the_answer_and_no_line_is_heard_behind_it(
+    rt: HostRuntime,
+) {
     let bytes = b"one\ntwo\nthree\n".to_vec(rt.alloc()).expect(&rt, "room");
     let (text, end) = talks(&rt, bytes, false, 6);
     assert_eq!(rt; text.as_slice(), b"one!tw".as_slice());
