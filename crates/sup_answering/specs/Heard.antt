@@ -1,16 +1,16 @@
 -- Whose acknowledgements a node has heard (this project): a node holds no list of its peers.
-use Rattle.std.specs.Prelude.{◌≡◌, ◌≢◌, ℕ, Bool, true, false, List, [], ◌∷◌, ◌++◌, Option, Some, None, Result, Ok, Err, if◌then◌else◌}
+use Rattle.std.specs.Prelude.{◌≡◌, ℕ, Bool, true, false, List, [], ◌∷◌, ◌++◌, Option, Some, None, Result, Ok, Err, if◌then◌else◌}
 use Rattle.std.specs.List.{list_any}
 use Rattle.std.specs.Str.{bytes_eq}
 use Rattle.sup_specs.specs.Values.{Bytes}
 use Rattle.sup_tables.specs.States.{State}
 use Rattle.sup_replica.specs.Stations.{Mail, a_delta, a_push, an_ack}
 use Rattle.sup_replica.specs.declared.event.Act.{Act}
-use Rattle.sup_replica.specs.declared.event.Act.TheVariants.{Event as Of, Stop, Restart}
-use Rattle.sup_replica.specs.declared.event.Event.TheVariants.{Join, Leave, Drain, Start, Delete, Replace, Register, Unregister, Exit, Ship, Push, Deliver}
+use Rattle.sup_replica.specs.declared.event.Act.TheVariants.{Event as Of}
+use Rattle.sup_replica.specs.declared.event.Event.TheVariants.{Deliver}
 use Rattle.sup_replica.specs.declared.done.Done.{Done}
 use Rattle.sup_replica.specs.declared.done.Reply.{Reply}
-use Rattle.sup_replica.specs.declared.done.Reply.TheVariants.{Added, Replaced, Removed, Restarted, Finished, GaveUp, Sent, Absorbed, Known, Acked, Stopped, Boot}
+use Rattle.sup_replica.specs.declared.done.Reply.TheVariants.{Acked}
 use Rattle.sup_replica.specs.declared.refusal.Refusal.{Refusal}
 use Rattle.sup_node.specs.Texts.{IsReadAs}
 

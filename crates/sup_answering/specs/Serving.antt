@@ -11,7 +11,7 @@ use Rattle.sup_answering.specs.Answering.{Known, AnswersLine}
 -- lines are heard and answered one after another, each by the node's answer, as long as it knows what outlives it
 abbrev pub TalksWith : Weigher → ℕ → Known → Known → Seen → Seen → Result TalkEnd TalkFault → Type 0
 TalksWith weigher most s t before after end =
-    TalksFor (λ a heard text b. AnswersLine weigher a heard text b) (λ k. k.lost) most s t before after end
+    TalksFor {S = Known} (λ a heard text b. AnswersLine weigher a heard text b) (λ k. k.lost) most s t before after end
 
 -- The first answer is told, and then the talk goes on; or not all of it could be told, and no line is heard.
 abbrev pub Serves : Weigher → ℕ → Known → Known → List ℕ → Seen → Seen → Result TalkEnd TalkFault → Type 0

@@ -38,7 +38,8 @@ fn sender_of(alloc: Global, bytes: &[u8]) -> Result<Option<NodeName>, AllocError
 {
     match decode(alloc, bytes) {
         Ok(Message::Ack { from, .. }) => Ok(Some(from)),
-        Ok(_) => Ok(None),
+        Ok(Message::Push { .. }) => Ok(None),
+        Ok(Message::Delta { .. }) => Ok(None),
         Err(WireFault::OutOfMemory) => Err(AllocError),
         Err(_) => Ok(None),
     }

@@ -1,7 +1,7 @@
 //! What a line asks of the one node that hears it.
 
 ghost use Rattle.std.specs.Prelude.{◌≡◌, IfOk, None, string_bytes};
-ghost use Rattle.sup_asked.specs.Asking.{asked_by, asked_by_step, asked_in, asked_of, named};
+ghost use Rattle.sup_asked.specs.Asking.{asked_by, asked_by_act, asked_by_step, asked_in, asked_of, named};
 
 use std::alloc::{AllocError, Global};
 use sup_lines::line::read_line;
@@ -92,10 +92,23 @@ fn asked_by_step(step: Step) -> Option<Asked>
     match step {
         Step::Node {
             at: _,
-            act: Act::Event(event),
+            act,
             now,
-            saves: true,
-        } => Some(Asked::Does(event, now)),
-        _ => None,
+            saves,
+        } => asked_by_act(act, now, saves),
+        Step::Raw { .. } | Step::Deliver { .. } => None,
+    }
+}
+
+// An event that is saved.
+fn asked_by_act(act: Act, now: u64, saves: bool) -> Option<Asked>
+    ensures { result ≡ asked_by_act now saves act }
+{
+    if !saves {
+        return None;
+    }
+    match act {
+        Act::Event(event) => Some(Asked::Does(event, now)),
+        Act::Stop | Act::Restart => None,
     }
 }

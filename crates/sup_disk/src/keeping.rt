@@ -23,7 +23,7 @@ pub trait ImageKeeper: Keeper {
 
     /// The bytes that it keeps.
     fn stored(&self) -> &[u8]
-        ensures { result.now ≡ kept self.now };
+        ensures { result.now ≡ Self.kept self.now };
 }
 
 /// Keeps bytes in a file, and a copy of them. As long as it isn't lost, a loss of power leaves the copy and nothing else.

@@ -10,13 +10,13 @@ use Rattle.sup_command_line.specs.declared.request.Weighing.TheVariants.{Sha256,
 use Rattle.sup_supd.specs.declared.settings.Settings.{Settings}
 
 -- what is set for a node
-pub record IsSet : Type 0 where
+pub record Setting : Type 0 where
   pub name : Bytes
   pub image : Word  -- the file of its image
   pub weighing : Weighing
   pub config : Config
 
-abbrev pub set_of : Settings → IsSet
+abbrev pub set_of : Settings → Setting
 set_of s = record { name = s.name; image = s.image.now; weighing = s.weighing; config = s.config }
 
 -- the options; each has a value
@@ -50,7 +50,7 @@ config_in words = do
   buffer ← number_of 1024 (value_or (codes "--buffer") (codes "64") words)
   config_of intensity period buffer
 
-unfoldable pub set_in : Word → List Word → Option IsSet
+unfoldable pub set_in : Word → List Word → Option Setting
 set_in name words = do
   node ← node_name_of name
   image ← value_for (codes "--image") words
@@ -59,6 +59,6 @@ set_in name words = do
   Some (record { name = node; image = image; weighing = weighing; config = config })
 
 -- NAME --image FILE [--weigh sha256|flat] [--intensity N] [--period N] [--buffer N], the options in any order
-abbrev pub settings_of : List Word → Option IsSet
+abbrev pub settings_of : List Word → Option Setting
 settings_of [] = None
 settings_of (name ∷ words) = if are_options words then set_in name words else None

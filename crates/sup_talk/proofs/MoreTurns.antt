@@ -1,5 +1,5 @@
 -- A talk with one turn more (this project).
-use Rattle.std.proofs.Common.{◌≡◌, ℕ, Bool, true, false, List, [], ◌∷◌, ◌++◌, length, Option, None, Some, Ok, refl, sym, ap, subst, append-nil, append_assoc, ◌∙◌, ◌+◌, arith}
+use Rattle.std.proofs.Common.{◌≡◌, ℕ, Bool, true, false, List, [], ◌∷◌, ◌++◌, length, Option, None, Some, Ok, refl, sym, ap, subst, append-nil, append_assoc, ◌∙◌, ◌+◌, length-append}
 use Rattle.std.specs.Global.{Vec}
 use Rattle.std.proofs.KnownBytes.{Consumes-trans, Appends-trans, Consumes-nil, Appends-nil}
 use Rattle.std.proofs.lemmas.Grind.{flat_map-append}
@@ -64,7 +64,7 @@ Talks-more answers over most s t u a b c turns turn before on heard answered exc
 }
 
 one-more : (turns : List Turn) (turn : Turn) → length (turns ++ (turn ∷ [])) ≡ length turns + 1
-one-more turns turn = grind arith
+one-more turns turn = length-append turns (turn ∷ [])
 
 -- with one round more that was a turn
 pub Talks-round : {S : Type 0} (answers : Answers S) (over : S → Bool) (most : ℕ) (s t u : S) (a b c : Seen) (count : ℕ) (go : Bool)
