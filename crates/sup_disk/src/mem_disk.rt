@@ -62,14 +62,23 @@ impl MemDisk {
         ensures safe { OnOk result (copied self.new.safe ≡ copied self.new.shown) }
         ensures beside { OnOk result (copied self.new.beside ≡ None) }
     {
-        let left = if is_ahead { &self.shown } else { &self.safe };
-        let shown = copy_of(self.alloc, left)?;
+        let shown = self.left_over(is_ahead)?;
         let safe = copy_of(self.alloc, &shown)?;
         self.shown = shown;
         self.safe = safe;
         self.beside = None;
         self.is_flushed = false;
         Ok(())
+    }
+
+    fn left_over(&self, is_ahead: bool) -> io::Result<Option<Vec<u8>>>
+        ensures { IfOk result (λ copy. copied copy ≡ (if is_ahead then copied self.now.shown else copied self.now.safe)) }
+    {
+        if is_ahead {
+            copy_of(self.alloc, &self.shown)
+        } else {
+            copy_of(self.alloc, &self.safe)
+        }
     }
 }
 

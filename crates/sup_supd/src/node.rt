@@ -77,9 +77,9 @@ fn end_with<E: Write>(end: Result<TalkEnd, TalkFault>, errors: &mut E) -> Ended
 {
     match end {
         Ok(TalkEnd::Ended) => finish(errors, Ok(())),
-        Ok(TalkEnd::Over) | Ok(TalkEnd::Spent) | Err(TalkFault::Device) => {
-            finish(errors, Err(Fault::Device))
-        }
+        Ok(TalkEnd::Over) => finish(errors, Err(Fault::Device)),
+        Ok(TalkEnd::Spent) => finish(errors, Err(Fault::Device)),
+        Err(TalkFault::Device) => finish(errors, Err(Fault::Device)),
         Err(TalkFault::OutOfMemory) => finish(errors, Err(Fault::OutOfMemory)),
     }
 }
@@ -92,11 +92,9 @@ fn refuse<E: Write>(fault: BeginFault, errors: &mut E) -> Ended
         BeginFault::BadImage(fault) => finish(errors, Err(Fault::BadImage(fault))),
         BeginFault::OthersImage => bad_image(errors, b"bad image OtherNode\n"),
         BeginFault::Refused(Refusal::CountSpent) => bad_image(errors, b"bad image CountSpent\n"),
-        BeginFault::NoMemory | BeginFault::Refused(Refusal::OutOfMemory) => finish(
-            errors,
-            Err(Fault::OutOfMemory),
-        ),
+        BeginFault::Refused(Refusal::OutOfMemory) => finish(errors, Err(Fault::OutOfMemory)),
         BeginFault::Refused(_) => finish(errors, Err(Fault::Device)),
+        BeginFault::NoMemory => finish(errors, Err(Fault::OutOfMemory)),
     }
 }
 
