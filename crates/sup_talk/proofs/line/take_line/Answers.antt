@@ -21,3 +21,14 @@ loop-reader-preserved-then-len-ge-LINE_LIMIT g c =
       grind (arith, common_steps),
       grind (arith, common_steps),
     )
+
+pub loop-reader-preserved : goal.loop-reader-preserved
+loop-reader-preserved g c =
+    let before = c.loop-reader.invariant in (
+      before.0 ++ (c.in-Ok-Some.byte ∷ []),
+      unbroken-more before.0 c.in-Ok-Some.byte before.1 c.in-Ok-Some.byte-test.1,
+      consumes-more _ _ _ before.0 c.in-Ok-Some.byte c.in-Ok-Some.field-0 c.in-Ok-Some.field-0-is before.2 c.in-Ok-Some.ensures.byte,
+      grind (arith, common_steps),
+      grind (arith, common_steps),
+      grind (arith, common_steps),
+    )
