@@ -31,6 +31,9 @@ pub record Known : Type 0 where
   pub peers : List Bytes  -- whose acknowledgements it has heard in this boot
   pub lost : Bool  -- its keeper doesn't know what outlives it: the node has given its last answer
 
+abbrev pub known : Bytes → Still → List Bytes → Bool → Known
+known name still peers lost = record { name = name; still = still; peers = peers; lost = lost }
+
 -- what its node shows, and nothing while that is down
 abbrev pub shown_by : Still → Option Shown
 shown_by s = option_map shown_of s.node

@@ -1,6 +1,7 @@
 //! How a node begins.
 
 ghost use Rattle.std.specs.Prelude.{◌≡◌, [], true, false, IfOk, IfErr};
+ghost use Rattle.sup_station.specs.Stills.{still_of};
 ghost use Rattle.sup_answering.specs.Beginning.{Begins, IsImageFault, IsNoBegin};
 
 use crate::filter::Filter;
@@ -64,9 +65,9 @@ pub fn begin<K: ImageKeeper, W: Weigh + Drop>(
     is_new: bool,
     weigher: W,
 ) -> Result<Begun<K, W>, BeginFault>
-    ensures begins { IfOk result (λ b. Begins W.weight_of is_new name config (K.kept keeper) b.filter.still b.first.items) }
+    ensures begins { IfOk result (λ b. Begins W.weight_of is_new name config (K.kept keeper) (still_of K.kept b.filter.station) b.first.items) }
     ensures name { IfOk result (λ b. b.filter.name ≡ name) }
-    ensures peers { IfOk result (λ b. b.filter.peers ≡ []) }
+    ensures peers { IfOk result (λ b. b.filter.peers.items ≡ []) }
     ensures fault { IfErr result (λ fault. IsNoBegin W.weight_of name config (K.kept keeper) fault) }
 {
     if is_new {
@@ -84,9 +85,9 @@ fn open<K: ImageKeeper, W: Weigh + Drop>(
     keeper: K,
     weigher: W,
 ) -> Result<Begun<K, W>, BeginFault>
-    ensures begins { IfOk result (λ b. Begins W.weight_of true name config (K.kept keeper) b.filter.still b.first.items) }
+    ensures begins { IfOk result (λ b. Begins W.weight_of true name config (K.kept keeper) (still_of K.kept b.filter.station) b.first.items) }
     ensures name { IfOk result (λ b. b.filter.name ≡ name) }
-    ensures peers { IfOk result (λ b. b.filter.peers ≡ []) }
+    ensures peers { IfOk result (λ b. b.filter.peers.items ≡ []) }
     ensures fault { IfErr result (λ fault. IsNoBegin W.weight_of name config (K.kept keeper) fault) }
 {
     let station = match Station::new(alloc, name, config, keeper) {
@@ -117,9 +118,9 @@ fn go_on<K: ImageKeeper, W: Weigh + Drop>(
     keeper: K,
     weigher: W,
 ) -> Result<Begun<K, W>, BeginFault>
-    ensures begins { IfOk result (λ b. Begins W.weight_of false name config (K.kept keeper) b.filter.still b.first.items) }
+    ensures begins { IfOk result (λ b. Begins W.weight_of false name config (K.kept keeper) (still_of K.kept b.filter.station) b.first.items) }
     ensures name { IfOk result (λ b. b.filter.name ≡ name) }
-    ensures peers { IfOk result (λ b. b.filter.peers ≡ []) }
+    ensures peers { IfOk result (λ b. b.filter.peers.items ≡ []) }
     ensures fault { IfErr result (λ fault. IsNoBegin W.weight_of name config (K.kept keeper) fault) }
 {
     let mut station = Station::stopped(alloc, name, config, keeper);

@@ -1,5 +1,7 @@
 //! A node that answers until its host says no more.
 
+ghost use Rattle.sup_station.specs.Stills.{keeper_of, still_of};
+ghost use Rattle.sup_answering.specs.Answering.{known};
 ghost use Rattle.sup_answering.specs.Serving.{Serves};
 
 use crate::filter::Filter;
@@ -20,7 +22,8 @@ pub fn serve<K: ImageKeeper, W: Weigh + Drop, H: Host>(
     first: &[u8],
     host: &mut H,
 ) -> Result<TalkEnd, TalkFault>
-    ensures { Serves W.weight_of LINE_LIMIT filter.old filter.new first.now (H.seen host.old) (H.seen host.new) result }
+    ensures { Serves W.weight_of LINE_LIMIT (known filter.old.name (still_of K.kept filter.old.station) filter.old.peers.items (K.lost (keeper_of filter.old.station)))
+        (known filter.new.name (still_of K.kept filter.new.station) filter.new.peers.items (K.lost (keeper_of filter.new.station))) first.now (H.seen host.old) (H.seen host.new) result }
 {
     if host.tell(first).is_err() {
         return Err(TalkFault::Device);
