@@ -38,3 +38,8 @@ module _ {S K : Type 0} (seen : S → K) (answers : Answers K) (over : K → Boo
     record { follows = follows s h.1 h.0 h.3.follows; heard = h.3.heard; exchanges = h.3.exchanges },
     ended h.1 t h.2 b _ end h.4,
   )
+
+-- the same, with the states first
+pub talks-as : {S K : Type 0} (s t : S) (seen : S → K) (answers : Answers K) (over : K → Bool) (most : ℕ) (a b : Seen) (end : Result TalkEnd TalkFault)
+    → TalksFor {S = S} (λ x heard text y. answers (seen x) heard text (seen y)) (λ x. over (seen x)) most s t a b end → TalksFor {S = K} answers over most (seen s) (seen t) a b end
+talks-as s t seen answers over most a b end h = talks-seen seen answers over most s t a b end h

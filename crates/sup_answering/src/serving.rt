@@ -7,6 +7,7 @@ ghost use Rattle.sup_answering.specs.Serving.{Serves};
 use crate::filter::Filter;
 use std::alloc::Global;
 use sup_disk::ImageKeeper;
+use sup_jobs::DeviceFault;
 use sup_placement::Weigh;
 use sup_talk::{Host, LINE_LIMIT, TalkEnd, TalkFault, talk};
 
@@ -25,8 +26,8 @@ pub fn serve<K: ImageKeeper, W: Weigh + Drop, H: Host>(
     ensures { Serves W.weight_of LINE_LIMIT (known filter.old.name (still_of K.kept filter.old.station) filter.old.peers.items (K.lost (keeper_of filter.old.station)))
         (known filter.new.name (still_of K.kept filter.new.station) filter.new.peers.items (K.lost (keeper_of filter.new.station))) first.now (H.seen host.old) (H.seen host.new) result }
 {
-    if host.tell(first).is_err() {
-        return Err(TalkFault::Device);
+    match host.tell(first) {
+        Ok(()) => talk(alloc, filter, host),
+        Err(DeviceFault) => Err(TalkFault::Device),
     }
-    talk(alloc, filter, host)
 }
