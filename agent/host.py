@@ -1,0 +1,356 @@
+"""One machine of a cluster: it runs a node, keeps the node's children as processes, carries its letters, and tells it who is a member.
+
+The node decides what runs where. All happens in one loop that waits for lines, for ends of children and for the next moment of a timer. The
+loop asks the node, and the node answers at once; nothing else is waited for.
+"""
+import collections
+import json
+import os
+import selectors
+import signal
+import sys
+import time
+
+import children
+import links
+import node
+import seals
+from clock import seconds
+
+LOOKS = {"show", "inspect", "where", "members", "image"}
+OF_PEOPLE = LOOKS | {"join", "leave", "drain", "start", "replace", "delete", "register", "unregister"}
+BEGIN_AGAIN = 0.2   # seconds, doubled up to 5, between two begins of a node that doesn't begin
+FIRST_BEGIN = 10    # seconds at most in which it has to begin at the first
+LAST_WORDS = 2      # seconds at most in which the others hear that this machine has left
+TOLD_EACH = 5       # seconds at least between two lines of the log about refused lines
+
+
+class NoNode(Exception):
+    """The node can't begin: why, and the status with which the agent ends."""
+
+
+class Agent:
+    def __init__(self, options, secret, words):
+        """OSError or ValueError where the file of kinds is none or the address can't be had; ImportError without the Redis library."""
+        self.o, self.name, self.words = options, options.name, words
+        self.mark = os.path.abspath(options.image)
+        self.children = children.Children(self.name, children.Kinds(options.kinds), self.mark, self.log)
+        self.loop, self.inbox = selectors.DefaultSelector(), collections.deque()
+        self.refused, self.refused_told = collections.Counter(), 0
+        self.server = links.Server(self.loop, options.listen, self.name, secret, self.take, self.refuse)
+        self.links = self.links_of(secret)
+        self.node, self.boot, self.begin_at, self.wait, self.gone_since = None, "", 0, BEGIN_AGAIN, None
+        self.heard, self.unheard, self.runs = {}, {}, {}  # of each machine: when it was heard; since when it counts as silent; what it runs
+        self.begun = self.judge_from = self.turned = seconds()
+        self.hold_until, self.rejoin_at = self.begun + options.grace, 0
+        self.ship_at, self.tell_at, self.told, self.behind = 0, 0, None, set()
+        self.leave_at, self.left_at, self.draining = None, None, False
+        self.end_leftovers()
+        self.wake_by_signals()
+
+    def links_of(self, secret):
+        if self.o.via is None:
+            return links.TcpLinks(self.loop, self.o.peers, self.name, seals.fresh(), secret, self.o.silent, self.log)
+        import redis_links
+        return redis_links.RedisLinks(self.loop, self.o.via, self.o.group, self.name, secret, self.take, self.refuse, self.log)
+
+    def end_leftovers(self):
+        """Ends what an agent that was killed has left running."""
+        left = 0
+        for _ in range(100):
+            found = children.end_marked(self.mark)
+            if not found:
+                break
+            left += found
+            time.sleep(0.01)
+        if left:
+            self.log("ended what an earlier agent left:", left)
+
+    def wake_by_signals(self):
+        """The end of a child, and a request to leave, wake the loop."""
+        wake, woken = os.pipe()
+        for end in (wake, woken):
+            os.set_blocking(end, False)
+        signal.set_wakeup_fd(woken, warn_on_full_buffer=False)
+        signal.signal(signal.SIGCHLD, lambda *_: None)
+        for number in (signal.SIGTERM, signal.SIGINT):
+            signal.signal(number, self.leave)
+        self.loop.register(wake, selectors.EVENT_READ, lambda _: os.read(wake, 4096))
+
+    def log(self, *words):
+        print(time.strftime("%Y-%m-%dT%H:%M:%S"), self.name, *words, file=sys.stderr, flush=True)
+
+    # -- the node
+
+    def begin_node(self):
+        try:
+            self.node = node.Node(self.words, self.o.patience)
+        except node.NodeGone as gone:
+            self.lose_node(gone)
+            return
+        self.wait, self.gone_since = BEGIN_AGAIN, None
+        self.boot = self.node.first.reply.removeprefix("ok boot ")
+        self.log("node", self.node.process.pid, "boot", self.boot)
+        self.children.adopt(self.node.first.orders)
+        self.ship_at = 0
+
+    def lose_node(self, gone):
+        """It is begun anew after a moment; NoNode where it has never begun and won't."""
+        now = seconds()
+        self.log("the node is gone:", gone.args[0])
+        self.node, self.begin_at, self.wait = None, now + self.wait, min(2 * self.wait, 5)
+        self.gone_since = now if self.gone_since is None else self.gone_since
+        if self.boot == "" and (gone.args[0] in (1, 2) or isinstance(gone.args[0], str)):
+            raise NoNode(f"the node can't begin: {gone.args[0]}", 1)
+        if self.boot == "" and now - self.begun > FIRST_BEGIN:
+            raise NoNode("the node doesn't begin", 3)
+
+    def ask(self, line):
+        """What the node answers, once its orders are taken and its letters sent; None where there is no node, or it ended at this line."""
+        if self.node is None:
+            return None
+        try:
+            answer = self.node.ask(line)
+        except node.NodeGone as gone:
+            self.lose_node(gone)
+            return None
+        self.children.do(answer.orders)
+        for to, text in answer.letters:
+            self.links.send(to, "letter " + text)
+        self.note(line, answer.reply)
+        return answer
+
+    def note(self, line, reply):
+        """What an answer means for the timers, and in the log."""
+        words = line.split(" ", 2)
+        if words[0] in LOOKS | {"ship", "deliver"}:
+            return
+        self.log("asked", line, "->", reply)
+        if reply.startswith("ok"):
+            self.ship_at = 0
+        if reply.startswith("ok gave up"):
+            self.rejoin_at = seconds() + self.o.rejoin
+        elif reply == "ok restarted":
+            self.children.restarts[words[1]] = self.children.restarts.get(words[1], 0) + 1
+
+    def look_after_node(self, now):
+        """Begins a node that is gone. Where it is gone for long, others may take over what runs here, so it ends."""
+        if self.node is None and now >= self.begin_at:
+            self.begin_node()
+        if self.is_lost(now):
+            self.children.stop_all()
+
+    def is_lost(self, now):
+        return self.gone_since is not None and now - self.gone_since >= self.o.silent
+
+    # -- lines that come
+
+    def take(self, sender, text, answer=None):
+        """A line that somebody with the secret said; `answer` takes lines for one who asks. Refused where it is no line of an agent."""
+        word, _, rest = text.partition(" ")
+        if sender == seals.CLIENT and word == "ask" and answer is not None:
+            self.inbox.append((word, rest, answer))
+        elif sender not in (seals.CLIENT, self.name) and self.links.knows(sender) and word in ("letter", "runs", "hello"):
+            self.heard[sender] = seconds()
+            self.inbox.append((word, rest, sender))
+        else:
+            raise seals.Refused("no line of a machine of this cluster")
+
+    def refuse(self, where, why):
+        self.refused[str(why)] += 1
+        if seconds() - self.refused_told >= TOLD_EACH:
+            self.refused_told = seconds()
+            self.log("refused lines:", dict(self.refused), "the last from", where)
+
+    def do_inbox(self):
+        while self.inbox:
+            word, rest, other = self.inbox.popleft()
+            if word == "letter":
+                self.ask("deliver " + rest)
+            elif word == "runs":
+                self.runs[other] = runs_of(rest)
+            elif word == "ask":
+                other(self.answer(rest))
+
+    def answer(self, line):
+        """The lines that somebody who asks is told."""
+        if line == "status":
+            return [json.dumps(self.status())]
+        if line.split(" ")[0] not in OF_PEOPLE:
+            return ["not asked: " + ", ".join(sorted(OF_PEOPLE))]
+        answer = self.ask(line)
+        return ["no node"] if answer is None else answer.lines
+
+    # -- who is a member
+
+    def in_sight(self, now):
+        """The machines that were heard lately."""
+        return {name for name, heard in self.heard.items() if now - heard < self.o.silent}
+
+    def keep_membership(self, now):
+        """Joins where this machine is no member and sees enough others, leaves where it sees too few, and takes out who is silent."""
+        answer = self.ask("members")
+        if answer is None or self.leave_at is not None:
+            return
+        members = {line.split(" ")[1] for line in answer.lines if line.startswith("member ")}
+        enough = 1 + len(self.in_sight(now)) >= self.o.least
+        if not enough and self.name in members and now >= self.hold_until:
+            self.ask("leave " + self.name)
+        elif enough and self.name not in members and now >= max(self.rejoin_at, self.hold_until):
+            self.ask("join label=" + self.o.label)
+        if enough:
+            self.take_out_silent(members - {self.name}, now)
+
+    def take_out_silent(self, others, now):
+        unheard = others - self.in_sight(now)
+        self.unheard = {name: self.unheard.get(name, now) for name in unheard}
+        for name in sorted(unheard):
+            since = max(self.unheard[name] if name not in self.heard else self.heard[name], self.judge_from)
+            if self.links.knows(name) and now - since >= self.o.silent:
+                self.log(name, "is silent")
+                self.ask("leave " + name)
+
+    # -- turns of the loop
+
+    def run(self):
+        """Goes on until it was told to leave and has left. NoNode where the node can't begin."""
+        self.begin_node()
+        self.turned = seconds()
+        while self.leave_at is None or not self.has_left(seconds()):
+            self.turn()
+        if self.node is not None:
+            self.node.close()
+        self.server.close()
+        self.links.close()
+        self.log("left")
+
+    def turn(self):
+        for key, events in self.loop.select(max(0, self.next_moment() - seconds())):
+            key.data(events)
+        now = seconds()
+        self.notice_a_hold(now)
+        self.tell_ends(self.children.ended())
+        self.do_inbox()
+        self.look_after_node(now)
+        self.begin(now)
+        self.tell_runs(now)
+        self.ship(now)
+        self.links.tick(now)
+        self.server.tick(now)
+        self.turned = seconds()
+
+    def next_moment(self):
+        """When the loop has to turn again, at the latest."""
+        moments = [self.ship_at, self.tell_at]
+        if self.children.waiting and seconds() < self.hold_until:
+            moments.append(self.hold_until)
+        if self.node is None:
+            moments.append(self.begin_at)
+        late = self.children.kill_late()
+        return min(moments if late is None else moments + [late])
+
+    def notice_a_hold(self, now):
+        """Where this machine itself was held, or slept, the others' silence says nothing, and they may have taken over what waits here."""
+        if now - self.turned > max(self.o.silent / 2, 2 * self.o.every):
+            self.log("held for", round(now - self.turned, 1), "s")
+            self.judge_from = now
+            self.hold_until = max(self.hold_until, now + self.o.grace)
+            self.ship_at = now + min(0.2, self.o.every)
+
+    def begin(self, now):
+        """Begins what waits, but for what other machines in sight say that they run."""
+        if self.children.waiting and now >= self.hold_until:
+            elsewhere = {ident for name in self.in_sight(now) for ident in self.runs.get(name, ())}
+            self.tell_ends(self.children.begin(elsewhere))
+
+    def tell_ends(self, ends):
+        for ident, number, reason in ends:
+            self.ask(f"exit {ident} {number} {reason} @{int(seconds())}")
+
+    def tell_runs(self, now):
+        """Tells the others what runs here, at once where that has changed. A machine whose node is lost falls silent once nothing runs."""
+        told = self.children.told()
+        if told == self.told and now < self.tell_at:
+            return
+        self.told, self.tell_at = told, now + self.o.every
+        if not self.is_lost(now) or told:
+            for name in self.links.names():
+                self.links.send(name, "runs " + json.dumps(told, separators=(",", ":")))
+
+    def ship(self, now):
+        """Sends each machine what it hasn't acknowledged."""
+        if now < self.ship_at:
+            return
+        self.ship_at = now + self.o.every
+        self.keep_membership(now)
+        answers = {name: self.ask("ship " + name) for name in self.links.names() if self.links.is_ready(name)}
+        self.behind = {name for name, answer in answers.items() if answer is not None and answer.reply.startswith("ok")}
+
+    # -- the end
+
+    def leave(self, *_):
+        """At SIGTERM or SIGINT: no child is placed here any more, what runs ends, and then it is no member. Told twice, all is killed at once."""
+        self.leave_at = seconds() if self.leave_at is None else float("-inf")
+
+    def has_left(self, now):
+        if self.left_at is not None:
+            return now - self.left_at > LAST_WORDS or not self.behind & self.in_sight(now)
+        self.drain(now)
+        if self.children.busy():
+            return False
+        self.ask("leave " + self.name)
+        self.tell_runs(now)
+        self.ship(now)
+        self.left_at = now
+        return False
+
+    def drain(self, now):
+        if not self.draining:
+            self.draining = True
+            self.ask("drain " + self.name)
+        self.children.stop_all()
+        if now - self.leave_at > self.o.leave_time:
+            for run in self.children.ending:
+                run.signal(signal.SIGKILL)
+
+    # -- what people see
+
+    def status(self):
+        """This machine's view: of each machine and child what is known of it here."""
+        now, shown = seconds(), self.ask("show")
+        lines = [] if shown is None else shown.lines
+        members = dict(member_of(line) for line in lines if line.startswith("member "))
+        runs = {**{name: self.runs.get(name, {}) for name in self.in_sight(now)}, self.name: self.children.told()}
+        names = sorted({self.name, *self.links.names(), *members, *self.heard})
+        return {
+            "name": self.name, "boot": self.boot, "node": "runs" if self.node is not None else "gone", "refused": dict(self.refused),
+            "machines": [{"name": name, "member": members.get(name, ["out", ""])[0], "label": members.get(name, ["", ""])[1],
+                          "heard": 0 if name == self.name else round(now - self.heard[name], 1) if name in self.heard else None} for name in names],
+            "children": [{**child, "runs": [[name, *here[child["id"]]] for name, here in sorted(runs.items()) if child["id"] in here]}
+                         for child in map(child_of, lines) if child is not None],
+            "names": [line.split(" ", 1)[1] for line in lines if line.startswith("name ")],
+        }
+
+
+def runs_of(text):
+    """What a machine says that it runs, by id; nothing where it is no such text."""
+    try:
+        runs = json.loads(text)
+    except (ValueError, RecursionError):
+        return {}
+    good = isinstance(runs, dict) and all(isinstance(run, list) and len(run) == 4 for run in runs.values())
+    return runs if good else {}
+
+
+def member_of(line):
+    words = line.split(" ")
+    return words[1], ["draining" if words[3] == "draining" else "open", words[-1].removeprefix("label=")]
+
+
+def child_of(line):
+    """A child from its line of `show`, None from any other line."""
+    words = line.split(" ")
+    if words[0] != "child":
+        return None
+    return {"id": words[1], "kind": words[3], "restart": words[4], "shutdown": words[5], "arg": words[6].removeprefix("arg="),
+            "place": words[8] if words[7] == "on" else None}
