@@ -84,7 +84,7 @@ def run_words(run):
     run.add_argument("--label", type=label, help="with which this machine joins (what --listen says)")
     run.add_argument("--silent", type=positive, default=3, metavar="S", help="a member that was silent so long is taken out (%(default)s)")
     run.add_argument("--least", type=int, default=1, metavar="N", help="who sees fewer machines, itself counted, takes itself out (%(default)s)")
-    run.add_argument("--grace", type=positive, default=1, metavar="S", help="nothing begins so long after the agent's begin (%(default)s)")
+    run.add_argument("--grace", type=positive, default=3, metavar="S", help="at most so long nothing begins, until all others have told what they run (%(default)s)")
     run.add_argument("--every", type=positive, default=0.5, metavar="S", help="between two letters to a machine that lacks some (%(default)s)")
     run.add_argument("--rejoin", type=positive, default=10, metavar="S", help="until this machine joins again once it gave up (%(default)s)")
     run.add_argument("--leave-time", type=positive, default=30, metavar="S", help="at most so long for children to end at SIGTERM (%(default)s)")

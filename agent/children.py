@@ -26,16 +26,25 @@ def die_with_parent(parent):
     return promise
 
 
+def environment(process):
+    """The environment with which a process began, as words of bytes; none where there is no such process, or it is another user's."""
+    try:
+        with open(f"/proc/{process}/environ", "rb") as file:
+            return file.read().split(b"\0")
+    except OSError:
+        return []
+
+
 def end_marked(mark):
-    """Kills every process that carries this mark, and tells how many there were. Processes of other users are not seen."""
-    wanted, ended = f"{MARK}={mark}".encode(), 0
-    for name in os.listdir("/proc"):
-        try:
-            if name.isdecimal() and int(name) != os.getpid() and wanted in open(f"/proc/{name}/environ", "rb").read().split(b"\0"):
-                os.kill(int(name), signal.SIGKILL)
+    """Kills every process that carries this mark, and tells how many there were."""
+    word, ended = f"{MARK}={mark}".encode(), 0
+    for process in [int(name) for name in os.listdir("/proc") if name.isdecimal()]:
+        if process != os.getpid() and word in environment(process):
+            try:
+                os.kill(process, signal.SIGKILL)
                 ended += 1
-        except OSError:
-            pass
+            except OSError:
+                pass
     return ended
 
 
@@ -144,10 +153,10 @@ class Children:
         for ident in reversed(list(self.running)):
             self.stop(self.running.pop(ident))
 
-    def begin(self, elsewhere):
-        """Begins what waits, but for what runs yet here, or in `elsewhere`. The ends (id, number, reason) of what couldn't be begun."""
-        faults, busy = [], self.busy() | elsewhere
-        for ident in [ident for ident in self.waiting if ident not in busy]:
+    def begin(self, idents):
+        """Begins these, which wait and have no process here. The ends (id, number, reason) of what couldn't be begun."""
+        faults = []
+        for ident in idents:
             number, spec = self.waiting.pop(ident)
             try:
                 self.running[ident] = Run(ident, number, spec, self.process_of(ident, number, spec))

@@ -12,6 +12,7 @@ import sys
 import time
 
 import children
+import claims
 import links
 import node
 import seals
@@ -39,11 +40,12 @@ class Agent:
         self.refused, self.refused_told = collections.Counter(), 0
         self.server = links.Server(self.loop, options.listen, self.name, secret, self.take, self.refuse)
         self.links = self.links_of(secret)
-        self.node, self.boot, self.begin_at, self.wait, self.gone_since = None, "", 0, BEGIN_AGAIN, None
-        self.heard, self.unheard, self.runs = {}, {}, {}  # of each machine: when it was heard; since when it counts as silent; what it runs
+        self.node, self.coming, self.boot, self.begin_at, self.wait, self.gone_since = None, None, "", 0, BEGIN_AGAIN, None
+        self.heard, self.unheard = {}, {}  # of each machine: when it was heard; since when it counts as silent
         self.begun = self.judge_from = self.turned = seconds()
-        self.hold_until, self.rejoin_at = self.begun + options.grace, 0
-        self.ship_at, self.tell_at, self.told, self.behind = 0, 0, None, set()
+        self.held_from, self.others, self.rejoin_at = self.begun, None, 0
+        self.claims = claims.Claims(self.name, seals.fresh())
+        self.ship_at, self.tell_at, self.told, self.behind = 0, 0, ({}, set()), set()
         self.leave_at, self.left_at, self.draining = None, None, False
         self.end_leftovers()
         self.wake_by_signals()
@@ -78,27 +80,34 @@ class Agent:
         self.loop.register(wake, selectors.EVENT_READ, lambda _: os.read(wake, 4096))
 
     def log(self, *words):
-        print(time.strftime("%Y-%m-%dT%H:%M:%S"), self.name, *words, file=sys.stderr, flush=True)
+        print(time.strftime("%Y-%m-%dT%H:%M:%S.") + f"{time.time_ns() // 1000000 % 1000:03}", self.name, *words, file=sys.stderr, flush=True)
 
     # -- the node
 
     def begin_node(self):
+        """Begins the node, and takes what it orders first once that is there. Nothing is waited for."""
         try:
-            self.node = node.Node(self.words, self.o.patience)
+            if self.coming is None:
+                self.coming = node.Node(self.words, self.o.patience)
+                self.loop.register(self.coming.output, selectors.EVENT_READ, lambda _: None)
+            if not self.coming.has_begun():
+                return
         except node.NodeGone as gone:
             self.lose_node(gone)
             return
-        self.wait, self.gone_since = BEGIN_AGAIN, None
+        self.loop.unregister(self.coming.output)
+        self.node, self.coming, self.wait, self.gone_since, self.ship_at = self.coming, None, BEGIN_AGAIN, None, 0
         self.boot = self.node.first.reply.removeprefix("ok boot ")
         self.log("node", self.node.process.pid, "boot", self.boot)
         self.children.adopt(self.node.first.orders)
-        self.ship_at = 0
 
     def lose_node(self, gone):
         """It is begun anew after a moment; NoNode where it has never begun and won't."""
         now = seconds()
         self.log("the node is gone:", gone.args[0])
-        self.node, self.begin_at, self.wait = None, now + self.wait, min(2 * self.wait, 5)
+        if self.coming is not None:
+            self.loop.unregister(self.coming.output)
+        self.node, self.coming, self.begin_at, self.wait = None, None, now + self.wait, min(2 * self.wait, 5)
         self.gone_since = now if self.gone_since is None else self.gone_since
         if self.boot == "" and (gone.args[0] in (1, 2) or isinstance(gone.args[0], str)):
             raise NoNode(f"the node can't begin: {gone.args[0]}", 1)
@@ -168,7 +177,8 @@ class Agent:
             if word == "letter":
                 self.ask("deliver " + rest)
             elif word == "runs":
-                self.runs[other] = runs_of(rest)
+                if self.claims.hear(other, rest, seconds()):
+                    self.tell_at = 0
             elif word == "ask":
                 other(self.answer(rest))
 
@@ -193,20 +203,23 @@ class Agent:
         if answer is None or self.leave_at is not None:
             return
         members = {line.split(" ")[1] for line in answer.lines if line.startswith("member ")}
+        self.others = {name for name in members | set(self.links.names()) if name != self.name and self.links.knows(name)}
+        held = self.is_held(now)
         enough = 1 + len(self.in_sight(now)) >= self.o.least
-        if not enough and self.name in members and now >= self.hold_until:
+        if not enough and self.name in members and not held:
             self.ask("leave " + self.name)
-        elif enough and self.name not in members and now >= max(self.rejoin_at, self.hold_until):
+        elif enough and self.name not in members and now >= self.rejoin_at and not held:
             self.ask("join label=" + self.o.label)
         if enough:
-            self.take_out_silent(members - {self.name}, now)
+            self.take_out_silent(self.others & members, now)
 
     def take_out_silent(self, others, now):
+        """Where `--least` has a lonely machine leave by itself, it is given the time for that."""
+        patience = self.o.silent + (3 * self.o.every if self.o.least > 1 else 0)
         unheard = others - self.in_sight(now)
         self.unheard = {name: self.unheard.get(name, now) for name in unheard}
         for name in sorted(unheard):
-            since = max(self.unheard[name] if name not in self.heard else self.heard[name], self.judge_from)
-            if self.links.knows(name) and now - since >= self.o.silent:
+            if now - max(self.heard.get(name, self.unheard[name]), self.judge_from) >= patience:
                 self.log(name, "is silent")
                 self.ask("leave " + name)
 
@@ -214,8 +227,7 @@ class Agent:
 
     def run(self):
         """Goes on until it was told to leave and has left. NoNode where the node can't begin."""
-        self.begin_node()
-        self.turned = seconds()
+        self.held_from = self.turned = seconds()
         while self.leave_at is None or not self.has_left(seconds()):
             self.turn()
         if self.node is not None:
@@ -242,9 +254,9 @@ class Agent:
     def next_moment(self):
         """When the loop has to turn again, at the latest."""
         moments = [self.ship_at, self.tell_at]
-        if self.children.waiting and seconds() < self.hold_until:
-            moments.append(self.hold_until)
-        if self.node is None:
+        if self.children.waiting and self.is_held(seconds()):
+            moments.append(self.held_from + self.o.grace)
+        if self.node is None and self.coming is None:
             moments.append(self.begin_at)
         late = self.children.kill_late()
         return min(moments if late is None else moments + [late])
@@ -253,15 +265,26 @@ class Agent:
         """Where this machine itself was held, or slept, the others' silence says nothing, and they may have taken over what waits here."""
         if now - self.turned > max(self.o.silent / 2, 2 * self.o.every):
             self.log("held for", round(now - self.turned, 1), "s")
-            self.judge_from = now
-            self.hold_until = max(self.hold_until, now + self.o.grace)
+            self.judge_from = self.held_from = now
             self.ship_at = now + min(0.2, self.o.every)
 
+    def is_held(self, now):
+        """Whether nothing may begin yet: until every other machine has told what it runs, at most for the grace."""
+        if self.others is None:
+            return True
+        return now < self.held_from + self.o.grace and any(self.told_at(name) < self.held_from for name in self.others)
+
+    def told_at(self, name):
+        return self.claims.told[name].moment if name in self.claims.told else 0
+
     def begin(self, now):
-        """Begins what waits, but for what other machines in sight say that they run."""
-        if self.children.waiting and now >= self.hold_until:
-            elsewhere = {ident for name in self.in_sight(now) for ident in self.runs.get(name, ())}
-            self.tell_ends(self.children.begin(elsewhere))
+        """Begins what waits and has no process here any more, and that other machines in sight let begin, or take for running here still."""
+        idle = [ident for ident in self.children.waiting if ident not in self.children.busy()] if not self.is_held(now) else []
+        self.claims.claim(ident for ident in idle if ident not in self.told[0])
+        seen = self.in_sight(now)
+        free = [ident for ident in idle if ident in self.told[0] or self.claims.may_begin(ident, seen)]
+        self.tell_ends(self.children.begin(free))
+        self.claims.claim(ident for ident in self.claims.claimed if ident in self.children.waiting)
 
     def tell_ends(self, ends):
         for ident, number, reason in ends:
@@ -269,13 +292,14 @@ class Agent:
 
     def tell_runs(self, now):
         """Tells the others what runs here, at once where that has changed. A machine whose node is lost falls silent once nothing runs."""
-        told = self.children.told()
+        told = self.children.told(), set(self.claims.claimed)
         if told == self.told and now < self.tell_at:
             return
         self.told, self.tell_at = told, now + self.o.every
-        if not self.is_lost(now) or told:
+        self.claims.next_line()
+        if not self.is_lost(now) or told[0]:
             for name in self.links.names():
-                self.links.send(name, "runs " + json.dumps(told, separators=(",", ":")))
+                self.links.send(name, "runs " + self.claims.line(name, told[0]))
 
     def ship(self, now):
         """Sends each machine what it hasn't acknowledged."""
@@ -320,26 +344,16 @@ class Agent:
         now, shown = seconds(), self.ask("show")
         lines = [] if shown is None else shown.lines
         members = dict(member_of(line) for line in lines if line.startswith("member "))
-        runs = {**{name: self.runs.get(name, {}) for name in self.in_sight(now)}, self.name: self.children.told()}
+        runs = {self.name: self.children.told(), **{name: self.claims.told[name].runs for name in self.in_sight(now) if name in self.claims.told}}
         names = sorted({self.name, *self.links.names(), *members, *self.heard})
         return {
-            "name": self.name, "boot": self.boot, "node": "runs" if self.node is not None else "gone", "refused": dict(self.refused),
+            "name": self.name, "boot": self.boot, "node": "gone" if self.node is None else "runs", "refused": dict(self.refused),
             "machines": [{"name": name, "member": members.get(name, ["out", ""])[0], "label": members.get(name, ["", ""])[1],
                           "heard": 0 if name == self.name else round(now - self.heard[name], 1) if name in self.heard else None} for name in names],
             "children": [{**child, "runs": [[name, *here[child["id"]]] for name, here in sorted(runs.items()) if child["id"] in here]}
                          for child in map(child_of, lines) if child is not None],
             "names": [line.split(" ", 1)[1] for line in lines if line.startswith("name ")],
         }
-
-
-def runs_of(text):
-    """What a machine says that it runs, by id; nothing where it is no such text."""
-    try:
-        runs = json.loads(text)
-    except (ValueError, RecursionError):
-        return {}
-    good = isinstance(runs, dict) and all(isinstance(run, list) and len(run) == 4 for run in runs.values())
-    return runs if good else {}
 
 
 def member_of(line):

@@ -34,18 +34,27 @@ class Answer:
 
 
 class Node:
-    """A node that runs. Its first answer was told unasked, and stands in `first`."""
+    """A node. Its first answer comes unasked, and then stands in `first`; before that it is not asked."""
 
     def __init__(self, words, patience):
-        """Begins the program that these words name. NodeGone where its first answer doesn't come within `patience` seconds."""
-        self.patience, self.heard = patience, bytearray()
+        """Begins the program that these words name, which has `patience` seconds for each answer. NodeGone where there is no such program."""
+        self.patience, self.heard, self.first, self.begun_at = patience, bytearray(), None, seconds()
         try:
             self.process = subprocess.Popen(words, stdin=subprocess.PIPE, stdout=subprocess.PIPE, preexec_fn=die_with_parent(os.getpid()))
         except OSError as fault:
             raise NodeGone(f"{words[0]}: {fault.strerror}") from None
         for pipe in (self.process.stdin, self.process.stdout):
             os.set_blocking(pipe.fileno(), False)
-        self.first = self.answer(b"")
+        self.output = self.process.stdout.fileno()
+
+    def has_begun(self):
+        """Whether the first answer is there, without waiting. NodeGone where it can't come any more."""
+        while self.first is None and select.select([self.output], [], [], 0)[0]:
+            self.hear()
+            self.first = self.take(0)
+        if self.first is None and seconds() - self.begun_at > self.patience:
+            self.end()
+        return self.first is not None
 
     def ask(self, line):
         """The answer to a line of visible ASCII and single spaces. NodeGone where it doesn't come; then the line may have been done."""
@@ -54,33 +63,45 @@ class Node:
     def answer(self, unsaid):
         unsaid, until, looked = memoryview(unsaid), seconds() + self.patience, 0
         while True:
-            end = 0 if self.heard.startswith(b"\n") else self.heard.find(b"\n\n", looked) + 1
-            if not unsaid and (end or self.heard.startswith(b"\n")):
-                text = bytes(self.heard[:end]).decode("ascii", "replace")
-                del self.heard[:end + 1]
-                return Answer(text.splitlines())
+            answer = None if unsaid else self.take(looked)
+            if answer is not None:
+                return answer
             looked = max(0, len(self.heard) - 1)
             unsaid = unsaid[self.move(unsaid, until):]
 
+    def take(self, looked):
+        """Takes the answer that was heard whole, None where there is none; up to `looked` its end was looked for."""
+        end = 0 if self.heard.startswith(b"\n") else self.heard.find(b"\n\n", looked) + 1
+        if not end and not self.heard.startswith(b"\n"):
+            return None
+        text = bytes(self.heard[:end]).decode("ascii", "replace")
+        del self.heard[:end + 1]
+        return Answer(text.splitlines())
+
     def move(self, unsaid, until):
         """Says and hears what goes without waiting, once something goes. How many bytes were said."""
-        reads, says = self.process.stdout.fileno(), self.process.stdin.fileno()
         poll = select.poll()
-        poll.register(reads, select.POLLIN)
+        poll.register(self.output, select.POLLIN)
         if unsaid:
-            poll.register(says, select.POLLOUT)
+            poll.register(self.process.stdin.fileno(), select.POLLOUT)
         ready = dict(poll.poll(max(0, until - seconds()) * 1000))
         if not ready:
             self.end()
+        if self.output in ready:
+            self.hear()
         try:
-            if reads in ready:
-                heard = os.read(reads, 1 << 20)
-                if not heard:
-                    self.end()
-                self.heard += heard
-            return os.write(says, unsaid) if says in ready else 0
+            return os.write(self.process.stdin.fileno(), unsaid) if self.process.stdin.fileno() in ready else 0
         except OSError:
             self.end()
+
+    def hear(self):
+        try:
+            heard = os.read(self.output, 1 << 20)
+        except OSError:
+            heard = b""
+        if not heard:
+            self.end()
+        self.heard += heard
 
     def end(self):
         """Ends the program, which is no use any more, and tells so."""

@@ -21,7 +21,7 @@ import children
 import client
 import seals
 
-SUPD = os.environ.get("SUPD", "")
+SUPD = os.environ["SUPD"]  # the node's program; agent/test.sh names it
 KINDS = {"sleep": ["sleep", "{arg}"], "none": ["/nonexistent"], "stubborn": ["sh", "-c", "trap '' TERM; while :; do sleep 0.1; done"]}
 SECRET = b"a secret of this test alone"
 SCAN = 0.02  # seconds between two looks of the watcher
@@ -46,6 +46,16 @@ def until(seconds, holds, what):
     return time.monotonic() - began
 
 
+def parent(process):
+    with open(f"/proc/{process}/stat") as file:
+        return int(file.read().rsplit(")", 1)[1].split()[1])
+
+
+def command(process):
+    with open(f"/proc/{process}/cmdline") as file:
+        return file.read().split("\0")
+
+
 class Watcher(threading.Thread):
     """Looks again and again which processes carry the mark of a folder: at each look of each child its processes, as (number, machine)."""
 
@@ -68,10 +78,7 @@ class Watcher(threading.Thread):
             if self.sightings.get(name, 0) > 20:  # not ours, since long
                 continue
             self.sightings[name] = self.sightings.get(name, 0) + 1
-            try:
-                words = open(f"/proc/{name}/environ", "rb").read().split(b"\0")
-            except OSError:
-                continue
+            words = children.environment(name)
             if any(word.startswith(self.mark) for word in words):
                 self.sightings[name] = 0
                 of = dict(word.decode().split("=", 1) for word in words if word.startswith(b"SEBRAKT_"))
@@ -110,7 +117,7 @@ class Machines:
     def __init__(self, names, redis=None, options=(), secret=True, addresses=None):
         self.names, self.redis, self.options = names, redis, list(options)
         self.folder = tempfile.mkdtemp(prefix="sebrakt-agents-")
-        self.ports, self.agents = dict(zip(names, free_ports(len(names)))), {}
+        self.ports, self.agents, self.supd = dict(zip(names, free_ports(len(names)))), {}, {}
         self.addresses = addresses or (lambda sender, to: f"127.0.0.1:{self.ports[to]}")
         self.secret = SECRET if secret else None
         with open(self.path("kinds.json"), "w") as file:
@@ -125,7 +132,7 @@ class Machines:
 
     def words(self, name):
         words = [sys.executable, AGENT, "run", "--name", name, "--image", self.path(name + ".image"), "--kinds", self.path("kinds.json"),
-                 "--listen", f"127.0.0.1:{self.ports[name]}", "--supd", SUPD, "--silent", "1.5", "--every", "0.25", "--grace", "0.5"]
+                 "--listen", f"127.0.0.1:{self.ports[name]}", "--supd", self.supd.get(name, SUPD), "--silent", "1.5", "--every", "0.25", "--grace", "1.5"]
         words += ["--secret", self.path("secret")] if self.secret else []
         if self.redis:
             words += ["--via", self.redis]
@@ -156,7 +163,7 @@ class Machines:
             try:
                 return client.ask(("127.0.0.1", self.ports[name]), self.secret, line)
             except client.NoAnswer:
-                if time.monotonic() > end:
+                if time.monotonic() > end or self.agents[name].poll() is not None:
                     raise
                 time.sleep(0.05)
 
@@ -211,9 +218,8 @@ class Machines:
         agent = self.agents[name].pid
         for other in os.listdir("/proc"):
             try:
-                if other.isdecimal() and int(open(f"/proc/{other}/stat").read().rsplit(")", 1)[1].split()[1]) == agent:
-                    if self.path(name + ".image").encode() in open(f"/proc/{other}/cmdline", "rb").read():
-                        return int(other)
+                if other.isdecimal() and parent(other) == agent and self.path(name + ".image") in command(other):
+                    return int(other)
             except (OSError, IndexError):
                 pass
         return None
