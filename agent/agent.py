@@ -88,7 +88,7 @@ def run_words(run):
     run.add_argument("--every", type=positive, default=0.5, metavar="S", help="between two letters to a machine that lacks some (%(default)s)")
     run.add_argument("--rejoin", type=positive, default=10, metavar="S", help="until this machine joins again once it gave up (%(default)s)")
     run.add_argument("--leave-time", type=positive, default=30, metavar="S", help="at most so long for children to end at SIGTERM (%(default)s)")
-    run.add_argument("--patience", type=positive, default=30, metavar="S", help="a node that answers later is begun anew (%(default)s)")
+    run.add_argument("--patience", type=positive, default=10, metavar="S", help="a node that answers later is begun anew (%(default)s)")
     run.add_argument("--supd", metavar="FILE", help="the node's program ($SUPD, else the one that is built in this repository, else on $PATH)")
     for word, what in ("--intensity", "restarts"), ("--period", "seconds"), ("--buffer", "changes"), ("--weigh", "sha256 or flat"):
         run.add_argument(word, help=f"the node's: {what}")

@@ -144,30 +144,29 @@ class Server:
         loop.register(self.socket, selectors.EVENT_READ, self.accept)
 
     def accept(self, _):
-        try:
-            link, address = self.socket.accept()
-        except OSError:
-            return
-        link.setsockopt(socket.IPPROTO_TCP, socket.TCP_NODELAY, 1)
-        link.setsockopt(socket.SOL_SOCKET, socket.SO_KEEPALIVE, 1)
-        link.setsockopt(socket.IPPROTO_TCP, socket.TCP_KEEPIDLE, 60)
-        self.callers.add(Caller(self, link, address[0]))
-        self.make_room()
+        for _ in range(MOST_CALLERS):
+            try:
+                link, address = self.socket.accept()
+            except OSError:
+                break
+            link.setsockopt(socket.IPPROTO_TCP, socket.TCP_NODELAY, 1)
+            link.setsockopt(socket.SOL_SOCKET, socket.SO_KEEPALIVE, 1)
+            link.setsockopt(socket.IPPROTO_TCP, socket.TCP_KEEPIDLE, 60)
+            self.callers.add(Caller(self, link, address[0]))
+        self.have_fewer()
 
-    def make_room(self):
-        """Closes connections, those of strangers first and of these the oldest, until few enough hold few enough bytes."""
-        while len(self.callers) > MOST_CALLERS:
-            self.drop(min(self.callers, key=lambda caller: (caller.known, caller.since)), "too many connections")
-        while sum(len(caller.wire.come) for caller in self.callers) > MOST_HELD:
-            self.drop(max(self.callers, key=lambda caller: len(caller.wire.come)), "too many bytes")
+    def have_fewer(self):
+        """Closes what is too many: connections of strangers first, and of these the oldest."""
+        more = len(self.callers) - MOST_CALLERS
+        if more > 0:
+            for caller in sorted(self.callers, key=lambda caller: (caller.known, caller.since))[:more]:
+                caller.wire.close("too many connections")
 
     def tick(self, now):
         for caller in [caller for caller in self.callers if not caller.known and now - caller.since > STRANGERS_TIME]:
-            self.drop(caller, "said nothing")
-        self.make_room()
-
-    def drop(self, caller, why):
-        caller.wire.close(why)
+            caller.wire.close("said nothing")
+        while sum(len(caller.wire.come) for caller in self.callers) > MOST_HELD:
+            max(self.callers, key=lambda caller: len(caller.wire.come)).wire.close("too many bytes")
 
     def close(self):
         self.loop.unregister(self.socket)
