@@ -2,11 +2,14 @@
 
 A run of a child begins only once its earlier run has ended, here and, as far as is heard, on other machines. It is ended by SIGTERM to its
 group, and by SIGKILL once its shutdown has passed. Where a run's first process has ended, the rest of its group is killed. All that a child
-begins carries a mark in its environment; by that whoever comes after a killed agent finds and ends what was left.
+begins carries a mark in its environment; by that whoever comes after a killed agent finds and ends what was left. The first process of a run
+dies with its agent: the kernel sees to that, asked by util-linux's `setpriv`, which then becomes the child's program; where there is no
+`setpriv`, by this process between fork and exec, which takes longer.
 """
 import ctypes
 import json
 import os
+import shutil
 import signal
 import subprocess
 
@@ -15,6 +18,8 @@ from clock import seconds
 PR_SET_PDEATHSIG = 1
 LIBRARY = ctypes.CDLL(None)
 MARK = "SEBRAKT_AGENT"
+SETPRIV = shutil.which("setpriv")
+NOT_BEGUN = (126, 127)  # the statuses with which setpriv ends where it can't become the program
 
 
 def die_with_parent(parent):
@@ -75,6 +80,10 @@ class Kinds:
         if spec["kind"] not in self.words:
             raise OSError(0, f"no kind {spec['kind']} in {self.path}")
         return [word.replace("{arg}", spec["arg"]).replace("{id}", ident) for word in self.words[spec["kind"]]]
+
+
+def reason_of(status):
+    return "normal" if status == 0 else "failed" if status in NOT_BEGUN else "crash"
 
 
 class Run:
@@ -168,9 +177,15 @@ class Children:
         return faults
 
     def process_of(self, ident, number, spec):
+        words = self.kinds.of(ident, spec)
+        if shutil.which(words[0]) is None:
+            raise OSError(f"no program {words[0]}")
         environment = dict(os.environ, SEBRAKT_ID=ident, SEBRAKT_RUN=number, SEBRAKT_NODE=self.name, **{MARK: self.mark})
-        return subprocess.Popen(self.kinds.of(ident, spec), stdin=subprocess.DEVNULL, env=environment, start_new_session=True,
-                                preexec_fn=die_with_parent(os.getpid()))
+        if SETPRIV is not None:
+            words, promise = [SETPRIV, "--pdeathsig", "KILL", "--"] + words, None
+        else:
+            promise = die_with_parent(os.getpid())
+        return subprocess.Popen(words, stdin=subprocess.DEVNULL, env=environment, start_new_session=True, preexec_fn=promise)
 
     def ended(self):
         """The ends (id, number, reason) that nobody ordered, since the last call."""
@@ -181,7 +196,7 @@ class Children:
             del self.running[run.id]
             self.last[run.id] = f"status {status}" if status >= 0 else f"signal {-status}"
             self.log("ended", run.id, run.number, self.last[run.id])
-        return [(run.id, run.number, "normal" if run.process.returncode == 0 else "crash") for run in ends]
+        return [(run.id, run.number, reason_of(run.process.returncode)) for run in ends]
 
     def kill_late(self):
         """Kills what was told to end and whose shutdown has passed. When the next one passes, None where none does."""
