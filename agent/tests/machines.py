@@ -2,6 +2,7 @@
 
 All that a test ends it has started itself: agents, nodes and servers by their processes' numbers, children by the mark of its own folder.
 """
+import atexit
 import json
 import os
 import shutil
@@ -25,6 +26,28 @@ SUPD = os.environ["SUPD"]  # the node's program; agent/test.sh names it
 KINDS = {"sleep": ["sleep", "{arg}"], "none": ["/nonexistent"], "stubborn": ["sh", "-c", "trap '' TERM; while :; do sleep 0.1; done"]}
 SECRET = b"a secret of this test alone"
 SCAN = 0.02  # seconds between two looks of the watcher
+
+
+signal.signal(signal.SIGTERM, signal.default_int_handler)  # who is too slow ends as by an interrupt, and ends what it started
+
+
+def begin(words, **options):
+    """Begins a process of the test, which ends with it in any case."""
+    process = subprocess.Popen(words, **options)
+    atexit.register(end_process, process)
+    return process
+
+
+def end_process(process):
+    """Ends a process, if it hasn't ended: asked to, and killed 5 seconds later."""
+    if process.poll() is None:
+        process.send_signal(signal.SIGCONT)
+        process.terminate()
+        try:
+            process.wait(5)
+        except subprocess.TimeoutExpired:
+            process.kill()
+            process.wait()
 
 
 def free_ports(count):
@@ -143,7 +166,7 @@ class Machines:
     def begin(self, *names, environment=None):
         for name in names:
             with open(self.path(name + ".log"), "a") as log:
-                self.agents[name] = subprocess.Popen(self.words(name), stderr=log, env={**os.environ, **(environment or {})})
+                self.agents[name] = begin(self.words(name), stderr=log, env={**os.environ, **(environment or {})})
 
     def begin_all(self):
         self.begin(*self.names)
@@ -236,11 +259,7 @@ class Machines:
                 agent.send_signal(signal.SIGCONT)
                 agent.terminate()
         for agent in self.agents.values():
-            try:
-                agent.wait(5)
-            except subprocess.TimeoutExpired:
-                agent.kill()
-                agent.wait()
+            end_process(agent)
         self.watcher.stop()
         for name in self.names:
             children.end_marked(self.path(name + ".image"))
@@ -260,7 +279,7 @@ class Redis:
         self.begin()
 
     def begin(self):
-        self.process = subprocess.Popen(["redis-server", "--port", str(self.port), "--bind", "127.0.0.1", "--save", "", "--appendonly", "no",
+        self.process = begin(["redis-server", "--port", str(self.port), "--bind", "127.0.0.1", "--save", "", "--appendonly", "no",
                                          "--dir", self.folder], stdout=subprocess.DEVNULL)
         until(10, self.answers, "the Redis server answers")
 
@@ -272,8 +291,7 @@ class Redis:
             return False
 
     def stop(self):
-        self.process.terminate()
-        self.process.wait(10)
+        end_process(self.process)
 
     def end(self):
         self.stop()

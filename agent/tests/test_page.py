@@ -1,16 +1,20 @@
 """The page: what it shows, what its forms do, and that nothing is done without its key. With $SCREENSHOT, a path, it is also looked at in Chromium."""
+import http.server
 import os
 import re
 import shutil
 import signal
 import subprocess
 import sys
+import threading
 import unittest
 import urllib.error
 import urllib.parse
 import urllib.request
 
-from machines import AGENT, Machines, until
+from machines import AGENT, SECRET, Machines, begin, end_process, until
+
+import page
 
 SCREENSHOT = os.environ.get("SCREENSHOT")
 
@@ -22,11 +26,10 @@ class Page(unittest.TestCase):
         self.machines.begin_all()
         self.machines.start("a", ["web", "queue", "mail"])
         until(20, lambda: self.machines.each_once(["web", "queue", "mail"]), "all run")
-        self.page = subprocess.Popen([sys.executable, AGENT, "serve", f"127.0.0.1:{self.machines.ports['a']}", "--port", "0", "--secret", self.machines.path("secret")],
+        self.page = begin([sys.executable, AGENT, "serve", f"127.0.0.1:{self.machines.ports['a']}", "--port", "0", "--secret", self.machines.path("secret")],
                                      stdout=subprocess.PIPE, text=True)
         self.addCleanup(self.page.stdout.close)
-        self.addCleanup(self.page.wait, 10)
-        self.addCleanup(self.page.terminate)
+        self.addCleanup(end_process, self.page)
         self.url = self.page.stdout.readline().strip()
         self.base, self.key = re.fullmatch(r"(http://127\.0\.0\.1:\d+)/\?key=(\S+)", self.url).groups()
 
@@ -81,19 +84,35 @@ class Page(unittest.TestCase):
             self.assertTrue(self.is_forbidden(lambda: self.post(verb="delete", id="web", **key)))
         self.assertEqual(self.machines.tables("a"), tables)
 
-    @unittest.skipUnless(SCREENSHOT and shutil.which("chromium"), "no $SCREENSHOT, or no chromium")
+    @unittest.skipUnless(shutil.which("chromium"), "no chromium")
     def test_a_browser_shows_it_and_refreshes_it(self):
         os.kill(self.machines.process("web"), signal.SIGKILL)
-        until(10, lambda: self.machines.each_once(["web", "queue", "mail"]), "all run again")
-        self.machines.ask("a", "start cache kind=sleep arg=100000 restart=transient shutdown=1000")
-        until(10, lambda: self.machines.each_once(["web", "queue", "mail", "cache"]), "all run")
         until(10, lambda: "signal 9" in self.get(self.url), "the exit is shown")
-        browser = ["chromium", "--headless=new", "--no-sandbox", "--disable-gpu", "--hide-scrollbars", "--window-size=1250,640", "--user-data-dir=" + self.machines.path("browser"),
-                   "--virtual-time-budget=4000"]
-        subprocess.run(browser + ["--screenshot=" + SCREENSHOT, self.url], check=True, timeout=120, stdout=subprocess.DEVNULL, stderr=subprocess.DEVNULL)
-        seen = subprocess.run(browser + ["--dump-dom", self.url], check=True, timeout=120, stdout=subprocess.PIPE, stderr=subprocess.DEVNULL, text=True).stdout
+        view, calls = page.View(("127.0.0.1", self.machines.ports["a"]), SECRET, "key"), []
+        shown = view.tables
+
+        def tables():
+            calls.append(1)
+            if len(calls) == 2:  # what is begun once the page is there is seen by its refresh alone
+                self.machines.start("a", ["cache"])
+                until(10, lambda: self.machines.each_once(["web", "queue", "mail", "cache"]), "all run")
+            return shown()
+        view.tables = tables
+        with http.server.ThreadingHTTPServer(("127.0.0.1", 0), page.Handler) as server:
+            server.view = view
+            threading.Thread(target=server.serve_forever, daemon=True).start()
+            seen = self.browse(f"http://127.0.0.1:{server.server_address[1]}/?key=key", "--dump-dom")
+            server.shutdown()
+        self.assertGreater(len(calls), 2)
         self.assertIn("<code>cache</code>", seen)
-        self.assertGreater(os.path.getsize(SCREENSHOT), 10000)
+        if SCREENSHOT:
+            self.browse(self.url, "--screenshot=" + SCREENSHOT)
+            self.assertGreater(os.path.getsize(SCREENSHOT), 10000)
+
+    def browse(self, url, what):
+        words = ["chromium", "--headless=new", "--no-sandbox", "--disable-gpu", "--hide-scrollbars", "--window-size=1250,780",
+                 "--user-data-dir=" + self.machines.path("browser"), "--virtual-time-budget=4000", what, url]
+        return subprocess.run(words, check=True, timeout=120, stdout=subprocess.PIPE, stderr=subprocess.DEVNULL, text=True).stdout
 
 
 if __name__ == "__main__":

@@ -8,7 +8,7 @@ import subprocess
 import time
 import unittest
 
-from machines import Machines, until
+from machines import Machines, begin, end_process
 
 ROUNDS = 15
 REST = 1.3  # seconds between two deaths of one child: runit and s6 begin none twice within a second
@@ -38,10 +38,8 @@ class Times(unittest.TestCase):
         self.machines = Machines(["a"], options=["--intensity", "1000", "--period", "1"])
         self.addCleanup(self.machines.end)
 
-    def supervise(self, name, words, input=None):
-        process = subprocess.Popen(words, stdout=subprocess.DEVNULL, stderr=subprocess.DEVNULL, cwd=self.machines.folder)
-        self.addCleanup(process.wait, 10)
-        self.addCleanup(process.terminate)
+    def supervise(self, words):
+        self.addCleanup(end_process, begin(words, stdout=subprocess.DEVNULL, stderr=subprocess.DEVNULL, cwd=self.machines.folder))
 
     def service(self, name, beats):
         """A folder of a service, as runit and s6 have it."""
@@ -64,16 +62,16 @@ class Times(unittest.TestCase):
         return beats
 
     def runit(self, beats):
-        self.supervise("runit", ["runsv", self.service("of-runit", beats)])
+        self.supervise(["runsv", self.service("of-runit", beats)])
 
     def s6(self, beats):
-        self.supervise("s6", ["s6-supervise", self.service("of-s6", beats)])
+        self.supervise(["s6-supervise", self.service("of-s6", beats)])
 
     def supervisord(self, beats):
         with open(self.machines.path("supervisord.conf"), "w") as file:
             file.write(f"[supervisord]\nnodaemon=true\nuser=root\nlogfile=/dev/null\nlogfile_maxbytes=0\npidfile={self.machines.path('supervisord.pid')}\n"
                        f"[program:x]\ncommand={beats.program}\nautorestart=true\nstartsecs=0\n")
-        self.supervise("supervisord", ["supervisord", "-c", self.machines.path("supervisord.conf")])
+        self.supervise(["supervisord", "-c", self.machines.path("supervisord.conf")])
 
     def test_a_child_is_back_within_10_ms_at_the_median(self):
         beats = self.all()

@@ -1,0 +1,52 @@
+#!/usr/bin/env bash
+# Tests the agent with the proved `supd` and real processes: parts by themselves, machines through kills, holds, partitions, drains and
+# returns over TCP and over Redis, strangers at its port, times beside other supervisors, the page. What isn't on this machine (redis-server
+# and python3-redis, runit, s6, supervisor, libfaketime, chromium) is told as skipped. Bounded in time: 15 minutes at most; a run takes about
+# eight. It ends only what it started.
+# usage: agent/test.sh [--supd PROGRAM] [parts | machines | hostile | times | page]..
+#   STORM=SECONDS of kills (30)   SCREENSHOT=FILE of the page   KEEP=1 leaves the folders of machines
+set -u
+top=$(cd "$(dirname "$0")/.." && pwd)
+program=${SUPD:-$top/crates/supd/out/supd}
+if [ "${1:-}" = --supd ]; then
+  program=$2
+  shift 2
+fi
+if ! [ -x "$program" ] && [ -d "$top/crates/supd" ] && [ "$program" = "$top/crates/supd/out/supd" ]; then
+  echo "builds $program, which proves it first" >&2
+  (cd "$top/crates/supd" && rt run </dev/null >/dev/null 2>&1)
+fi
+if ! [ -x "$program" ]; then
+  echo "no supd at $program" >&2
+  exit 125
+fi
+python=python3
+[ -x /usr/bin/python3 ] && python=/usr/bin/python3 # Debian's, which python3-redis belongs to
+export SUPD=$(realpath "$program")
+cd "$top/agent/tests"
+
+# Times are told of a program that gets the processor when it wants it, where that may be had.
+quick=
+nice -n -15 true 2>/dev/null && [ "$(nice -n -15 nice)" = -15 ] && quick="nice -n -15"
+
+# One file of tests, with its bound in seconds.
+tests() {
+  local name=$1 seconds=$2 first=${3:-}
+  echo "== $name"
+  timeout -k 20 "$seconds" $first "$python" "test_$name.py" -v || failed="$failed $name"
+}
+
+failed=
+for name in "${@:-parts machines hostile times page}"; do
+  for one in $name; do
+    case $one in
+      parts) tests parts 60 ;;
+      machines) tests machines 420 ;;
+      hostile) tests hostile 180 ;;
+      times) tests times 90 "$quick" ;;
+      page) tests page 150 ;;
+      *) echo "no tests $one" >&2 && exit 2 ;;
+    esac
+  done
+done
+[ -z "$failed" ] && echo "all good" || { echo "FAILED:$failed"; exit 1; }
