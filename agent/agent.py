@@ -1,7 +1,7 @@
 #!/usr/bin/env python3
 """Keeps children alive on several machines: an agent on each runs a node, `supd`, does what it orders, and carries its letters to the others.
 
-    agent.py run --name a --image a.image --listen 127.0.0.1:7001 --peer b=127.0.0.1:7002 --kinds kinds.json
+    agent.py run --name a --peer a=127.0.0.1:7001 --peer b=127.0.0.1:7002 --image a.image --kinds kinds.json
     agent.py ask 127.0.0.1:7001 start web kind=http arg=8080
     agent.py status 127.0.0.1:7001
     agent.py serve 127.0.0.1:7001 --port 7080
@@ -76,12 +76,12 @@ def run_words(run):
     run.add_argument("--name", required=True, type=name, help="of this machine; no other one has it")
     run.add_argument("--image", required=True, metavar="FILE", help="where the node keeps what it knows")
     run.add_argument("--kinds", required=True, metavar="FILE", help='which program a kind is: {"sleep": ["sleep", "{arg}"]}')
-    run.add_argument("--listen", required=True, metavar="HOST:PORT", help="where others, and who asks, reach this agent")
-    run.add_argument("--peer", action="append", default=[], type=peer, metavar="NAME=HOST:PORT", help="another machine; once for each")
+    run.add_argument("--peer", action="append", default=[], type=peer, metavar="NAME=HOST:PORT", help="a machine, once for each; this one among them is passed over")
+    run.add_argument("--listen", type=address, metavar="HOST:PORT", help="where others, and who asks, reach this agent (its own --peer)")
     run.add_argument("--via", metavar="URL", help="carry letters over a Redis server, as redis://HOST:PORT, in place of --peer")
     run.add_argument("--group", default="sebrakt", type=name, help="of machines at one Redis server (%(default)s)")
     run.add_argument("--secret", metavar="FILE", help="of all machines of the cluster, at least 16 bytes; without it, the loopback alone")
-    run.add_argument("--label", type=label, help="with which this machine joins (what --listen says)")
+    run.add_argument("--label", type=label, help="with which this machine joins (its address)")
     run.add_argument("--silent", type=positive, default=3, metavar="S", help="a member that was silent so long is taken out (%(default)s)")
     run.add_argument("--least", type=int, default=1, metavar="N", help="who sees fewer machines, itself counted, takes itself out (%(default)s)")
     run.add_argument("--grace", type=positive, default=3, metavar="S", help="at most so long nothing begins, until all others have told what they run (%(default)s)")
@@ -117,15 +117,18 @@ def run(options, secret):
     supd = program(options)
     if supd is None:
         end(2, "no supd: name it by --supd, or build it (cd crates/supd && rt run)")
-    try:
-        options.listen_text, options.listen = options.listen, links.address_of(options.listen)
-    except ValueError as fault:
-        end(2, fault)
+    options.peers = dict(options.peer)
+    own = options.peers.pop(options.name, None)
+    options.listen = options.listen or own
+    if options.listen is None:
+        end(2, "no address: give --listen, or a --peer of this machine's name")
     if secret is None and not is_loopback(options.listen[0]):
         end(2, "without --secret whoever reaches the port commands this machine: listen at 127.0.0.1, or give a secret")
-    options.label, options.peers = options.label or options.listen_text, dict(options.peer)
-    if options.name in options.peers or options.via and options.peers:
-        end(2, "a peer is another machine, and --via takes no --peer")
+    if options.silent < 3 * options.every:
+        end(2, "--silent is at least three times --every")
+    if options.via and options.peers:
+        end(2, "--via takes no --peer")
+    options.label = options.label or "{}:{}".format(*options.listen)
     settings = [word for key in ("intensity", "period", "buffer", "weigh") if getattr(options, key) for word in ("--" + key, getattr(options, key))]
     try:
         agent = host.Agent(options, secret, [supd, options.name, "--image", options.image, *settings])

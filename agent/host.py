@@ -42,7 +42,7 @@ class Agent:
         self.links = self.links_of(secret)
         self.node, self.coming, self.boot, self.begin_at, self.wait, self.gone_since = None, None, "", 0, BEGIN_AGAIN, None
         self.heard, self.unheard = {}, {}  # of each machine: when it was heard; since when it counts as silent
-        self.begun = self.judge_from = self.turned = seconds()
+        self.begun = self.judge_from = self.listened = seconds()
         self.held_from, self.others, self.rejoin_at = self.begun, None, 0
         self.claims = claims.Claims(self.name, seals.fresh())
         self.ship_at, self.tell_at, self.told, self.behind = 0, 0, ({}, set()), set()
@@ -80,7 +80,7 @@ class Agent:
         self.loop.register(wake, selectors.EVENT_READ, lambda _: os.read(wake, 4096))
 
     def log(self, *words):
-        print(time.strftime("%Y-%m-%dT%H:%M:%S.") + f"{time.time_ns() // 1000000 % 1000:03}", self.name, *words, file=sys.stderr, flush=True)
+        print(time.strftime("%Y-%m-%dT%H:%M:%S"), self.name, *words, file=sys.stderr, flush=True)
 
     # -- the node
 
@@ -227,7 +227,7 @@ class Agent:
 
     def run(self):
         """Goes on until it was told to leave and has left. NoNode where the node can't begin."""
-        self.held_from = self.turned = seconds()
+        self.held_from = self.listened = seconds()
         while self.leave_at is None or not self.has_left(seconds()):
             self.turn()
         if self.node is not None:
@@ -249,7 +249,6 @@ class Agent:
         self.ship(now)
         self.links.tick(now)
         self.server.tick(now)
-        self.turned = seconds()
 
     def next_moment(self):
         """When the loop has to turn again, at the latest."""
@@ -262,15 +261,19 @@ class Agent:
         return min(moments if late is None else moments + [late])
 
     def notice_a_hold(self, now):
-        """Where this machine itself was held, or slept, the others' silence says nothing, and they may have taken over what waits here."""
-        if now - self.turned > max(self.o.silent / 2, 2 * self.o.every):
-            self.log("held for", round(now - self.turned, 1), "s")
+        """Where this machine didn't listen for long, the others' silence says nothing, and they may have taken over what waits here."""
+        held, self.listened = now - self.listened, now
+        if self.is_long(held):
+            self.log("held for", round(held, 1), "s")
             self.judge_from = self.held_from = now
             self.ship_at = now + min(0.2, self.o.every)
 
+    def is_long(self, held):
+        return held > max(self.o.silent / 2, 2 * self.o.every)
+
     def is_held(self, now):
         """Whether nothing may begin yet: until every other machine has told what it runs, at most for the grace."""
-        if self.others is None:
+        if self.others is None or self.is_long(seconds() - self.listened):
             return True
         return now < self.held_from + self.o.grace and any(self.told_at(name) < self.held_from for name in self.others)
 

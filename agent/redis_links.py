@@ -28,7 +28,7 @@ class RedisLinks:
         self.token = seals.fresh()
         self.guard = seals.Guard(secret, me, self.token)
         self.greeter = seals.Seal(secret, me, self.token, ALL, ALL)
-        self.seals, self.old, self.hello_at, self.is_open = {}, {}, 0, True  # of each machine: what seals lines to it, its earlier tokens
+        self.seals, self.old, self.hello_at, self.is_open, self.state = {}, {}, 0, True, ""  # of each machine: what seals lines to it, its earlier tokens
         self.come, self.leave = queue.Queue(), queue.Queue(MOST_WAITING)
         self.wake, self.woken = os.pipe()
         os.set_blocking(self.wake, False)
@@ -47,6 +47,7 @@ class RedisLinks:
             try:
                 channels = self.client().pubsub(ignore_subscribe_messages=True)
                 channels.subscribe(f"{self.group}:to:{self.me}", f"{self.group}:{ALL}")
+                self.come.put((None, "subscribed"))
                 for message in channels.listen():
                     self.come.put((message["channel"].endswith(b":" + ALL.encode()), message["data"]))
                     self.rouse()
@@ -77,12 +78,17 @@ class RedisLinks:
         while not self.come.empty():
             to_all, line = self.come.get()
             if to_all is None:
-                self.log("redis:", line)
+                self.tell(line)
                 continue
             try:
                 self.hello(line) if to_all else self.line(line)
             except seals.Refused as refusal:
                 self.refuse("redis", refusal)
+
+    def tell(self, state):
+        if state != self.state:
+            self.log("redis:", state)
+        self.state = state
 
     def line(self, line):
         sender, session, text = self.guard.open(line)

@@ -81,13 +81,6 @@ class Storms(OfMachines):
         self.settle(machines)
         settled = time.monotonic() - last
         time.sleep(3)
-        if os.environ.get("KEEP"):
-            offset = time.time() - time.monotonic()
-            before = None
-            for moment, seen in machines.watcher.since(began):
-                if seen != before:
-                    print(time.strftime("%H:%M:%S", time.gmtime(moment + offset)), round((moment + offset) % 1, 3), {i: sorted(v) for i, v in seen.items() if len(v) != 1})
-                before = seen
         once = max(moment for moment, seen in machines.watcher.since(last) if any(not seen.get(ident) for ident in IDS)) - last
         self.assertTrue(machines.each_once(IDS))
         self.assertTrue(machines.tables_equal())
