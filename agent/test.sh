@@ -1,9 +1,9 @@
 #!/usr/bin/env bash
 # Tests the agent with the proved `supd` and real processes: parts by themselves, machines through kills, holds, partitions, drains and
-# returns over TCP and over Redis, strangers at its port, times beside other supervisors, the page. What isn't on this machine (redis-server
-# and python3-redis, runit, s6, supervisor, libfaketime, chromium) is told as skipped. Bounded in time: 15 minutes at most; a run takes about
-# eight. It ends only what it started.
-# usage: agent/test.sh [--supd PROGRAM] [parts | machines | hostile | times | page]..
+# returns over TCP and over Redis, strangers at its port, times beside other supervisors, the page, the commands of docs/AGENT.md. What isn't
+# on this machine (redis-server and python3-redis, runit, s6, supervisor, libfaketime, chromium) is told as skipped. Bounded in time: 17
+# minutes at most; a run takes about seven. It ends only what it started.
+# usage: agent/test.sh [--supd PROGRAM] [parts | machines | hostile | times | page | docs]..
 #   STORM=SECONDS of kills (30)   SCREENSHOT=FILE of the page   KEEP=1 leaves the folders of machines
 set -u
 top=$(cd "$(dirname "$0")/.." && pwd)
@@ -25,26 +25,27 @@ python=python3
 export SUPD=$(realpath "$program")
 cd "$top/agent/tests"
 
-# Times are told of a program that gets the processor when it wants it, where that may be had.
-quick=
-nice -n -15 true 2>/dev/null && [ "$(nice -n -15 nice)" = -15 ] && quick="nice -n -15"
+# The bounds are those of agents that get a processor when they want one, on a busy machine too where root runs this.
+first=
+[ "$(nice -n -15 nice 2>/dev/null)" = -15 ] && first="nice -n -15"
 
 # One file of tests, with its bound in seconds.
 tests() {
-  local name=$1 seconds=$2 first=${3:-}
+  local name=$1 seconds=$2
   echo "== $name"
   timeout -k 20 "$seconds" $first "$python" "test_$name.py" -v || failed="$failed $name"
 }
 
 failed=
-for name in "${@:-parts machines hostile times page}"; do
+for name in "${@:-parts machines hostile times page docs}"; do
   for one in $name; do
     case $one in
       parts) tests parts 60 ;;
       machines) tests machines 420 ;;
       hostile) tests hostile 180 ;;
-      times) tests times 90 "$quick" ;;
+      times) tests times 90 ;;
       page) tests page 150 ;;
+      docs) tests docs 90 ;;
       *) echo "no tests $one" >&2 && exit 2 ;;
     esac
   done
