@@ -21,7 +21,7 @@ from clock import seconds
 LOOKS = {"show", "inspect", "where", "members", "image"}
 OF_PEOPLE = LOOKS | {"join", "leave", "drain", "start", "replace", "delete", "register", "unregister"}
 BEGIN_AGAIN = 0.2   # seconds, doubled up to 5, between two begins of a node that doesn't begin
-FIRST_BEGIN = 10    # seconds at most in which it has to begin at the first
+FIRST_BEGIN = 5     # seconds at most in which it has to begin at the first
 LAST_WORDS = 2      # seconds at most in which the others hear that this machine has left
 TOLD_EACH = 5       # seconds at least between two lines of the log about refused lines
 
@@ -47,7 +47,6 @@ class Agent:
         self.claims = claims.Claims(self.name, seals.fresh())
         self.ship_at, self.tell_at, self.told, self.behind = 0, 0, ({}, set()), set()
         self.leave_at, self.left_at, self.draining = None, None, False
-        self.end_leftovers()
         self.wake_by_signals()
 
     def links_of(self, secret):
@@ -57,7 +56,7 @@ class Agent:
         return redis_links.RedisLinks(self.loop, self.o.via, self.o.group, self.name, secret, self.take, self.refuse, self.log)
 
     def end_leftovers(self):
-        """Ends what an agent that was killed has left running."""
+        """Ends what an agent that was killed has left running. Only who has a node does: the image's lock says that no other agent lives."""
         left = 0
         for _ in range(100):
             found = children.end_marked(self.mark)
@@ -97,6 +96,8 @@ class Agent:
             return
         self.loop.unregister(self.coming.output)
         self.node, self.coming, self.wait, self.gone_since, self.ship_at = self.coming, None, BEGIN_AGAIN, None, 0
+        if self.boot == "":
+            self.end_leftovers()
         self.boot = self.node.first.reply.removeprefix("ok boot ")
         self.log("node", self.node.process.pid, "boot", self.boot)
         self.children.adopt(self.node.first.orders)

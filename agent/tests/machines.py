@@ -23,7 +23,8 @@ import client
 import seals
 
 SUPD = os.environ["SUPD"]  # the node's program; agent/test.sh names it
-KINDS = {"sleep": ["sleep", "{arg}"], "none": ["/nonexistent"], "stubborn": ["sh", "-c", "trap '' TERM; while :; do sleep 0.1; done"]}
+KINDS = {"sleep": ["sleep", "{arg}"], "none": ["/nonexistent"], "nested": ["sh", "-c", "sleep 100000 & wait"],
+         "stubborn": ["sh", "-c", "trap '' TERM; while :; do sleep 0.1; done"]}
 SECRET = b"a secret of this test alone"
 SCAN = 0.02  # seconds between two looks of the watcher
 

@@ -4,11 +4,12 @@ import os
 import shutil
 import signal
 import socket
+import subprocess
 import threading
 import time
 import unittest
 
-from machines import SUPD, Machines, Redis, until
+from machines import SUPD, Machines, Redis, free_ports, until
 
 STORM = float(os.environ.get("STORM", "30"))
 MANY = ["--intensity", "1000", "--period", "1"]  # a test kills more often than a window of restarts lets pass
@@ -191,6 +192,43 @@ class Moves(OfMachines):
         until(30, lambda: machines.each_once(IDS) and machines.where(IDS) == homes, "all are home")
         tell("a node stays away", silence=silence, two_at_once=machines.both(began, IDS))
         self.assertLess(machines.both(began, IDS), 0.001)
+
+
+    def test_a_second_agent_on_one_image_ends_and_no_child_notices(self):
+        machines = self.machines(names=["a"])
+        machines.begin_all()
+        machines.start("a", IDS)
+        until(10, lambda: machines.each_once(IDS), "all run")
+        before, words = machines.watcher.now()[1], machines.words("a")
+        words[words.index("--listen") + 1] = "127.0.0.1:" + str(free_ports(1)[0])
+        self.assertEqual(subprocess.run(words, stderr=subprocess.DEVNULL, timeout=30).returncode, 3)
+        self.assertEqual(subprocess.run(machines.words("a"), stderr=subprocess.DEVNULL, timeout=30).returncode, 2)
+        time.sleep(0.1)
+        self.assertEqual(machines.watcher.now()[1], before)
+
+    def test_what_children_have_begun_ends_with_their_run_and_behind_a_killed_agent(self):
+        machines = self.machines(names=["a"])
+        machines.begin_all()
+        machines.start("a", ["w1"], kind="nested")
+        until(10, lambda: len(machines.watcher.now()[1].get("w1", ())) == 2, "a child and its own child run")
+        before = machines.watcher.now()[1]["w1"]
+        os.kill(min(process for process, _ in before), signal.SIGKILL)
+        until(10, lambda: len(machines.watcher.now()[1].get("w1", ())) == 2 and not machines.watcher.now()[1]["w1"] & before, "both are others")
+        before = machines.watcher.now()[1]["w1"]
+        machines.kill("a")
+        machines.begin("a")
+        until(20, lambda: len(machines.watcher.now()[1].get("w1", ())) == 2 and not machines.watcher.now()[1]["w1"] & before, "both are others again")
+        machines.ask("a", "delete w1")
+        until(10, lambda: not machines.watcher.now()[1].get("w1"), "both have ended")
+
+    def test_a_child_whose_program_is_not_there_fails_and_the_machine_gives_up_and_joins_again(self):
+        machines = self.machines(names=["a"], options=["--intensity", "3", "--period", "5", "--rejoin", "1"])
+        machines.begin_all()
+        machines.start("a", ["w1"], kind="none")
+        until(10, lambda: machines.members("a") == [], "it gave up")
+        self.assertEqual(machines.log("a").count("failed @"), 4)
+        machines.ask("a", "delete w1")
+        until(10, lambda: machines.members("a") == ["a"], "it is back")
 
 
 class Holds(OfMachines):
