@@ -14,8 +14,10 @@ import time
 import children
 import claims
 import links
+import members
 import node
 import seals
+import view
 from clock import seconds
 
 LOOKS = {"show", "inspect", "where", "members", "image"}
@@ -41,9 +43,8 @@ class Agent:
         self.server = links.Server(self.loop, options.listen, self.name, secret, self.take, self.refuse)
         self.links = self.links_of(secret)
         self.node, self.coming, self.boot, self.begin_at, self.wait, self.gone_since = None, None, "", 0, BEGIN_AGAIN, None
-        self.heard, self.unheard = {}, {}  # of each machine: when it was heard; since when it counts as silent
-        self.begun = self.judge_from = self.listened = seconds()
-        self.held_from, self.others, self.rejoin_at = self.begun, None, 0
+        self.begun = self.held_from = self.listened = seconds()
+        self.members, self.rejoin_at = members.Members(self.name, options, self.links.knows, self.begun), 0
         self.claims = claims.Claims(self.name, seals.fresh())
         self.ship_at, self.tell_at, self.told, self.behind = 0, 0, ({}, set()), set()
         self.leave_at, self.left_at, self.draining = None, None, False
@@ -161,7 +162,7 @@ class Agent:
         if sender == seals.CLIENT and word == "ask" and answer is not None:
             self.inbox.append((word, rest, answer))
         elif sender not in (seals.CLIENT, self.name) and self.links.knows(sender) and word in ("letter", "runs", "hello"):
-            self.heard[sender] = seconds()
+            self.members.hear(sender, seconds())
             self.inbox.append((word, rest, sender))
         else:
             raise seals.Refused("no line of a machine of this cluster")
@@ -186,43 +187,12 @@ class Agent:
     def answer(self, line):
         """The lines that somebody who asks is told."""
         if line == "status":
-            return [json.dumps(self.status())]
+            shown = self.ask("show")
+            return [json.dumps(view.status(self, [] if shown is None else shown.lines, seconds()))]
         if line.split(" ")[0] not in OF_PEOPLE:
             return ["not asked: " + ", ".join(sorted(OF_PEOPLE))]
         answer = self.ask(line)
         return ["no node"] if answer is None else answer.lines
-
-    # -- who is a member
-
-    def in_sight(self, now):
-        """The machines that were heard lately."""
-        return {name for name, heard in self.heard.items() if now - heard < self.o.silent}
-
-    def keep_membership(self, now):
-        """Joins where this machine is no member and sees enough others, leaves where it sees too few, and takes out who is silent."""
-        answer = self.ask("members")
-        if answer is None or self.leave_at is not None:
-            return
-        members = {line.split(" ")[1] for line in answer.lines if line.startswith("member ")}
-        self.others = {name for name in members | set(self.links.names()) if name != self.name and self.links.knows(name)}
-        held = self.is_held(now)
-        enough = 1 + len(self.in_sight(now)) >= self.o.least
-        if not enough and self.name in members and not held:
-            self.ask("leave " + self.name)
-        elif enough and self.name not in members and now >= self.rejoin_at and not held:
-            self.ask("join label=" + self.o.label)
-        if enough:
-            self.take_out_silent(self.others & members, now)
-
-    def take_out_silent(self, others, now):
-        """Where `--least` has a lonely machine leave by itself, it is given the time for that."""
-        patience = self.o.silent + (3 * self.o.every if self.o.least > 1 else 0)
-        unheard = others - self.in_sight(now)
-        self.unheard = {name: self.unheard.get(name, now) for name in unheard}
-        for name in sorted(unheard):
-            if now - max(self.heard.get(name, self.unheard[name]), self.judge_from) >= patience:
-                self.log(name, "is silent")
-                self.ask("leave " + name)
 
     # -- turns of the loop
 
@@ -254,7 +224,7 @@ class Agent:
     def next_moment(self):
         """When the loop has to turn again, at the latest."""
         moments = [self.ship_at, self.tell_at]
-        if self.children.waiting and self.is_held(seconds()):
+        if self.children.waiting and seconds() < self.held_from + self.o.grace:
             moments.append(self.held_from + self.o.grace)
         if self.node is None and self.coming is None:
             moments.append(self.begin_at)
@@ -266,7 +236,7 @@ class Agent:
         held, self.listened = now - self.listened, now
         if self.is_long(held):
             self.log("held for", round(held, 1), "s")
-            self.judge_from = self.held_from = now
+            self.members.judge_from = self.held_from = now
             self.ship_at = now + min(0.2, self.o.every)
 
     def is_long(self, held):
@@ -274,9 +244,9 @@ class Agent:
 
     def is_held(self, now):
         """Whether nothing may begin yet: until every other machine has told what it runs, at most for the grace."""
-        if self.others is None or self.is_long(seconds() - self.listened):
+        if self.members.others is None or self.is_long(seconds() - self.listened):
             return True
-        return now < self.held_from + self.o.grace and any(self.told_at(name) < self.held_from for name in self.others)
+        return now < self.held_from + self.o.grace and any(self.told_at(name) < self.held_from for name in self.members.others)
 
     def told_at(self, name):
         return self.claims.told[name].moment if name in self.claims.told else 0
@@ -285,7 +255,7 @@ class Agent:
         """Begins what waits and has no process here any more, and that other machines in sight let begin, or take for running here still."""
         idle = [ident for ident in self.children.waiting if ident not in self.children.busy()] if not self.is_held(now) else []
         self.claims.claim(ident for ident in idle if ident not in self.told[0])
-        seen = self.in_sight(now)
+        seen = self.members.in_sight(now)
         free = [ident for ident in idle if ident in self.told[0] or self.claims.may_begin(ident, seen)]
         self.tell_ends(self.children.begin(free))
         self.claims.claim(ident for ident in self.claims.claimed if ident in self.children.waiting)
@@ -305,12 +275,20 @@ class Agent:
             for name in self.links.names():
                 self.links.send(name, "runs " + self.claims.line(name, told[0]))
 
+    def keep_members(self, now):
+        answer = self.ask("members")
+        if answer is not None and self.leave_at is None:
+            names = {line.split(" ")[1] for line in answer.lines if line.startswith("member ")}
+            self.members.know(names, set(self.links.names()))
+            for line in self.members.lines(names, now, now >= self.rejoin_at and not self.is_held(now)):
+                self.ask(line)
+
     def ship(self, now):
         """Sends each machine what it hasn't acknowledged."""
         if now < self.ship_at:
             return
         self.ship_at = now + self.o.every
-        self.keep_membership(now)
+        self.keep_members(now)
         answers = {name: self.ask("ship " + name) for name in self.links.names() if self.links.is_ready(name)}
         self.behind = {name for name, answer in answers.items() if answer is not None and answer.reply.startswith("ok")}
 
@@ -322,7 +300,7 @@ class Agent:
 
     def has_left(self, now):
         if self.left_at is not None:
-            return now - self.left_at > LAST_WORDS or not self.behind & self.in_sight(now)
+            return now - self.left_at > LAST_WORDS or not self.behind & self.members.in_sight(now)
         self.drain(now)
         if self.children.busy():
             return False
@@ -340,35 +318,3 @@ class Agent:
         if now - self.leave_at > self.o.leave_time:
             for run in self.children.ending:
                 run.signal(signal.SIGKILL)
-
-    # -- what people see
-
-    def status(self):
-        """This machine's view: of each machine and child what is known of it here."""
-        now, shown = seconds(), self.ask("show")
-        lines = [] if shown is None else shown.lines
-        members = dict(member_of(line) for line in lines if line.startswith("member "))
-        runs = {self.name: self.children.told(), **{name: self.claims.told[name].runs for name in self.in_sight(now) if name in self.claims.told}}
-        names = sorted({self.name, *self.links.names(), *members, *self.heard})
-        return {
-            "name": self.name, "boot": self.boot, "node": "gone" if self.node is None else "runs", "refused": dict(self.refused),
-            "machines": [{"name": name, "member": members.get(name, ["out", ""])[0], "label": members.get(name, ["", ""])[1],
-                          "heard": 0 if name == self.name else round(now - self.heard[name], 1) if name in self.heard else None} for name in names],
-            "children": [{**child, "runs": [[name, *here[child["id"]]] for name, here in sorted(runs.items()) if child["id"] in here]}
-                         for child in map(child_of, lines) if child is not None],
-            "names": [line.split(" ", 1)[1] for line in lines if line.startswith("name ")],
-        }
-
-
-def member_of(line):
-    words = line.split(" ")
-    return words[1], ["draining" if words[3] == "draining" else "open", words[-1].removeprefix("label=")]
-
-
-def child_of(line):
-    """A child from its line of `show`, None from any other line."""
-    words = line.split(" ")
-    if words[0] != "child":
-        return None
-    return {"id": words[1], "kind": words[3], "restart": words[4], "shutdown": words[5], "arg": words[6].removeprefix("arg="),
-            "place": words[8] if words[7] == "on" else None}

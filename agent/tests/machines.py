@@ -20,7 +20,6 @@ sys.path.insert(0, os.path.dirname(TESTS))
 
 import children
 import client
-import seals
 
 SUPD = os.environ["SUPD"]  # the node's program; agent/test.sh names it
 KINDS = {"sleep": ["sleep", "{arg}"], "none": ["/nonexistent"], "nested": ["sh", "-c", "sleep 100000 & wait"],

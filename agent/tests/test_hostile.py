@@ -5,12 +5,11 @@ import shutil
 import signal
 import socket
 import subprocess
-import sys
 import threading
 import time
 import unittest
 
-from machines import AGENT, Machines, Redis, SECRET, until
+from machines import SECRET, Machines, Redis, until
 
 import client
 import seals
