@@ -11,6 +11,9 @@ ORDER = re.compile(r"  (?:start (?P<start>\S+) (?P<run>\S+) (?P<kind>\S+) (?P<re
                    r"|stop (?P<stop>\S+) (?P<of>\S+)|send (?P<to>\S+) (?P<text>.*))")
 
 
+FIRST_ANSWER = 60  # seconds in which a node begins: it reads its whole image
+
+
 class NodeGone(Exception):
     """The node has ended, doesn't answer in time, or its answer was cut. Its status stands in the argument, None where there is none."""
 
@@ -37,7 +40,7 @@ class Node:
     """A node. Its first answer comes unasked, and then stands in `first`; before that it is not asked."""
 
     def __init__(self, words, patience):
-        """Begins the program that these words name, which has `patience` seconds for each answer. NodeGone where there is no such program."""
+        """Begins the program that these words name, which has `patience` seconds for each answer but the first. NodeGone where there is no such program."""
         self.patience, self.heard, self.first, self.begun_at = patience, bytearray(), None, seconds()
         try:
             self.process = subprocess.Popen(words, stdin=subprocess.PIPE, stdout=subprocess.PIPE, preexec_fn=die_with_parent(os.getpid()))
@@ -49,10 +52,12 @@ class Node:
 
     def has_begun(self):
         """Whether the first answer is there, without waiting. NodeGone where it can't come any more."""
-        while self.first is None and select.select([self.output], [], [], 0)[0]:
+        poll = select.poll()
+        poll.register(self.output, select.POLLIN)
+        while self.first is None and poll.poll(0):
             self.hear()
             self.first = self.take(0)
-        if self.first is None and seconds() - self.begun_at > self.patience:
+        if self.first is None and seconds() - self.begun_at > max(self.patience, FIRST_ANSWER):
             self.end()
         return self.first is not None
 

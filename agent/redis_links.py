@@ -16,6 +16,7 @@ import time
 import seals
 
 MOST_WAITING = 200  # lines that wait to leave
+MOST_COME = 10_000  # lines that have come and wait to be opened; what comes beside them is lost
 ALL = "all"
 
 
@@ -29,7 +30,7 @@ class RedisLinks:
         self.guard = seals.Guard(secret, me, self.token)
         self.greeter = seals.Seal(secret, me, self.token, ALL, ALL)
         self.seals, self.old, self.hello_at, self.is_open, self.state = {}, {}, 0, True, ""  # of each machine: what seals lines to it, its earlier tokens
-        self.come, self.leave = queue.Queue(), queue.Queue(MOST_WAITING)
+        self.come, self.leave = queue.Queue(MOST_COME), queue.Queue(MOST_WAITING)
         self.wake, self.woken = os.pipe()
         os.set_blocking(self.wake, False)
         os.set_blocking(self.woken, False)
@@ -47,19 +48,19 @@ class RedisLinks:
             try:
                 channels = self.client().pubsub(ignore_subscribe_messages=True)
                 channels.subscribe(f"{self.group}:to:{self.me}", f"{self.group}:{ALL}")
-                self.come.put((None, "subscribed"))
+                self.bring(None, "subscribed")
                 for message in channels.listen():
-                    self.come.put((message["channel"].endswith(b":" + ALL.encode()), message["data"]))
-                    self.rouse()
+                    self.bring(message["channel"].endswith(b":" + ALL.encode()), message["data"])
             except (self.redis.RedisError, OSError) as fault:
-                self.come.put((None, str(fault)))
-                self.rouse()
+                self.bring(None, str(fault))
                 time.sleep(0.5)
 
-    def rouse(self):
+    def bring(self, to_all, line):
+        """Hands a line to the loop, and wakes it."""
         try:
+            self.come.put_nowait((to_all, line))
             os.write(self.woken, b".")
-        except OSError:
+        except (queue.Full, OSError):
             pass
 
     def publish(self):

@@ -149,6 +149,7 @@ class Machines:
             os.chmod(file.fileno(), 0o600)
             file.write(SECRET)
         self.watcher = Watcher(self.folder)
+        atexit.register(self.end)
 
     def path(self, name):
         return os.path.join(self.folder, name)
@@ -253,7 +254,8 @@ class Machines:
             os.kill(node, signal.SIGKILL)
 
     def end(self):
-        """Ends all, and gives the folder back; it stays where $KEEP is set."""
+        """Ends all, and gives the folder back; it stays where $KEEP is set. Once is enough."""
+        atexit.unregister(self.end)
         for agent in self.agents.values():
             if agent.poll() is None:
                 agent.send_signal(signal.SIGCONT)
