@@ -33,7 +33,7 @@ first=
 tests() {
   local name=$1 seconds=$2
   echo "== $name"
-  timeout -k 20 "$seconds" $first "$python" "test_$name.py" -v || failed="$failed $name"
+  timeout -k 20 "$seconds" $first "$python" -W ignore::ResourceWarning "test_$name.py" -v || failed="$failed $name"
 }
 
 failed=

@@ -330,6 +330,19 @@ class Partitions(OfMachines):
         self.settle(machines)
         tell("a partition with --least 2", the_greater_side_alone_after=moved, two_at_once=machines.both(began, IDS))
 
+    def test_a_machine_that_hears_and_is_not_heard_runs_nothing(self):
+        machines = self.parted()
+        homes, began = machines.where(IDS), time.monotonic()
+        self.proxies["c", "a"].cut = self.proxies["c", "b"].cut = True
+        until(20, lambda: machines.each_once(IDS) and "c" not in machines.where(IDS).values(), "the others run all")
+        time.sleep(4)  # it joins again meanwhile, and would begin its children
+        self.assertTrue(machines.each_once(IDS))
+        self.assertNotIn("c", machines.where(IDS).values())
+        self.proxies["c", "a"].cut = self.proxies["c", "b"].cut = False
+        until(20, lambda: machines.each_once(IDS) and machines.where(IDS) == homes, "all are home")
+        self.settle(machines)
+        tell("a network that is open one way", two_at_once=machines.both(began, IDS))
+
     def test_a_network_that_drops_a_third_of_all_lines_brings_all(self):
         machines = self.parted()
         for proxy in self.proxies.values():
