@@ -9,6 +9,7 @@ dies with its agent: the kernel sees to that, asked by util-linux's `setpriv`, w
 import ctypes
 import json
 import os
+import re
 import shutil
 import signal
 import subprocess
@@ -79,7 +80,8 @@ class Kinds:
             pass
         if spec["kind"] not in self.words:
             raise OSError(0, f"no kind {spec['kind']} in {self.path}")
-        return [word.replace("{arg}", spec["arg"]).replace("{id}", ident) for word in self.words[spec["kind"]]]
+        stands_for = {"{arg}": spec["arg"], "{id}": ident}
+        return [re.sub(r"\{arg\}|\{id\}", lambda found: stands_for[found[0]], word) for word in self.words[spec["kind"]]]
 
 
 def reason_of(status):

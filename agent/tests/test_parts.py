@@ -106,6 +106,7 @@ class Kinds(unittest.TestCase):
             kinds = children.Kinds(file.name)
             spec = {"kind": "sleep", "arg": "5"}
             self.assertEqual(kinds.of("web", spec), ["sleep", "5", "web-5"])
+            self.assertEqual(kinds.of("{arg}", {"kind": "sleep", "arg": "{id}\\1"}), ["sleep", "{id}\\1", "{arg}-{id}\\1"])
             put("{", 2)
             self.assertEqual(kinds.of("web", spec)[0], "sleep")
             put('{"sleep": "sleep"}', 3)
