@@ -4,6 +4,7 @@
 # on this machine (redis-server and python3-redis, runit, s6, supervisor, libfaketime, chromium) is told as skipped. Bounded in time: 17
 # minutes at most; a run takes about seven. It ends only what it started.
 # usage: agent/test.sh [--supd PROGRAM] [parts | machines | hostile | times | page | docs]..
+#   PACE=N makes all waits and bounds N times as long, for a machine with little time for this
 #   STORM=SECONDS of kills (30)   SCREENSHOT=FILE of the page   KEEP=1 leaves the folders of machines
 set -u
 top=$(cd "$(dirname "$0")/.." && pwd)
@@ -33,7 +34,7 @@ first=
 tests() {
   local name=$1 seconds=$2
   echo "== $name"
-  timeout -k 20 "$seconds" $first "$python" -W ignore::ResourceWarning "test_$name.py" -v || failed="$failed $name"
+  timeout -k 20 "$((seconds * ${PACE:-1}))" $first "$python" -W ignore::ResourceWarning "test_$name.py" -v || failed="$failed $name"
 }
 
 failed=

@@ -24,6 +24,7 @@ import client
 SUPD = os.environ["SUPD"]  # the node's program; agent/test.sh names it
 KINDS = {"sleep": ["sleep", "{arg}"], "none": ["/nonexistent"], "nested": ["sh", "-c", "sleep 100000 & wait"],
          "stubborn": ["sh", "-c", "trap '' TERM; while :; do sleep 0.1; done"]}
+PACE = float(os.environ.get("PACE", "1"))  # how many times as long all waits and bounds are
 SECRET = b"a secret of this test alone"
 SCAN = 0.02  # seconds between two looks of the watcher
 
@@ -60,10 +61,10 @@ def free_ports(count):
 
 
 def until(seconds, holds, what):
-    """Waits until something holds; how long that took. AssertionError after so many seconds."""
+    """Waits until something holds; how long that took. AssertionError after so many seconds, at pace 1."""
     began = time.monotonic()
     while not holds():
-        if time.monotonic() - began > seconds:
+        if time.monotonic() - began > seconds * PACE:
             raise AssertionError(f"not within {seconds} s: {what}")
         time.sleep(0.02)
     return time.monotonic() - began
@@ -156,7 +157,8 @@ class Machines:
 
     def words(self, name):
         words = [sys.executable, AGENT, "run", "--name", name, "--image", self.path(name + ".image"), "--kinds", self.path("kinds.json"),
-                 "--listen", f"127.0.0.1:{self.ports[name]}", "--supd", self.supd.get(name, SUPD), "--silent", "1.5", "--every", "0.25", "--grace", "1.5"]
+                 "--listen", f"127.0.0.1:{self.ports[name]}", "--supd", self.supd.get(name, SUPD), 
+                  "--silent", str(1.5 * PACE), "--every", str(0.25 * PACE), "--grace", str(1.5 * PACE)]
         words += ["--secret", self.path("secret")] if self.secret else []
         if self.redis:
             words += ["--via", self.redis]

@@ -9,7 +9,7 @@ import threading
 import time
 import unittest
 
-from machines import SUPD, Machines, Redis, free_ports, until
+from machines import PACE, SUPD, Machines, Redis, free_ports, until
 
 STORM = float(os.environ.get("STORM", "30"))
 MANY = ["--intensity", "1000", "--period", "1"]  # a test kills more often than a window of restarts lets pass
@@ -82,12 +82,12 @@ class Storms(OfMachines):
         self.settle(machines)
         settled = time.monotonic() - last
         time.sleep(3)
-        once = max(moment for moment, seen in machines.watcher.since(last) if any(not seen.get(ident) for ident in IDS)) - last
+        once = next(moment for moment, seen in machines.watcher.since(last + 0.1) if all(len(seen.get(ident, ())) == 1 for ident in IDS)) - last
         self.assertTrue(machines.each_once(IDS))
         self.assertTrue(machines.tables_equal())
-        tell(self.id().split(".")[-1], **counts, once_after=once, settled_after=settled, longest_silence_of_a_child=machines.gap(began, IDS),
-             longest_two_at_once=machines.both(began, IDS), two_at_once_behind_the_last_kill=machines.both(last, IDS))
-        self.assertLess(once, 3)
+        tell(self.id().split(".")[-1], **counts, once_after=once, silence_of_a_child_that_comes_home_then=machines.gap(last + once, IDS), settled_after=settled,
+             longest_silence_of_a_child=machines.gap(began, IDS), longest_two_at_once=machines.both(began, IDS))
+        self.assertLess(once, 3 * PACE)
         self.assertLess(machines.both(last, IDS), 0.001)
 
     def test_each_child_runs_once_after_kills_over_tcp(self):
@@ -142,7 +142,7 @@ class Moves(OfMachines):
         self.assertEqual(machines.members("a"), ["a", "b"])
         tell("a stop", longest_silence=machines.gap(began, IDS), two_at_once=machines.both(began, IDS))
         self.assertLess(machines.both(began, IDS), 0.001)
-        self.assertLess(machines.gap(began, IDS), 3)
+        self.assertLess(machines.gap(began, IDS), 3 * PACE)
 
     def test_a_child_that_is_slow_to_end_moves_once_it_has_ended(self):
         machines = self.machines()
@@ -236,15 +236,15 @@ class Holds(OfMachines):
         machines = self.begun()
         began = time.monotonic()
         os.kill(machines.agents["b"].pid, signal.SIGSTOP)
-        time.sleep(6)
+        time.sleep(6 * PACE)
         resumed = time.monotonic()
         os.kill(machines.agents["b"].pid, signal.SIGCONT)
         time.sleep(0.5)
         self.settle(machines)
         time.sleep(1)
-        tell("an agent held for 6 s", two_at_once=machines.both(began, IDS), longest_silence=machines.gap(began, IDS),
-             two_at_once_from_a_second_after=machines.both(resumed + 1, IDS))
-        self.assertLess(machines.both(resumed + 1, IDS), 0.001)
+        tell(f"an agent held for {6 * PACE:g} s", two_at_once=machines.both(began, IDS), longest_silence=machines.gap(began, IDS),
+             two_at_once_from_a_second_after=machines.both(resumed + PACE, IDS))
+        self.assertLess(machines.both(resumed + PACE, IDS), 0.001)
         self.assertNotIn("is silent", machines.log("b"))
 
 
