@@ -194,9 +194,11 @@ class HostileRedis(unittest.TestCase):
         for channel, line in lines:  # all that was said, once more
             stranger.publish(channel, line)
         forged = seals.Seal(b"another secret of 16 bytes", "b", seals.fresh(), "a", seals.fresh())
-        for line in (b"\xff\xfe", b"", b"x" * (1 << 20), b"x" * (100 << 20), forged.line("letter x"), seals.Seal(None, "b", seals.fresh(), "a", "x").line("hello")):
+        for line in (b"\xff\xfe", b"", b"x" * (1 << 20), forged.line("letter x"), seals.Seal(None, "b", seals.fresh(), "a", "x").line("hello")):
             stranger.publish("sebrakt:to:a", line)
             stranger.publish("sebrakt:all", line)
+        time.sleep(1)
+        stranger.publish("sebrakt:to:a", b"x" * (100 << 20))  # for this the server ends the connections of who listens
         time.sleep(2)
         machines.kill("b")  # its lines, said once more, don't have it alive
         for _ in range(10):
