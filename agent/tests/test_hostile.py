@@ -190,7 +190,7 @@ class HostileRedis(unittest.TestCase):
         until(10, lambda: not machines.watcher.now()[1].get("w2"), "one is deleted")
         tables, runs = machines.tables("a"), machines.watcher.now()[1]
         lines = list(heard)
-        self.assertGreater(len(lines), 20)
+        self.assertGreater(len(lines), 10)
         for channel, line in lines:  # all that was said, once more
             stranger.publish(channel, line)
         forged = seals.Seal(b"another secret of 16 bytes", "b", seals.fresh(), "a", seals.fresh())
