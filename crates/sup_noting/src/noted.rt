@@ -27,7 +27,9 @@ pub fn note_answer(
     done: &Done,
     number: Option<u64>,
 ) -> Result<(), AllocError>
-    ensures { OnOk result (noted_of log.new ≡ answered (noted_of log.old) line.now step.now at.now done.now number) }
+    ensures rows { OnOk result ((noted_of log.new).rows ≡ (answered (noted_of log.old) line.now step.now at.now done.now number).rows) }
+    ensures posts { OnOk result ((noted_of log.new).posts ≡ (answered (noted_of log.old) line.now step.now at.now done.now number).posts) }
+    ensures changes { OnOk result ((noted_of log.new).changes ≡ (answered (noted_of log.old) line.now step.now at.now done.now number).changes) }
 {
     let row = log.rows.len() as u64;
     let said = answer_text(alloc, at, done, number)?;
@@ -50,7 +52,9 @@ pub fn note_refusal(
     step: &Step,
     refusal: Refusal,
 ) -> Result<(), AllocError>
-    ensures { OnOk result (noted_of log.new ≡ refused (noted_of log.old) line.now step.now refusal) }
+    ensures rows { OnOk result ((noted_of log.new).rows ≡ (refused (noted_of log.old) line.now step.now refusal).rows) }
+    ensures posts { OnOk result ((noted_of log.new).posts ≡ (refused (noted_of log.old) line.now step.now refusal).posts) }
+    ensures changes { OnOk result ((noted_of log.new).changes ≡ (refused (noted_of log.old) line.now step.now refusal).changes) }
 {
     let row = log.rows.len() as u64;
     let said = refusal_text(alloc, refusal)?;
@@ -77,7 +81,9 @@ pub fn note_settling(
     messages: u64,
     effects: &[(NodeName, Effect)],
 ) -> Result<(), AllocError>
-    ensures { OnOk result (noted_of log.new ≡ settled (noted_of log.old) line.now messages effects.now) }
+    ensures rows { OnOk result ((noted_of log.new).rows ≡ (settled (noted_of log.old) line.now messages effects.now).rows) }
+    ensures posts { OnOk result ((noted_of log.new).posts ≡ (settled (noted_of log.old) line.now messages effects.now).posts) }
+    ensures changes { OnOk result ((noted_of log.new).changes ≡ (settled (noted_of log.old) line.now messages effects.now).changes) }
 {
     let row = log.rows.len() as u64;
     let said = settled_text(alloc, messages, effects)?;
@@ -102,7 +108,9 @@ pub fn note_unsettled(
     line: &[u8],
     refusal: Refusal,
 ) -> Result<(), AllocError>
-    ensures { OnOk result (noted_of log.new ≡ unsettled (noted_of log.old) line.now refusal) }
+    ensures rows { OnOk result ((noted_of log.new).rows ≡ (unsettled (noted_of log.old) line.now refusal).rows) }
+    ensures posts { OnOk result ((noted_of log.new).posts ≡ (unsettled (noted_of log.old) line.now refusal).posts) }
+    ensures changes { OnOk result ((noted_of log.new).changes ≡ (unsettled (noted_of log.old) line.now refusal).changes) }
 {
     let said = refusal_text(alloc, refusal)?;
     add_row(
@@ -120,7 +128,9 @@ pub fn note_unsettled(
 ///
 /// `AllocError` where memory was refused. The log is as it was then.
 pub fn note_look(alloc: Global, log: &mut Log, line: &[u8]) -> Result<(), AllocError>
-    ensures { OnOk result (noted_of log.new ≡ looked (noted_of log.old) line.now) }
+    ensures rows { OnOk result ((noted_of log.new).rows ≡ (looked (noted_of log.old) line.now).rows) }
+    ensures posts { OnOk result ((noted_of log.new).posts ≡ (looked (noted_of log.old) line.now).posts) }
+    ensures changes { OnOk result ((noted_of log.new).changes ≡ (looked (noted_of log.old) line.now).changes) }
 {
     add_row(alloc, &mut log.rows, line, b"", Mark::Nowhere)
 }
