@@ -1,7 +1,7 @@
 //! The bars of children: one for each run, from where it began to where it ended.
 
-ghost use Rattle.std.specs.Prelude.{◌≡◌, ◌∷◌, ◌++◌, find, IfOk, IfSome, OnOk};
-ghost use Rattle.sup_picture.specs.Turns.{bar_of, bars_of, ends, end_row, is_of};
+ghost use Rattle.std.specs.Prelude.{◌≡◌, ◌∷◌, ◌++◌, IfOk, OnOk};
+ghost use Rattle.sup_picture.specs.Turns.{bar_of, bars_of, end_row, ends, is_of};
 
 use crate::log::{Change, ChildRun, Turn};
 use std::alloc::{AllocError, Global};

@@ -1,6 +1,6 @@
 //! The gaps of nodes: one for each time that a node was down.
 
-ghost use Rattle.std.specs.Prelude.{◌≡◌, ◌∷◌, ◌++◌, find, IfOk, OnOk};
+ghost use Rattle.std.specs.Prelude.{◌≡◌, ◌∷◌, ◌++◌, IfOk, OnOk};
 ghost use Rattle.sup_picture.specs.Turns.{comes_up, gap_of, gaps_of, up_row};
 
 use crate::log::{Change, Turn};
