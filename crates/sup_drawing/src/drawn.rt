@@ -2,7 +2,8 @@
 
 ghost use Rattle.std.specs.Prelude.{◌≡◌, All, IfOk, string_bytes};
 ghost use Rattle.sup_drawing.specs.Lines.{IsDry, captions_of};
-ghost use Rattle.sup_drawing.specs.Drawn.{Draws};
+ghost use Rattle.sup_noting.specs.Noted.{noted_of};
+ghost use Rattle.sup_drawing.specs.Drawn.{Draws, nothing_noted};
 
 use crate::play::play_lines;
 use std::alloc::{AllocError, Global};
@@ -32,14 +33,21 @@ pub fn draw_lines<G: Weigh + Copy + Drop>(
     ensures { IfOk result (λ s. Draws G.weight_of config nodes.now (captions_of captions.now) lines.now (string_bytes s)) }
 {
     let mut world = World::new(alloc, nodes, config, *weigher)?;
-    let mut log = Log {
-        rows: Vec::new(alloc),
-        posts: Vec::new(alloc),
-        changes: Vec::new(alloc),
-    };
+    let mut log = empty_log(alloc);
     play_lines(alloc, &mut world, &mut log, captions, lines)?;
     let nodes = nodes.to_vec(alloc)?;
     let picture = picture_of(alloc, nodes, log)?;
     let text = svg_of(alloc, &picture)?;
     Ok(text)
+}
+
+// A log of nothing.
+fn empty_log(alloc: Global) -> Log
+    ensures { noted_of result ≡ nothing_noted }
+{
+    Log {
+        rows: Vec::new(alloc),
+        posts: Vec::new(alloc),
+        changes: Vec::new(alloc),
+    }
 }
