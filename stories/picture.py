@@ -138,7 +138,7 @@ class Picture:
         for row, kind, key, end in self.ends():
             frm, title = x(key[0]), f"<title>{key[0]} {key[1]}</title></path>"
             if kind == "lost":
-                put(f"<path class='lost' d='M{frm} {y(row)}L{(frm + x(end)) // 2} {y(row) + 20}'>{title}")
+                put(f"<path class='lost' d='M{frm} {y(row)}L{frm + 90 if frm < x(end) else frm - 90} {y(row) + 20}'>{title}")
             else:
                 top = y(self.left[key][1]) if key in self.left else y(row) - 13
                 put(f"<path class='{kind}' d='M{frm} {top}L{x(end)} {y(row)}'>{title}")

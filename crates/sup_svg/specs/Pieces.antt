@@ -1,5 +1,5 @@
 -- The pieces of a picture, one for each thing that it shows (this project's picture format).
-use Rattle.std.specs.Prelude.{ℕ, ◌+◌, ◌-◌, ◌/◌, min, List, [], ◌∷◌, ◌++◌, codes, decimal, unwrap_or, Option, Some, None}
+use Rattle.std.specs.Prelude.{ℕ, ◌+◌, ◌-◌, min, nat_lt, if◌then◌else◌, List, [], ◌∷◌, ◌++◌, codes, decimal, unwrap_or, Option, Some, None}
 use Rattle.std.specs.List.{flat_map}
 use Rattle.sup_specs.specs.Values.{Bytes}
 use Rattle.sup_picture.specs.declared.arrows.Arrow.{Arrow}
@@ -81,11 +81,15 @@ came_text arrow from to row way =
     codes "<path class='" ∷ way_class way ∷ codes "' d='M" ∷ decimal from ∷ codes " " ∷ decimal (start_y arrow.left row) ∷ codes "L" ∷ decimal to ∷ codes " " ∷ decimal (y_of row)
     ∷ codes "'><title>" ∷ arrow.message.from ∷ codes " " ∷ decimal arrow.message.number ∷ codes "</title></path>\n" ∷ [])
 
--- the arrow of a lost message, which ends half-way
+-- where a lost message ends on its way: before the next node
+abbrev pub lost_x : ℕ → ℕ → ℕ
+lost_x from to = if nat_lt from to then from + 90 else from - 90
+
+-- the arrow of a lost message
 abbrev pub lost_text : Arrow → ℕ → ℕ → List ℕ
 lost_text arrow from to =
     text (
-    codes "<path class='lost' d='M" ∷ decimal from ∷ codes " " ∷ decimal (start_y arrow.left 0) ∷ codes "L" ∷ decimal ((from + to) / 2) ∷ codes " " ∷ decimal (start_y arrow.left 0 + 20)
+    codes "<path class='lost' d='M" ∷ decimal from ∷ codes " " ∷ decimal (start_y arrow.left 0) ∷ codes "L" ∷ decimal (lost_x from to) ∷ codes " " ∷ decimal (start_y arrow.left 0 + 20)
     ∷ codes "'><title>" ∷ arrow.message.from ∷ codes " " ∷ decimal arrow.message.number ∷ codes "</title></path>\n" ∷ [])
 
 -- an arrow from its message's sender to the node where it ends

@@ -2,7 +2,7 @@
 
 ghost use Rattle.std.specs.Prelude.{◌≡◌, ◌≤◌, IfOk, string_bytes};
 ghost use Rattle.std.specs.List.{flat_map};
-ghost use Rattle.sup_svg.specs.Pieces.{arrow_text, came_text, lost_text, start_y, way_class};
+ghost use Rattle.sup_svg.specs.Pieces.{arrow_text, came_text, lost_text, lost_x, start_y, way_class};
 ghost use Rattle.sup_svg.specs.Grids.{x_of};
 
 use crate::grid::{Grid, y_of};
@@ -65,20 +65,31 @@ fn came_text(
     )
 }
 
-// The arrow of a lost message, which ends half-way.
+// The arrow of a lost message, which ends on its way.
 fn lost_text(alloc: Global, arrow: &Arrow, from: u64, to: u64) -> Result<String, AllocError>
-    requires from { from ≤ 12462 }
-    requires to { to ≤ 12462 }
+    requires { from ≤ 12462 }
     ensures { IfOk result (λ s. string_bytes s ≡ lost_text arrow.now from to) }
 {
     let top = start_y(arrow.left, 0);
-    let middle = (from + to) / 2;
+    let end = lost_x(from, to);
     let bottom = top + 20;
     let sender = arrow.message.from.as_str();
     let number = arrow.message.number;
     format!(in alloc;
-        "<path class='lost' d='M{from} {top}L{middle} {bottom}'><title>{sender} {number}</title></path>\n"
+        "<path class='lost' d='M{from} {top}L{end} {bottom}'><title>{sender} {number}</title></path>\n"
     )
+}
+
+// Where a lost message ends on its way: before the next node.
+fn lost_x(from: u64, to: u64) -> u64
+    requires { from ≤ 12462 }
+    ensures { result ≡ lost_x from to }
+{
+    if from < to {
+        from + 90
+    } else {
+        from.saturating_sub(90)
+    }
 }
 
 // Where an arrow begins that ends in this row: where the message left, or half a row before the end where that isn't known.

@@ -1,6 +1,6 @@
 //! The rows: each a line of the script, and its mark.
 
-ghost use Rattle.std.specs.Prelude.{◌≡◌, IfOk, string_bytes};
+ghost use Rattle.std.specs.Prelude.{◌≡◌, ◌≤◌, IfOk, string_bytes};
 ghost use Rattle.std.specs.List.{flat_map};
 ghost use Rattle.sup_svg.specs.Pieces.{band_text, dot_text, mark_text, row_text};
 
