@@ -27,12 +27,16 @@ way_whole reply = way.Learned
 abbrev pub way_done : ℕ → Reply → Way
 way_done drop reply = if drop == 0 then way_whole reply else way.Cut
 
+-- what became of a message that was refused where it belongs
+abbrev pub way_in_vain : ℕ → Way
+way_in_vain drop = if drop == 0 then way.Refused else way.Cut
+
 -- what became of a message that was refused; nothing where there is no such message or node
 abbrev pub way_refused : ℕ → Refusal → Option Way
 way_refused drop NoSuchMessage = None
 way_refused drop UnknownNode = None
 way_refused drop WrongReceiver = Some way.Misdirected
-way_refused drop refusal = Some (if drop == 0 then way.Refused else way.Cut)
+way_refused drop refusal = Some (way_in_vain drop)
 
 -- where a message comes: to the node that is named, or to its receiver
 abbrev pub receiver : List Post → Message → Option Bytes → Option Bytes

@@ -1,7 +1,7 @@
 //! What a step tells of messages.
 
 ghost use Rattle.std.specs.Prelude.{◌≡◌, ◌++◌, None, Some, OnOk, option_map};
-ghost use Rattle.sup_noting.specs.Messages.{came_done, came_refused, left_by, place_of, receiver, way_done, way_refused, way_whole};
+ghost use Rattle.sup_noting.specs.Messages.{came_done, came_refused, left_by, place_of, receiver, way_done, way_in_vain, way_refused, way_whole};
 
 use std::alloc::AllocError;
 use sup_model::Step;
@@ -126,13 +126,30 @@ fn receiver(posts: &[Post], message: &Message, at: &Option<NodeName>) -> Option<
 fn way_done(drop: u64, reply: &Reply) -> Way
     ensures { result ≡ way_done drop reply.now }
 {
-    if drop != 0 {
-        return Way::Cut;
+    if drop == 0 {
+        way_whole(reply)
+    } else {
+        Way::Cut
     }
+}
+
+// What became of a whole message.
+fn way_whole(reply: &Reply) -> Way
+    ensures { result ≡ way_whole reply.now }
+{
     match reply {
         Reply::Known => Way::Known,
         Reply::Acked => Way::Acked,
-        _ => Way::Learned,
+        Reply::Added(_)
+        | Reply::Replaced(_, _)
+        | Reply::Removed(_)
+        | Reply::Restarted
+        | Reply::Finished(_)
+        | Reply::GaveUp(_)
+        | Reply::Sent
+        | Reply::Absorbed
+        | Reply::Stopped
+        | Reply::Boot(_) => Way::Learned,
     }
 }
 
@@ -143,7 +160,32 @@ fn way_refused(drop: u64, refusal: Refusal) -> Option<Way>
     match refusal {
         Refusal::NoSuchMessage | Refusal::UnknownNode => None,
         Refusal::WrongReceiver => Some(Way::Misdirected),
-        _ if drop != 0 => Some(Way::Cut),
-        _ => Some(Way::Refused),
+        Refusal::Down
+        | Refusal::AlreadyUp
+        | Refusal::AlreadyPresent
+        | Refusal::NotFound
+        | Refusal::AlreadyMember
+        | Refusal::NotMember
+        | Refusal::NameTaken
+        | Refusal::NoSuchChild
+        | Refusal::NameUnknown
+        | Refusal::DotsSpent
+        | Refusal::UpToDate
+        | Refusal::StaleExit
+        | Refusal::TableFull
+        | Refusal::KeepFailed
+        | Refusal::BadMessage
+        | Refusal::OutOfMemory
+        | Refusal::HistoryFull
+        | Refusal::CountSpent
+        | Refusal::NothingToPush
+        | Refusal::AlreadyDraining => Some(way_in_vain(drop)),
     }
+}
+
+// What became of a message that was refused where it belongs.
+fn way_in_vain(drop: u64) -> Way
+    ensures { result ≡ way_in_vain drop }
+{
+    if drop == 0 { Way::Refused } else { Way::Cut }
 }

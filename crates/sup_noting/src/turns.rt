@@ -1,7 +1,7 @@
 //! What a step tells of nodes and of children.
 
 ghost use Rattle.std.specs.Prelude.{◌≡◌, ◌++◌, ◌∷◌, [], IfOk, OnOk, map};
-ghost use Rattle.sup_noting.specs.Turns.{change_at, effect_at, run_of, turns_of};
+ghost use Rattle.sup_noting.specs.Turns.{change_at, effect_at, run_of, turns_by, turns_of};
 
 use std::alloc::{AllocError, Global};
 use sup_local_sup::{Effect, Incarnation};
@@ -23,13 +23,38 @@ pub fn add_turn(
         Step::Node { at, act, .. } => match act {
             Act::Stop => add_change(changes, at, Turn::Down, row),
             Act::Restart => add_change(changes, at, Turn::Up, row),
-            Act::Event(Event::Exit { id, inc, .. }) => {
-                let run = run_of(alloc, id, inc)?;
-                add_change(changes, at, Turn::Ended(run), row)
-            }
-            Act::Event(_) => Ok(()),
+            Act::Event(event) => add_end(alloc, changes, at, event, row),
         },
         Step::Deliver { .. } | Step::Raw { .. } => Ok(()),
+    }
+}
+
+// Adds that a run of a child has ended, if that is what happened.
+fn add_end(
+    alloc: Global,
+    changes: &mut Vec<Change>,
+    at: &NodeName,
+    event: &Event,
+    row: u64,
+) -> Result<(), AllocError>
+    ensures { OnOk result (changes.new.items ≡ changes.old.items ++ turns_by row at.now event.now) }
+{
+    match event {
+        Event::Exit { id, inc, .. } => {
+            let run = run_of(alloc, id, inc)?;
+            add_change(changes, at, Turn::Ended(run), row)
+        }
+        Event::Join(_)
+        | Event::Leave(_)
+        | Event::Drain(_)
+        | Event::Start(_, _)
+        | Event::Delete(_)
+        | Event::Replace(_, _)
+        | Event::Register(_, _)
+        | Event::Unregister(_)
+        | Event::Ship(_)
+        | Event::Push(_)
+        | Event::Deliver(_) => Ok(()),
     }
 }
 

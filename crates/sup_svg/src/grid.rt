@@ -1,6 +1,7 @@
 //! Where the nodes and rows stand.
 
-ghost use Rattle.std.specs.Prelude.{◌≡◌, ◌≤◌};
+ghost use Rattle.std.specs.Prelude.{◌≡◌, ◌≤◌, ◌*◌, bytes_eq};
+ghost use Rattle.std.specs.List.{position_or_len};
 ghost use Rattle.sup_svg.specs.Grids.{bar_x, grid_of, longest_in, slot_of, width_of, x_of, y_of};
 
 use sup_specs::{ChildId, NodeName};
@@ -44,18 +45,15 @@ impl Grid {
         ensures x { result ≡ x_of self.now nodes.now node.now }
         ensures bound { result ≤ 12462 }
     {
-        let place = match nodes.iter().position(|other| *node == *other) {
-            Some(place) => place,
-            None => nodes.len(),
-        };
-        350 + self.bars.min(112) + self.node.min(750) * place.min(16) as u64
+        let place = place_of(nodes, node);
+        350 + self.bars.min(112) + columns(self.node.min(750), place.min(16) as u64)
     }
 
     /// How wide the picture is.
     pub fn width(&self, nodes: &[NodeName]) -> u64
         ensures { result ≡ width_of self.now nodes.now }
     {
-        500 + self.node.min(750) * nodes.len().min(16) as u64
+        500 + columns(self.node.min(750), nodes.len().min(16) as u64)
     }
 }
 
@@ -66,16 +64,42 @@ pub fn bar_x(x: u64, slot: u64) -> u64
     x.saturating_sub(20 + 14 * slot.min(7))
 }
 
+// How wide so many nodes are.
+fn columns(node: u64, count: u64) -> u64
+    requires node { node ≤ 750 }
+    requires count { count ≤ 16 }
+    ensures columns { result ≡ node * count }
+    ensures bound { result ≤ 12000 }
+{
+    node * count
+}
+
 /// The place of a child among eight.
 pub fn slot_of(children: &[ChildId], child: &ChildId) -> u64
     ensures slot { result ≡ slot_of children.now child.now }
     ensures bound { result ≤ 7 }
 {
-    let place = match children.iter().position(|other| *child == *other) {
+    child_place(children, child) as u64 % 8
+}
+
+// The place of a node, or how many there are.
+fn place_of(nodes: &[NodeName], node: &NodeName) -> usize
+    ensures { result ≡ position_or_len (bytes_eq node.now) nodes.now }
+{
+    match nodes.iter().position(|other| *node == *other) {
+        Some(place) => place,
+        None => nodes.len(),
+    }
+}
+
+// The place of a child, or how many there are.
+fn child_place(children: &[ChildId], child: &ChildId) -> usize
+    ensures { result ≡ position_or_len (bytes_eq child.now) children.now }
+{
+    match children.iter().position(|other| *child == *other) {
         Some(place) => place,
         None => children.len(),
-    };
-    place as u64 % 8
+    }
 }
 
 /// The height of a row.
