@@ -31,9 +31,26 @@ pub fn run_with<R: Read, W: Write, E: Write>(
     ensures without { IfErr words (λ _. Refuses (E.contents errors.old) (E.contents errors.new) result) }
 {
     match words {
-        Ok(words) if words.is_empty() => draw_plain(alloc, reader, writer, errors).status,
-        Ok(_) => refuse(errors).status,
+        Ok(words) => run(alloc, words.as_slice(), reader, writer, errors),
         Err(_) => refuse(errors).status,
+    }
+}
+
+// Runs the program with these words.
+fn run<R: Read, W: Write, E: Write>(
+    alloc: Global,
+    words: &[String],
+    reader: &mut R,
+    writer: &mut W,
+    errors: &mut E,
+) -> u8
+    ensures draws { words.now ≡ [] → DrawsWith sha256_weight default (R.remaining reader.old) (R.remaining reader.new)
+        (W.contents writer.old) (W.contents writer.new) (E.contents errors.old) (E.contents errors.new) result }
+    ensures refuses { words.now ≢ [] → Refuses (E.contents errors.old) (E.contents errors.new) result }
+{
+    match words {
+        [] => draw_plain(alloc, reader, writer, errors).status,
+        [_, ..] => refuse(errors).status,
     }
 }
 
@@ -47,7 +64,14 @@ fn draw_plain<R: Read, W: Write, E: Write>(
     ensures { DrawsTo sha256_weight default (R.remaining reader.old) (R.remaining reader.new)
         (W.contents writer.old) (W.contents writer.new) (E.contents errors.old) (E.contents errors.new) result }
 {
-    draw(alloc, &Sha256Weigh, Config::default(), reader, writer, errors)
+    draw(
+        alloc,
+        &Sha256Weigh,
+        Config::default(),
+        reader,
+        writer,
+        errors,
+    )
 }
 
 // Tells how the program is called.
