@@ -3,7 +3,6 @@
 ghost use Rattle.std.specs.Prelude.{◌≡◌, ◌≤◌, IfOk, string_bytes};
 ghost use Rattle.std.specs.List.{flat_map};
 ghost use Rattle.sup_svg.specs.Pieces.{arrow_text, came_text, lost_text, lost_x, start_y, way_class};
-ghost use Rattle.sup_svg.specs.Grids.{x_of};
 
 use crate::grid::{Grid, y_of};
 use std::alloc::{AllocError, Global};
