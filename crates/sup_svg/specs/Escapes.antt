@@ -1,6 +1,5 @@
 -- Texts inside XML (this project's picture format).
-use Rattle.std.specs.Prelude.{ℕ, ◌==◌, ◌&&◌, ◌||◌, nat_le, List, [], ◌∷◌, take, codes, if◌then◌else◌}
-use Rattle.std.specs.List.{position_or_len}
+use Rattle.std.specs.Prelude.{ℕ, ◌==◌, ◌&&◌, ◌||◌, nat_le, List, [], ◌∷◌, take, codes, position, Option, Some, None, if◌then◌else◌}
 
 -- from a space (32) to ~ (126), or a line feed (10)
 abbrev pub plain_of : ℕ → List ℕ
@@ -16,6 +15,11 @@ escape_of byte =
     else if byte == 34 then codes "&quot;"
     else plain_of byte
 
+-- what stands before a place, or all
+abbrev pub before : List ℕ → Option ℕ → List ℕ
+before text None = text
+before text (Some end) = take end text
+
 -- what stands before the first line feed
 abbrev pub first_line : List ℕ → List ℕ
-first_line text = take (position_or_len (λ byte. byte == 10) text) text
+first_line text = before text (position (λ byte. byte == 10) text)

@@ -1,6 +1,6 @@
 //! Texts inside XML.
 
-ghost use Rattle.std.specs.Prelude.{◌≡◌, ◌++◌, IfOk, OnOk, string_bytes};
+ghost use Rattle.std.specs.Prelude.{◌≡◌, ◌==◌, ◌<◌, ◌++◌, IfOk, IfSome, OnOk, length, position, string_bytes};
 ghost use Rattle.std.specs.List.{flat_map};
 ghost use Rattle.sup_svg.specs.Escapes.{escape_of, first_line};
 
@@ -36,8 +36,15 @@ fn put_escaped(escaped: &mut String, byte: u8) -> Result<(), AllocError>
 pub fn first_line<'a>(text: &'a [u8]) -> &'a [u8]
     ensures { result.now ≡ first_line text.entry.now }
 {
-    match text.iter().position(|byte| *byte == b'\n') {
+    match find_feed(text) {
         Some(end) => &text[..end],
         None => text,
     }
+}
+
+fn find_feed(text: &[u8]) -> Option<usize>
+    ensures place { result ≡ position (λ byte. byte == 10) text.now }
+    ensures bound { IfSome result (λ end. end < length text.now) }
+{
+    text.iter().position(|byte| *byte == b'\n')
 }

@@ -1,8 +1,7 @@
 //! Where the nodes and rows stand.
 
-ghost use Rattle.std.specs.Prelude.{◌≡◌, ◌≤◌, ◌*◌, bytes_eq};
-ghost use Rattle.std.specs.List.{position_or_len};
-ghost use Rattle.sup_svg.specs.Grids.{bar_x, grid_of, longest_in, slot_of, width_of, x_of, y_of};
+ghost use Rattle.std.specs.Prelude.{◌≡◌, ◌≤◌, ◌*◌, bytes_eq, position};
+ghost use Rattle.sup_svg.specs.Grids.{bar_x, grid_of, longest_in, place_of, slot_of, width_of, x_of, y_of};
 
 use sup_specs::{ChildId, NodeName};
 
@@ -55,6 +54,57 @@ impl Grid {
     {
         500 + columns(self.node.min(750), nodes.len().min(16) as u64)
     }
+}
+
+/// Where the bars of a place among eight stand, at the line of a node.
+pub fn bar_x(x: u64, slot: u64) -> u64
+    ensures { result ≡ bar_x x slot }
+{
+    x.saturating_sub(20 + 14 * slot.min(7))
+}
+
+// How wide so many nodes are.
+fn columns(node: u64, count: u64) -> u64
+    requires node { node ≤ 750 }
+    requires count { count ≤ 16 }
+    ensures columns { result ≡ node * count }
+    ensures bound { result ≤ 12000 }
+{
+    node * count
+}
+
+/// The place of a child among eight.
+pub fn slot_of(children: &[ChildId], child: &ChildId) -> u64
+    ensures slot { result ≡ slot_of children.now child.now }
+    ensures bound { result ≤ 7 }
+{
+    child_place(children, child) as u64 % 8
+}
+
+// The place of a node, or how many there are.
+fn place_of(nodes: &[NodeName], node: &NodeName) -> usize
+    ensures { result ≡ place_of nodes.now node.now }
+{
+    find_node(nodes, node).unwrap_or(nodes.len())
+}
+
+fn find_node(nodes: &[NodeName], node: &NodeName) -> Option<usize>
+    ensures { result ≡ position (bytes_eq node.now) nodes.now }
+{
+    nodes.iter().position(|other| *node == *other)
+}
+
+// The place of a child, or how many there are.
+fn child_place(children: &[ChildId], child: &ChildId) -> usize
+    ensures { result ≡ place_of children.now child.now }
+{
+    find_child(children, child).unwrap_or(children.len())
+}
+
+fn find_child(children: &[ChildId], child: &ChildId) -> Option<usize>
+    ensures { result ≡ position (bytes_eq child.now) children.now }
+{
+    children.iter().position(|other| *child == *other)
 }
 
 /// Where the bars of a place among eight stand, at the line of a node.
