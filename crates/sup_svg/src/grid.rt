@@ -107,51 +107,6 @@ fn find_child(children: &[ChildId], child: &ChildId) -> Option<usize>
     children.iter().position(|other| *child == *other)
 }
 
-/// Where the bars of a place among eight stand, at the line of a node.
-pub fn bar_x(x: u64, slot: u64) -> u64
-    ensures { result ≡ bar_x x slot }
-{
-    x.saturating_sub(20 + 14 * slot.min(7))
-}
-
-// How wide so many nodes are.
-fn columns(node: u64, count: u64) -> u64
-    requires node { node ≤ 750 }
-    requires count { count ≤ 16 }
-    ensures columns { result ≡ node * count }
-    ensures bound { result ≤ 12000 }
-{
-    node * count
-}
-
-/// The place of a child among eight.
-pub fn slot_of(children: &[ChildId], child: &ChildId) -> u64
-    ensures slot { result ≡ slot_of children.now child.now }
-    ensures bound { result ≤ 7 }
-{
-    child_place(children, child) as u64 % 8
-}
-
-// The place of a node, or how many there are.
-fn place_of(nodes: &[NodeName], node: &NodeName) -> usize
-    ensures { result ≡ position_or_len (bytes_eq node.now) nodes.now }
-{
-    match nodes.iter().position(|other| *node == *other) {
-        Some(place) => place,
-        None => nodes.len(),
-    }
-}
-
-// The place of a child, or how many there are.
-fn child_place(children: &[ChildId], child: &ChildId) -> usize
-    ensures { result ≡ position_or_len (bytes_eq child.now) children.now }
-{
-    match children.iter().position(|other| *child == *other) {
-        Some(place) => place,
-        None => children.len(),
-    }
-}
-
 /// The height of a row.
 pub fn y_of(row: u64) -> u64
     ensures y { result ≡ y_of row }
