@@ -89,8 +89,9 @@ impl Tables {
         Ok(touched)
     }
 
-    // Becomes what the plan makes. An `Err` is want of memory, and changes nothing.
-    pub(crate) fn follow(&mut self, alloc: Global, plan: PlannedTables) -> Result<(), AllocError>
+    /// Becomes what the plan makes: [`open`](Tables::open) and [`carried_out`](crate::OpenTables::carried_out) in one. An
+    /// `Err` is want of memory, and changes nothing.
+    pub fn follow(&mut self, alloc: Global, plan: PlannedTables) -> Result<(), AllocError>
         requires { (new : State) × IsPlanFor plan self.old new }
         ensures made { OnOk result ((new : State) → IsPlanFor plan self.old new → self.new ≡ new) }
         ensures err { OnErr result (self.new ≡ self.old) }

@@ -9,15 +9,15 @@ use Rattle.sup_specs.specs.declared.child.Shutdown.TheVariants.{Brutal, Millis, 
 use Rattle.sup_causal.specs.declared.dot.Dot.{Dot}
 use Rattle.sup_causal.specs.Dots.{has, IsCounted}
 use Rattle.sup_causal.specs.Cut.{entry}
+use Rattle.sup_causal.proofs.CutLaws.{cut_canonical}
 use Rattle.sup_tables.specs.declared.row.Entry.{Entry}
 use Rattle.sup_tables.specs.declared.row.Entry.TheVariants.{Member, Child, Name}
 use Rattle.sup_tables.specs.declared.row.Row.{Row}
-use Rattle.sup_tables.specs.States.{State}
+use Rattle.sup_tables.specs.States.{State, HasDotsOf}
 use Rattle.sup_wire.specs.declared.version.Version.TheVariants.{Two}
-use Rattle.sup_wire.specs.Drafts.{Parts, ack, push, delta, image, IsCut, IsWhole}
+use Rattle.sup_wire.specs.Drafts.{Parts, ack, push, delta, image, IsCut}
 use Rattle.sup_wire.specs.Forms.{IsName, IsCount, IsDot, IsNote, IsShutdown, IsEntry, IsRow, IsWritten, AreWritten, AreParts, value_of}
 use Rattle.sup_wire.specs.Writing.{ReadsBack}
-use Rattle.sup_wire.proofs.Cuts.{cut_sound}
 use Rattle.sup_wire.proofs.ReadBack.{readable_back}
 use Rattle.sup_wire.proofs.Readable.{Fits, ShutdownFits, EntryFits, RowFits, PartsFit, context_readable, context_low, rows_are_readable, rows_low}
 
@@ -35,14 +35,14 @@ rows holds (r ∷ rs) counted written there =
     let c = counted r.dot there.0 in
     ((written.0.0, record { node = written.0.1; counter = record { least = c.0; most = c.1 } }), rows holds rs counted written.1 there.1)
 
-pub parts_formed : (s : State) (p : Parts) → IsWhole s → IsCut s p → AreWritten p → AreParts Two p
-parts_formed s p whole cut written =
-    let sound = cut_sound s p whole cut in
+pub parts_formed : (s : State) (p : Parts) → ((d : Dot) → has s.context d ≡ true → IsCounted d) → HasDotsOf s.context s.rows → IsCut s p → AreWritten p → AreParts Two p
+parts_formed s p counted covered cut written =
+    let canonical = cut_canonical (has s.context) counted p.vector p.cloud cut.vector cut.cloud in
     record {
-      vector = notes p.vector written.vector sound.context.entries;
-      cloud = dots p.vector p.cloud written.cloud sound.context.apart;
-      rows = rows (λ d. has s.context d ≡ true) p.rows whole.counted written.rows
-          (recursion_from_All (λ (r : Row). has s.context r.dot ≡ true) p.rows (subst (λ (rs : List Row). (k : ℕ) (d : Row) → k < length rs → has s.context (get_or rs k d).dot ≡ true) (sym cut.rows) whole.covered));
+      vector = notes p.vector written.vector canonical.entries;
+      cloud = dots p.vector p.cloud written.cloud canonical.apart;
+      rows = rows (λ d. has s.context d ≡ true) p.rows counted written.rows
+          (recursion_from_All (λ (r : Row). has s.context r.dot ≡ true) p.rows (subst (λ (rs : List Row). (k : ℕ) (d : Row) → k < length rs → has s.context (get_or rs k d).dot ≡ true) (sym cut.rows) covered));
     }
 
 -- ---- numbers that fit 64 bits

@@ -1,6 +1,7 @@
 pub mod Drafts
 pub mod Forms
 pub mod Faults
+pub mod Lent
 pub mod Told
 pub mod FieldReads
 pub mod RowReads

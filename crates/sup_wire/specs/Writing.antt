@@ -34,7 +34,7 @@ pub record Adds (old new : Written) (ts : List Token) : Type 0 where
 
 -- what stands behind the references
 abbrev pub parts_lent : LentParts → Parts
-parts_lent p = record { vector = p.vector.items; cloud = p.cloud.items; rows = rows_lent p.rows.items }
+parts_lent p = record { vector = p.vector.items; cloud = p.cloud.items; rows = rows_lent p.rows.now }
 
 -- what a value needs so that its text reads back
 pub record ReadsBack (d : Data) : Type 0 where

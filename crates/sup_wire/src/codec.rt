@@ -2,18 +2,21 @@
 ghost use Rattle.std.specs.Prelude.{◌≡◌, ◌++◌, IfOk, IfErr};
 ghost use Rattle.serde_json.specs.View.{view};
 ghost use Rattle.sup_specs.specs.Values.{Bytes};
+ghost use Rattle.sup_tables.specs.States.{HasDotsOf};
 ghost use Rattle.sup_wire.specs.declared.message.Message.{Message};
 ghost use Rattle.sup_wire.specs.declared.image.Image.{Image};
 ghost use Rattle.sup_wire.specs.Drafts.{IsDraftOf, IsDraftOfImage, SaysMessage, SaysImage, IsWholeMessage, IsWholeImage};
 ghost use Rattle.sup_wire.specs.DraftReads.{NoJson};
 ghost use Rattle.sup_wire.specs.Faults.{IsJson, Says, IsTextOf, IsTextAfter, IsFault, IsOrMemory, IsInRange, IsImageInRange};
+ghost use Rattle.sup_wire.specs.Lent.{IsLentOf};
 
 use crate::fault::WireFault;
 use crate::image::Image;
+use crate::lent_image::LentImage;
 use crate::message::Message;
 use crate::reading::images::image_of;
 use crate::reading::messages::message_of;
-use crate::writing::images::write_image;
+use crate::writing::images::{write_image, write_lent_image};
 use crate::writing::messages::write_message;
 use json::Writer;
 use serde_json::{Category, Value};
@@ -113,5 +116,18 @@ pub fn encode_image_after(front: Vec<u8>, image: &Image) -> Result<Vec<u8>, Allo
 {
     let mut out = Writer::new(front);
     write_image(&mut out, image)?;
+    Ok(out.into_inner())
+}
+
+/// The text of an image that is lent, the same that [`encode_image`] writes of the image. An `Err` where a growth was
+/// refused.
+pub fn encode_lent_image(alloc: Global, image: &LentImage<'_>) -> Result<Vec<u8>, AllocError>
+    // Of each image that this is lent of, if its context has the dots of its rows.
+    ensures text { IfOk result (λ text. (i : Image) → IsLentOf image.now i → HasDotsOf i.state.context i.state.rows → IsTextOf IsDraftOfImage IsImageInRange text.items i) }
+    // What is written is what `decode_image` reads.
+    ensures says { IfOk result (λ text. (i : Image) → IsLentOf image.now i → HasDotsOf i.state.context i.state.rows → IsImageInRange i → Says IsDraftOfImage text.items i) }
+{
+    let mut out = Writer::new(Vec::new(alloc));
+    write_lent_image(&mut out, image)?;
     Ok(out.into_inner())
 }

@@ -11,6 +11,8 @@ mod given;
 #[cfg(test)]
 mod images;
 #[cfg(test)]
+mod lent_images;
+#[cfg(test)]
 mod made;
 #[cfg(test)]
 mod prefixes;

@@ -3,7 +3,7 @@ use crate::given::{node, try_id, try_unlabelled, try_worker};
 use std::process::Abort;
 use sup_causal::Lattice;
 use sup_tables::Tables;
-use sup_wire::{Image, Message};
+use sup_wire::{Image, LentImage, Message};
 
 pub(crate) fn ack(rt: &impl Abort, from: &str, n: u64, to: &str) -> Message {
     Message::Ack {
@@ -23,20 +23,26 @@ fn delta(rt: &impl Abort, from: &str, n: u64, to: &str, delta: Tables) -> Messag
 }
 
 // What node a changed when it started a child.
-fn start(rt: &(impl Abort + AllocGlobal), state: &Tables, id: &str) -> Option<Tables> {
+pub(crate) fn start(rt: &(impl Abort + AllocGlobal), state: &Tables, id: &str) -> Option<Tables> {
     let (started, _) = state
         .put_child(node(rt, "a"), try_id(rt, id)?, try_worker(rt, "")?)
         .ok()?;
     Some(started)
 }
 
-// Node a has joined and started a child.
-fn joined(rt: &(impl Abort + AllocGlobal)) -> Option<Tables> {
+// Node a has joined.
+pub(crate) fn alone(rt: &(impl Abort + AllocGlobal)) -> Option<Tables> {
     let (joined, _) = Tables::empty(rt.alloc())
         .put_member(node(rt, "a"), try_unlabelled(rt)?)
         .ok()?;
-    let started = start(rt, &joined, "web")?;
-    joined.joined(rt.alloc(), &started).ok()
+    Some(joined)
+}
+
+// Node a has joined and started a child.
+fn joined(rt: &(impl Abort + AllocGlobal)) -> Option<Tables> {
+    let state = alone(rt)?;
+    let started = start(rt, &state, "web")?;
+    state.joined(rt.alloc(), &started).ok()
 }
 
 pub(crate) fn joined_sent(rt: &(impl Abort + AllocGlobal)) -> Option<Message> {
@@ -103,5 +109,15 @@ pub(crate) fn joined_kept(rt: &(impl Abort + AllocGlobal)) -> Option<Image> {
         boot: 1,
         count: 2,
         state: joined(rt)?,
+    })
+}
+
+pub(crate) fn lent(image: &Image) -> Option<LentImage<'_>> {
+    Some(LentImage {
+        node: image.node,
+        boot: image.boot,
+        count: image.count,
+        context: image.state.context(),
+        rows: image.state.lent_rows().ok()?,
     })
 }

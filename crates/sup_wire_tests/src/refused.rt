@@ -4,11 +4,13 @@ use crate::given::{
     STARTED,
 };
 use crate::made::{
-    ack, drained_sent, first_sent, joined_kept, joined_sent, opening, removed_sent, replaced_sent,
-    second_sent,
+    ack, drained_sent, first_sent, joined_kept, joined_sent, lent, opening, removed_sent,
+    replaced_sent, second_sent,
 };
 use std::process::Abort;
-use sup_wire::{Image, Message, WireFault, decode, decode_image, encode, encode_image};
+use sup_wire::{
+    Image, Message, WireFault, decode, decode_image, encode, encode_image, encode_lent_image,
+};
 
 fn sure_text(rt: &(impl Abort + AllocGlobal), message: &Message) -> Vec<u8> {
     match encode(rt.alloc(), message) {
@@ -31,6 +33,17 @@ fn sure_image_text(rt: &(impl Abort + AllocGlobal), image: &Image) -> Vec<u8> {
     match encode_image(rt.alloc(), image) {
         Ok(text) => text,
         Err(_) => encode_image(rt.alloc(), image).expect(rt, "a text"),
+    }
+}
+
+fn try_lent_text(rt: &impl AllocGlobal, image: &Image) -> Option<Vec<u8>> {
+    encode_lent_image(rt.alloc(), &lent(image)?).ok()
+}
+
+fn sure_lent_text(rt: &(impl Abort + AllocGlobal), image: &Image) -> Vec<u8> {
+    match try_lent_text(rt, image) {
+        Some(text) => text,
+        None => try_lent_text(rt, image).expect(rt, "a text"),
     }
 }
 
@@ -62,6 +75,8 @@ fn expect_way(rt: &(impl Abort + AllocGlobal), message: &Message, wanted: &str) 
 fn expect_image_way(rt: &(impl Abort + AllocGlobal), image: &Image, wanted: &str) {
     let text = sure_image_text(rt, image);
     assert!(rt; text.as_slice() == wanted.as_bytes(), "{wanted}");
+    let lent_text = sure_lent_text(rt, image);
+    assert!(rt; lent_text.as_slice() == wanted.as_bytes(), "{wanted}");
     let again = sure_image_text(rt, &sure_image(rt, wanted));
     assert!(rt; again.as_slice() == wanted.as_bytes(), "{wanted}");
 }

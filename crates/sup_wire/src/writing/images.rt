@@ -1,15 +1,19 @@
 //! Whole images.
-ghost use Rattle.std.specs.Prelude.{◌≡◌, ◌<◌, ◌^◌, OnOk, codes, ◌++◌};
+ghost use Rattle.std.specs.Prelude.{◌≡◌, ◌<◌, ◌^◌, IfOk, OnOk, codes, ◌++◌};
 ghost use Rattle.serde_json.specs.Data.{string};
+ghost use Rattle.sup_tables.specs.States.{HasDotsOf};
+ghost use Rattle.sup_wire.specs.declared.image.Image.{Image};
 ghost use Rattle.sup_wire.specs.Drafts.{image, IsDraftOfImage, IsWholeImage};
 ghost use Rattle.sup_wire.specs.Faults.{IsImageInRange};
 ghost use Rattle.sup_wire.specs.Forms.{count_value, value_of, IsName, AreWritten};
+ghost use Rattle.sup_wire.specs.Lent.{IsLentOf};
 ghost use Rattle.sup_wire.specs.Writing.{Adds, WritesDraft, tokens_of, field_tokens, parts_lent};
 
 use crate::image::Image;
+use crate::lent_image::LentImage;
 use crate::writing::context::write_context;
 use crate::writing::fields::{number_field, text_field, version_field};
-use crate::writing::lending::{LentParts, lent_parts};
+use crate::writing::lending::{LentParts, lent_parts, lent_rows};
 use crate::writing::rows::write_rows;
 use json::Writer;
 use std::alloc::AllocError;
@@ -51,9 +55,34 @@ fn write_parts(
     write_context(out, parts)?;
     node_fields(out, node)?;
     out.key("rows")?;
-    write_rows(out, &parts.rows)?;
+    write_rows(out, parts.rows)?;
     version_field(out)?;
     out.end_object()
+}
+
+// An image that is lent.
+pub(crate) fn write_lent_image(out: &mut Writer, image: &LentImage<'_>) -> Result<(), AllocError>
+    ensures { OnOk result ((i : Image) → IsLentOf image.now i → HasDotsOf i.state.context i.state.rows → WritesDraft IsDraftOfImage IsImageInRange out.old out.new i) }
+{
+    // For the clause: the context's counters are in their limits.
+    image.context.counted();
+    let parts = lent_parts(image.context, &image.rows)?;
+    write_parts(out, &image.node, image.boot, image.count, &parts)
+}
+
+// Lends an image.
+fn lent_image(image: &Image) -> Result<LentImage<'_>, AllocError>
+    ensures lent { IfOk result (λ l. IsLentOf l image.now) }
+    ensures whole { IfOk result (λ _. IsWholeImage image.now) }
+{
+    let rows = lent_rows(&image.state)?;
+    Ok(LentImage {
+        node: image.node,
+        boot: image.boot,
+        count: image.count,
+        context: image.state.context(),
+        rows,
+    })
 }
 
 // An image.
@@ -61,6 +90,6 @@ pub(crate) fn write_image(out: &mut Writer, image: &Image) -> Result<(), AllocEr
     ensures draft { OnOk result (WritesDraft IsDraftOfImage IsImageInRange out.old out.new image.now) }
     ensures whole { OnOk result (IsWholeImage image.now) }
 {
-    let parts = lent_parts(&image.state)?;
-    write_parts(out, &image.node, image.boot, image.count, &parts)
+    let lent = lent_image(image)?;
+    write_lent_image(out, &lent)
 }

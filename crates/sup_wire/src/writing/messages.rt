@@ -11,7 +11,7 @@ ghost use Rattle.sup_wire.specs.declared.version.Version.TheVariants.{Two};
 use crate::message::Message;
 use crate::writing::context::write_context;
 use crate::writing::fields::{number_field, text_field, version_field};
-use crate::writing::lending::{LentParts, lent_parts};
+use crate::writing::lending::{LentParts, lent_parts, lent_rows};
 use crate::writing::rows::write_rows;
 use json::Writer;
 use std::alloc::AllocError;
@@ -66,7 +66,7 @@ fn write_push(
     write_context(out, parts)?;
     sender_fields(out, from, "push")?;
     out.key("rows")?;
-    write_rows(out, &parts.rows)?;
+    write_rows(out, parts.rows)?;
     last_fields(out, to)
 }
 
@@ -90,7 +90,7 @@ fn write_delta(
     sender_fields(out, from, "delta")?;
     number_field(out, "n", n)?;
     out.key("rows")?;
-    write_rows(out, &parts.rows)?;
+    write_rows(out, parts.rows)?;
     last_fields(out, to)
 }
 
@@ -102,11 +102,13 @@ pub(crate) fn write_message(out: &mut Writer, message: &Message) -> Result<(), A
     match message {
         Message::Ack { from, to, n } => write_ack(out, from, to, *n),
         Message::Push { from, to, delta } => {
-            let parts = lent_parts(delta)?;
+            let rows = lent_rows(delta)?;
+            let parts = lent_parts(delta.context(), &rows)?;
             write_push(out, from, to, &parts)
         }
         Message::Delta { from, to, n, delta } => {
-            let parts = lent_parts(delta)?;
+            let rows = lent_rows(delta)?;
+            let parts = lent_parts(delta.context(), &rows)?;
             write_delta(out, from, to, *n, &parts)
         }
     }
