@@ -1,3 +1,4 @@
 pub mod PlacingLaws
 pub mod StepLaws
 pub mod PlanLaws
+pub mod TouchLaws

@@ -8,13 +8,15 @@ use Rattle.std.proofs.Common.{sym, ap, ◌∙◌, subst}
 use Rattle.sup_specs.specs.Values.{Bytes, text_cmp}
 use Rattle.sup_specs.specs.OrderLaws.{text_total, text_tie}
 use Rattle.std.specs.List.Sorted.{IsStrictlySortedBy}
-use Rattle.sup_specs.proofs.RisingLaws.{rising_rises}
+use Rattle.sup_specs.specs.Rising.{among}
+use Rattle.sup_specs.proofs.RisingLaws.{among-rising, rising_rises}
+use Rattle.std.proofs.lemmas.Bool.{or_left, or_right}
 use Rattle.sup_causal.specs.Dots.{IsCounted}
 use Rattle.sup_causal.proofs.DotLemmas.{equal_from_is_eq}
 use Rattle.sup_tables.specs.declared.row.Row.{Row}
 use Rattle.sup_tables.specs.Rows.{Table, children, key_of, is_in, is_at}
 use Rattle.sup_tables.specs.Readers.{entries, winner, keys, eligible}
-use Rattle.sup_tables.proofs.AddLaws.{and-second}
+use Rattle.sup_tables.proofs.AddLaws.{and-first, and-second}
 use Rattle.sup_placement.specs.Place.{Weigher, place}
 use Rattle.sup_local_sup.specs.declared.wanted.Wanted.{Wanted}
 use Rattle.sup_local_sup.specs.Keeping.{by_id, IdsRise, AreCounted}
@@ -24,13 +26,30 @@ abbrev Below : {X : Type 0} → (X → X → Ordering) → X → List X → Type
 Below cmp x xs = AllByRecursion (λ y. cmp x y ≡ Less) xs
 
 -- a winner is of its key
-first_of : (rows : List Row) (table : Table) (key : Bytes) (r : Row) → winner rows table key ≡ Some r → key_of r.entry ≡ key
+pub first_of : (rows : List Row) (table : Table) (key : Bytes) (r : Row) → winner rows table key ≡ Some r → key_of r.entry ≡ key
 first_of [] table key r e = absurd cc
 first_of (q ∷ qs) table key r e =
     elim (is_at table key q) as (λ b. is_at table key q ≡ b → slice_get (cond b (q ∷ entries qs table key) (entries qs table key)) 0 ≡ Some r → key_of r.entry ≡ key) [
       | true ↦ λ h f. let same : q ≡ r = cc in ap (λ x. key_of x.entry) (sym same) ∙ sym (text_tie key (key_of q.entry) (equal_from_is_eq _ (and-second (is_in table q) _ h)))
       | false ↦ λ h f. first_of qs table key r f
     ] refl e
+
+-- and its key is among the keys
+module _ (table : Table) (key : Bytes) where
+  later_key : (q : Row) (qs : List Row) (b : Bool) → among text_cmp (map (λ x. key_of x.entry) qs) key ≡ true → among text_cmp (map (λ x. key_of x.entry) (cond b (q ∷ qs) qs)) key ≡ true
+  later_key q qs true h = or_right _ _ h
+  later_key q qs false h = h
+
+  listed_key : (rows : List Row) (r : Row) → winner rows table key ≡ Some r → among text_cmp (map (λ x. key_of x.entry) (filter (is_in table) rows)) key ≡ true
+  listed_key [] r e = absurd cc
+  listed_key (q ∷ qs) r e =
+      elim (is_at table key q) as (λ b. is_at table key q ≡ b → slice_get (cond b (q ∷ entries qs table key) (entries qs table key)) 0 ≡ Some r → among text_cmp (map (λ x. key_of x.entry) (filter (is_in table) (q ∷ qs))) key ≡ true) [
+        | true ↦ λ h f. subst (λ b. among text_cmp (map (λ x. key_of x.entry) (cond b (q ∷ filter (is_in table) qs) (filter (is_in table) qs))) key ≡ true) (sym (and-first (is_in table q) _ h)) (or_left _ _ (and-second (is_in table q) _ h))
+        | false ↦ λ h f. later_key q (filter (is_in table) qs) (is_in table q) (listed_key qs r f)
+      ] refl e
+
+pub key_there : (rows : List Row) (table : Table) (key : Bytes) (r : Row) → winner rows table key ≡ Some r → among text_cmp (keys rows table) key ≡ true
+key_there rows table key r e = among-rising text_cmp text_total (map (λ x. key_of x.entry) (filter (is_in table) rows)) key ∙ listed_key table key rows r e
 
 -- what comes of one more key
 module _ (rows : List Row) (weigher : Weigher) (me : Bytes) (hosts : List Bytes) where

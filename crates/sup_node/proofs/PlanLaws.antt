@@ -34,9 +34,10 @@ use Rattle.sup_node.specs.declared.change.Change.{Change}
 use Rattle.sup_node.specs.declared.change.Change.TheVariants.{Nothing, Begins, Learns, Acknowledges}
 use Rattle.sup_node.specs.declared.change.Ready.{Ready}
 use Rattle.sup_node.specs.declared.planned.Planned.{Planned}
-use Rattle.sup_node.specs.Changes.{stopped_node, changed, learned, newer, saves, station_after, IsImageOf, IsOwn, IsOf, checked, outcome_of, Readies}
+use Rattle.sup_node.specs.Changes.{stopped_node, changed, learned, newer, saves, station_after, MakesOf, IsMadeFor, IsOwn, IsOf, checked, outcome_of, Readies}
+use Rattle.sup_node.specs.Placed.{keeps_placed}
 use Rattle.sup_node.specs.Texts.{IsLetter, IsLetterOf, mail_of}
-use Rattle.sup_node.specs.NodeSteps.{Reads, stepped, MayLack, IsReady, Fits, IsPlanOf, Plans, stopped_by, IsRestart, IsRestartRefused}
+use Rattle.sup_node.specs.NodeSteps.{Reads, stepped, MayLack, IsReady, MayChange, IsPlanOf, Plans, stopped_by, IsRestart, IsRestartRefused}
 use Rattle.sup_node.specs.Taking.{Takes, planned_of}
 
 -- names
@@ -161,8 +162,8 @@ module _ (s : Station State) where
   after-own Nothing own = sym (held-same s.node _ refl)
   after-own (Begins id now) own = sym (held-same (changed s.node (Begins id now)) _ refl)
   after-own (Learns l) own =
-      sym (held-more (learned s.node l) _ own.1
-      ∙ ap (λ o. record s { node = learned s.node l; held = holds_more s.room s.held (unwrap_or (newer o s.node.newest) no_state) }) own.0)
+      sym (held-more (learned s.node l) _ refl
+      ∙ ap (λ o. record s { node = learned s.node l; held = holds_more s.room s.held (unwrap_or (newer o s.node.newest) no_state) }) own)
   after-own (Acknowledges from number) own = absurd own
 
   -- of a received one what was received
@@ -170,20 +171,20 @@ module _ (s : Station State) where
   after-of content Nothing of = sym (held-same s.node content refl)
   after-of content (Begins id now) of = absurd of
   after-of content (Learns l) of =
-      ap (λ d. record s { node = learned s.node l; held = holds_more s.room s.held d }) of.1 ∙ sym (held-more (learned s.node l) content of.2)
+      ap (λ d. record s { node = learned s.node l; held = holds_more s.room s.held d }) of.1 ∙ sym (held-more (learned s.node l) content refl)
   after-of content (Acknowledges from number) of = absurd of
 
-  fits-own : (c : Change) → passes_greatest (changed s.node c) ≡ false → IsImageOf s.node c → IsOwn s.node c → Fits s c
-  fits-own Nothing w i own = tt
-  fits-own (Begins id now) w i own = w
-  fits-own (Learns l) w i own = (w, i, own.1)
-  fits-own (Acknowledges from number) w i own = absurd own
+  may-own : (c : Change) → passes_greatest (changed s.node c) ≡ false → MakesOf s.node c → IsOwn s.node c → MayChange s c
+  may-own Nothing w m own = tt
+  may-own (Begins id now) w m own = w
+  may-own (Learns l) w m own = (w, m)
+  may-own (Acknowledges from number) w m own = absurd own
 
-  fits-of : (content : State) (c : Change) → passes_greatest (changed s.node c) ≡ false → IsImageOf s.node c → IsOf content s.node c → Fits s c
-  fits-of content Nothing w i of = tt
-  fits-of content (Begins id now) w i of = absurd of
-  fits-of content (Learns l) w i of = (w, i, of.2)
-  fits-of content (Acknowledges from number) w i of = absurd of
+  may-of : (content : State) (c : Change) → passes_greatest (changed s.node c) ≡ false → MakesOf s.node c → IsOf content s.node c → MayChange s c
+  may-of content Nothing w m of = tt
+  may-of content (Begins id now) w m of = absurd of
+  may-of content (Learns l) w m of = (w, m)
+  may-of content (Acknowledges from number) w m of = absurd of
 
 -- ---- own events
 
@@ -203,15 +204,15 @@ module _ (g : Weigher) (s : Station State) (event : Event) (now : ℕ) (up : s.n
   own-is : (saved : Bool) → own saved ≡ go-on own-move (kept_by saved step-of)
   own-is saved = ap (λ x. go-on own-move (kept_by saved x)) acts
 
-  pub own-ready : (p : Ready) → checked step-of ≡ Ok (outcome_of s.node p) → IsImageOf s.node p.change → IsOwn s.node p.change
-      → IsReady own s (record { done = record { reply = p.reply; effects = p.effects; out = None }; change = p.change })
-  own-ready p e image is = let o = outcome_of s.node p in record {
+  pub own-ready : (p : Ready) → checked step-of ≡ Ok (outcome_of s.node p) → IsMadeFor g s.node p.change → IsOwn s.node p.change
+      → IsReady g own s (record { done = record { reply = p.reply; effects = p.effects; out = None }; change = p.change })
+  own-ready p e made is = let o = outcome_of s.node p in record {
     move = own-move o;
     moves = own-is true ∙ ap (go-on own-move) (kept-true o step-of e);
     unsaved = own-is false ∙ ap (go-on own-move) (kept-false o step-of e) ∙ go-if own-move (saves p.change) o;
     done = record { reply = refl; effects = refl; letter = tt };
     after = after-own s p.change is;
-    fits = fits-own s p.change (within o step-of e) image is;
+    fits = (may-own s p.change (within o step-of e) made.0 is, made.1);
   }
 
   pub own-refused : (r : Refusal) → (checked step-of ≡ Err r) ⊎ ((r ≡ OutOfMemory) × IsOk step-of)
@@ -221,7 +222,7 @@ module _ (g : Weigher) (s : Station State) (event : Event) (now : ℕ) (up : s.n
 
   -- where the event is an own one
   pub own-plans : ((saved : Bool) → stepped g s event now None saved ≡ own saved) → Reads event None → (((q : Refusal) → stepped g s event now None true ≡ Err q → q ≡ CountSpent) → MayLack g s event now)
-      → (ready : Result Ready Refusal) → Readies step-of s.node ready → IfOk ready (λ p. IsOwn s.node p.change) → Plans g s event now (planned_of ready)
+      → (ready : Result Ready Refusal) → Readies g step-of s.node ready → IfOk ready (λ p. IsOwn s.node p.change) → Plans g s event now (planned_of ready)
   own-plans same reads lack (Ok p) h is = record { mail = None; reads = reads; ready = let x = own-ready p h.0 h.1 is in record { move = x.move; moves = same true ∙ x.moves; unsaved = same false ∙ x.unsaved; done = x.done; after = x.after; fits = x.fits } }
   own-plans same reads lack (Err r) h is = elim (own-refused r h) [
     | inl e ↦ inl (None, reads, same true ∙ e)
@@ -266,15 +267,15 @@ module _ (g : Weigher) (s : Station State) (from : Bytes) (m : Message State) (m
         ap (λ x. go-on taken-move (kept_by saved x)) delivers
         ∙ (let o = absorbs by_tables g s.node m.content None (covers_state s.node.known m.content) in letterless (passes_greatest o.node) (o.saves && not saved) o l)
 
-    pub taken-ready : (p : Ready) (out : Option Letter) → checked takes-of ≡ Ok (outcome_of s.node p) → IsImageOf s.node p.change → IsOf m.content s.node p.change → IsLetterOf mail out
-        → IsReady taken s (record { done = record { reply = p.reply; effects = p.effects; out = out }; change = p.change })
-    taken-ready p out e image of letter = let o = outcome_of s.node p in record {
+    pub taken-ready : (p : Ready) (out : Option Letter) → checked takes-of ≡ Ok (outcome_of s.node p) → IsMadeFor g s.node p.change → IsOf m.content s.node p.change → IsLetterOf mail out
+        → IsReady g taken s (record { done = record { reply = p.reply; effects = p.effects; out = out }; change = p.change })
+    taken-ready p out e made of letter = let o = outcome_of s.node p in record {
       move = taken-move o;
       moves = taken-is true ∙ ap (go-on taken-move) (kept-true o takes-of e);
       unsaved = taken-is false ∙ ap (go-on taken-move) (kept-false o takes-of e) ∙ go-if taken-move (saves p.change) o;
       done = record { reply = refl; effects = refl; letter = letter };
       after = after-of s m.content p.change of;
-      fits = fits-of s m.content p.change (within o takes-of e) image of;
+      fits = (may-of s m.content p.change (within o takes-of e) made.0 of, made.1);
     }
 
 -- ---- acknowledgements
@@ -289,9 +290,9 @@ module _ (g : Weigher) (s : Station State) (from to : Bytes) (n : ℕ) (up : s.n
   ack-taken : is_named to s.node.name ≡ true → nat_lt s.node.count n ≡ false → (saved : Bool) → mail_step by_tables g s (an_ack from to n) saved ≡ Ok acked-move
   ack-taken e f saved = λ i. ack-step (up i) (e i) (f i)
 
-  pub ack-ready : is_named to s.node.name ≡ true → nat_lt s.node.count n ≡ false → n ≤ s.node.count
-      → IsReady (mail_step by_tables g s (an_ack from to n)) s (record { done = record { reply = Acked; effects = []; out = None }; change = Acknowledges from n })
-  ack-ready e f within = record { move = acked-move; moves = ack-taken e f true; unsaved = ack-taken e f false; done = record { reply = refl; effects = refl; letter = tt }; after = refl; fits = within }
+  pub ack-ready : is_named to s.node.name ≡ true → nat_lt s.node.count n ≡ false → n ≤ s.node.count → keeps_placed g s.node ≡ true
+      → IsReady g (mail_step by_tables g s (an_ack from to n)) s (record { done = record { reply = Acked; effects = []; out = None }; change = Acknowledges from n })
+  ack-ready e f within keeps = record { move = acked-move; moves = ack-taken e f true; unsaved = ack-taken e f false; done = record { reply = refl; effects = refl; letter = tt }; after = refl; fits = (within, keeps) }
 
 -- ---- what is sent
 
@@ -309,9 +310,9 @@ module _ (g : Weigher) (s : Station State) (to : Bytes) (now : ℕ) (up : s.node
       → stepped g s (Ship to) now None saved ≡ Ok (record { done = record { reply = Sent; effects = [] }; letter = Some mail; station = s })
   ship-sent mail e f saved = λ i. ships (f i) (up i) (e i)
 
-  pub ship-ready : (mail : Mail State) (letter : Letter) → is_named to s.node.name ≡ false → shipped by_tables s to ≡ Some mail → IsLetter mail letter
+  pub ship-ready : (mail : Mail State) (letter : Letter) → is_named to s.node.name ≡ false → shipped by_tables s to ≡ Some mail → IsLetter mail letter → keeps_placed g s.node ≡ true
       → IsPlanOf g s (Ship to) now (record { done = record { reply = Sent; effects = []; out = Some letter }; change = Nothing })
-  ship-ready mail letter e f is = record {
+  ship-ready mail letter e f is keeps = record {
     mail = None;
     reads = tt;
     ready = record {
@@ -320,7 +321,7 @@ module _ (g : Weigher) (s : Station State) (to : Bytes) (now : ℕ) (up : s.node
       unsaved = ship-sent mail e f false;
       done = record { reply = refl; effects = refl; letter = is };
       after = refl;
-      fits = tt;
+      fits = (tt, keeps);
     };
   }
 
@@ -330,9 +331,9 @@ module _ (g : Weigher) (s : Station State) (to : Bytes) (now : ℕ) (up : s.node
   abbrev pushes : State → Outcome State
   pushes own = only s.node Sent [] (Some (record { to = to; kind = push; content = own }))
 
-  pub push-ready : (own : State) (letter : Letter) → is_named to s.node.name ≡ false → s.node.newest ≡ Some own → passes_greatest s.node ≡ false → IsLetter (a_push s.node.name to own) letter
+  pub push-ready : (own : State) (letter : Letter) → is_named to s.node.name ≡ false → s.node.newest ≡ Some own → passes_greatest s.node ≡ false → IsLetter (a_push s.node.name to own) letter → keeps_placed g s.node ≡ true
       → IsPlanOf g s (Push to) now (record { done = record { reply = Sent; effects = []; out = Some letter }; change = Nothing })
-  push-ready own letter e f w is = let sent = own-move g s (Push to) now up (pushes own) in record {
+  push-ready own letter e f w is keeps = let sent = own-move g s (Push to) now up (pushes own) in record {
     mail = None;
     reads = tt;
     ready = record {
@@ -341,7 +342,7 @@ module _ (g : Weigher) (s : Station State) (to : Bytes) (now : ℕ) (up : s.node
       unsaved = own-is g s (Push to) now up false ∙ (λ i. go-on (own-move g s (Push to) now up) (kept_by false (push-step (f i) (e i)))) ∙ ap (λ b. go-on (own-move g s (Push to) now up) (refused_if b CountSpent (Ok (pushes own)))) w;
       done = record { reply = refl; effects = refl; letter = is };
       after = sym (held-same s s.node (unwrap_or s.node.newest no_state) refl);
-      fits = tt;
+      fits = (tt, keeps);
     };
   }
 
@@ -404,7 +405,7 @@ module _ (g : Weigher) (s : Station State) (now : ℕ) (up : s.node.up ≡ true)
 -- an own event, by whatever name it goes
 module _ (g : Weigher) (s : Station State) (event : Event) (now : ℕ) (up : s.node.up ≡ true) where
   pub is_own : ((saved : Bool) → stepped g s event now None saved ≡ own g s event now up saved) → Reads event None → (((q : Refusal) → stepped g s event now None true ≡ Err q → q ≡ CountSpent) → MayLack g s event now)
-      → (ready : Result Ready Refusal) → Readies (step-of g s event now up) s.node ready → IfOk ready (λ p. IsOwn s.node p.change)
+      → (ready : Result Ready Refusal) → Readies g (step-of g s event now up) s.node ready → IfOk ready (λ p. IsOwn s.node p.change)
       → (other : Event) → other ≡ event → (result : Result Planned Refusal) → result ≡ planned_of ready → Plans g s other now result
   is_own same reads lack ready h is other e result f =
       subst (λ x. Plans g s x now result) (sym e) (subst (Plans g s event now) (sym f) (own-plans g s event now up same reads lack ready h is))

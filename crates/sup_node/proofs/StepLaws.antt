@@ -1,7 +1,10 @@
 -- What the checks of a step say, and what a step makes ready.
-use Rattle.std.specs.Prelude.{◌≡◌, ℕ, ◌+◌, ◌<◌, ◌≤◌, Bool, true, false, ◌||◌, nat_lt, is_ok, is_some, length, List, [], Option, Some, Result, Ok, Err, refl}
+use Rattle.std.specs.Str.{bytes_eq}
+use Rattle.std.specs.Map.{lookup}
+use Rattle.std.specs.Prelude.{◌≡◌, ℕ, ◌+◌, ◌<◌, ◌≤◌, Bool, true, false, ◌||◌, ◌&&◌, nat_lt, is_ok, is_some, length, List, [], Option, Some, Result, Ok, Err, refl}
 use Rattle.std.proofs.Common.{None, sym, ap, ◌∙◌, arith, subst}
 use Rattle.std.proofs.Math.Bool.{or-true}
+use Rattle.std.proofs.lemmas.Bool.{and_from}
 use mathlib.Core.Logic.{inl, inr}
 use Rattle.sup_specs.specs.Values.{Bytes}
 use Rattle.sup_specs.specs.declared.limits.TheConstants.{MAX}
@@ -16,24 +19,27 @@ use Rattle.sup_tables.specs.States.{State}
 use Rattle.sup_tables.specs.Joined.{join_states}
 use Rattle.sup_tables.specs.OneOperation.{state_of_one, next_at}
 use Rattle.sup_local_sup.specs.declared.effect.Effect.{Effect}
-use Rattle.sup_local_sup.specs.declared.wanted.Wanted.{Wanted}
 use Rattle.sup_local_sup.specs.declared.leaving.Leaving.{Leaving}
 use Rattle.sup_local_sup.specs.declared.leaving.Leaving.TheVariants.{Nobody}
-use Rattle.sup_local_sup.specs.Keeping.{newly}
 use Rattle.sup_local_sup.specs.Supervising.{Supervisor}
-use Rattle.sup_local_sup.specs.Planning.{Plan, plan_of, carried_out, kept_of_leaving, restarted}
+use Rattle.sup_local_sup.specs.declared.leaving.Ruling.TheVariants.{Restart}
+use Rattle.sup_local_sup.specs.Planning.{left, restarted, restart_effects}
+use Rattle.sup_local_sup.proofs.AgainLaws.{again_wanted, again_kept}
+use Rattle.sup_local_sup.proofs.KeptLaws.{none_more, none_less}
 use Rattle.sup_replica.specs.declared.refusal.Refusal.{Refusal}
 use Rattle.sup_replica.specs.declared.refusal.Refusal.TheVariants.{CountSpent}
 use Rattle.sup_replica.specs.declared.done.Reply.{Reply}
 use Rattle.sup_replica.specs.declared.done.Reply.TheVariants.{Added, Removed, Replaced, Restarted, Known}
 use Rattle.sup_replica.specs.Checks.{refused_if}
-use Rattle.sup_replica.specs.Nodes.{Node, Outcome, wanted_at}
-use Rattle.sup_replica.specs.Steps.{passes_greatest, only, issues, command}
+use Rattle.sup_replica.specs.Nodes.{Node, Outcome}
+use Rattle.sup_replica.specs.Steps.{passes_greatest, only, issues, command, exit_step, wanted}
 use Rattle.sup_replica.specs.Acts.{absorbs}
 use Rattle.sup_replica.specs.ByTables.{by_tables}
-use Rattle.sup_node.specs.declared.change.Change.TheVariants.{Nothing, Learns}
+use Rattle.sup_node.specs.declared.change.Change.TheVariants.{Nothing, Begins, Learns}
 use Rattle.sup_node.specs.declared.change.Ready.{Ready}
-use Rattle.sup_node.specs.Changes.{Readies, checked, newer, learns}
+use Rattle.sup_node.specs.declared.change.Intake.{Intake}
+use Rattle.sup_node.specs.Changes.{Readies, IsIntake, IsNoIntake, kept_by, wanted_with, checked, newer, learns}
+use Rattle.sup_node.specs.Placed.{keeps, keeps_placed}
 use Rattle.sup_node.proofs.PlanLaws.{not-above}
 
 lt-true : (n m : ℕ) → n + 1 ≤ m → nat_lt n m ≡ true
@@ -46,6 +52,9 @@ within_greatest n a b c = λ i. not-above MAX n.count a i || (not-above MAX n.su
 pub given_passes : (n : Node State) → MAX + 1 ≤ n.supervisor.given → passes_greatest n ≡ true
 given_passes n a = (λ i. nat_lt MAX n.count || (lt-true MAX n.supervisor.given a i || nat_lt MAX n.supervisor.boot)) ∙ or-true (nat_lt MAX n.count)
 
+pub count_passes : (n : Node State) → MAX + 1 ≤ n.count → passes_greatest n ≡ true
+count_passes n a = λ i. lt-true MAX n.count a i || (nat_lt MAX n.supervisor.given || nat_lt MAX n.supervisor.boot)
+
 -- an outcome whose numbers are in their limits is told, and another isn't
 pub is_told : (o : Outcome State) → passes_greatest o.node ≡ false → checked (Ok o) ≡ Ok o
 is_told o e = ap (λ b. refused_if b CountSpent (Ok o)) e
@@ -54,61 +63,69 @@ pub is_untold : (o : Outcome State) → passes_greatest o.node ≡ true → chec
 is_untold o e = ap (λ b. refused_if b CountSpent (Ok o)) e
 
 -- the same step makes the same ready
-pub ready_same : (step other : Result (Outcome State) Refusal) (n : Node State) (r : Result Ready Refusal) → step ≡ other → Readies other n r → Readies step n r
-ready_same step other n (Ok p) e h = (ap checked e ∙ h.0, h.1)
-ready_same step other n (Err refusal) e (inl f) = inl (ap checked e ∙ f)
-ready_same step other n (Err refusal) e (inr f) = inr (f.0, ap is_ok e ∙ f.1)
+pub ready_same : (g : Weigher) (step other : Result (Outcome State) Refusal) (n : Node State) (r : Result Ready Refusal) → step ≡ other → Readies g other n r → Readies g step n r
+ready_same g step other n (Ok p) e h = (ap checked e ∙ h.0, h.1)
+ready_same g step other n (Err refusal) e (inl f) = inl (ap checked e ∙ f)
+ready_same g step other n (Err refusal) e (inr f) = inr (f.0, ap is_ok e ∙ f.1)
 
 -- a delta that is taken in
-module _ (w : Weigher) (n : Node State) (own : Option State) (reply : Reply) (leaving : Leaving) (delta tables : State) (wanted : List Wanted) (te : tables ≡ join_states n.known delta) (we : wanted ≡ wanted_at w n.name tables.rows) where
-  abbrev made : State → List Effect → Supervisor → Outcome State
-  made t effects s = record {
+module _ (g : Weigher) (n : Node State) (own : Option State) (reply : Reply) (leaving : Leaving) (delta : State) where
+  abbrev made : Supervisor → List Effect → Outcome State
+  made s effects = record {
     done = record { reply = reply; effects = effects };
     letter = None;
-    node = record n { known = t; count = n.count + 1; supervisor = s; newest = newer own n.newest };
+    node = record n { known = join_states n.known delta; count = n.count + 1; supervisor = s; newest = newer own n.newest };
     saves = true;
   }
 
-  abbrev planned : State → List Wanted → Outcome State
-  planned t ws = made t (plan_of n.supervisor leaving ws).effects (carried_out n.supervisor (plan_of n.supervisor leaving ws))
+  module _ (intake : Intake) (effects : List Effect) (is : IsIntake g n leaving delta intake effects) where
+    is_made : learns g n own reply leaving delta ≡ made (kept_by n.supervisor intake) effects
+    is_made = λ i. made (sym is.kept i) (sym is.told i)
 
-  is_planned : learns w n own reply leaving delta ≡ planned tables wanted
-  is_planned = ap (λ t. planned t (wanted_at w n.name t.rows)) (sym te) ∙ ap (planned tables) (sym we)
+    -- the node keeps what is placed on it then
+    keeps_then : keeps (kept_by n.supervisor intake).kept (wanted_with g n delta) ≡ true
+    keeps_then =
+        let v = left n.supervisor leaving in
+        let ws = wanted_with g n delta in
+        ap (λ s. keeps s.kept ws) is.kept ∙ and_from _ _ (none_more v.boot v.given v.kept ws) (none_less v.boot v.given v.kept ws)
 
-  abbrev ready : ℕ → Plan → List Effect → Ready
-  ready boot plan effects = record {
-    reply = reply;
-    effects = effects;
-    change = Learns (record { image = record { node = n.name; boot = boot; count = n.count + 1; state = tables }; delta = delta; own = own; plan = plan });
-  }
+    pub learned_ready : n.count + 1 ≤ MAX → n.supervisor.boot ≤ MAX
+        → Readies g (Ok (learns g n own reply leaving delta)) n (Ok (record { reply = reply; effects = effects; change = Learns (record { intake = intake; delta = delta; own = own }) }))
+    learned_ready a c = (
+      ap (λ o. checked (Ok o)) is_made
+          ∙ is_told (made (kept_by n.supervisor intake) effects) (within_greatest (made (kept_by n.supervisor intake) effects).node a is.within c),
+      is.makes,
+      keeps_then,
+    )
 
-  pub learned_ready : (boot : ℕ) (whole plan : Plan) (effects : List Effect) → boot ≡ n.supervisor.boot → whole ≡ plan_of n.supervisor leaving wanted → plan ≡ record whole { effects = [] } → effects ≡ whole.effects
-      → n.count + 1 ≤ MAX → whole.given ≤ MAX → n.supervisor.boot ≤ MAX
-      → Readies (Ok (learns w n own reply leaving delta)) n (Ok (ready boot plan effects))
-  learned_ready boot whole plan effects be he pe ee a b c =
-      let is : learns w n own reply leaving delta ≡ made tables effects (carried_out n.supervisor plan) =
-      is_planned ∙ (λ i. made tables (sym he i).effects (carried_out n.supervisor (sym he i))) ∙ (λ i. made tables (sym ee i) (carried_out n.supervisor (sym pe i))) in (
-        ap (λ o. checked (Ok o)) is
-            ∙ is_told (made tables effects (carried_out n.supervisor plan)) (within_greatest (made tables effects (carried_out n.supervisor plan)).node a (subst (λ (p : Plan). p.given ≤ MAX) (sym pe) b) c),
-        λ i. record { node = n.name; boot = be i; count = n.count + 1; state = tables },
-      )
+  pub untaken : (r : Refusal) → IsNoIntake g n leaving delta r → Readies g (Ok (learns g n own reply leaving delta)) n (Err r)
+  untaken r (inl e) = inr (e, tt)
+  untaken r (inr e) = inl (is_untold (learns g n own reply leaving delta) (given_passes (learns g n own reply leaving delta).node (omega (arith, e.1))) ∙ ap Err (sym e.0))
 
-  pub spent : MAX < n.supervisor.given + length (newly (kept_of_leaving n.supervisor.kept leaving) wanted) → checked (Ok (learns w n own reply leaving delta)) ≡ Err CountSpent
-  spent h = ap (λ o. checked (Ok o)) is_planned ∙ is_untold (planned tables wanted) (given_passes (planned tables wanted).node (omega (arith, h)))
+  pub counts_spent : MAX ≤ n.count → checked (Ok (learns g n own reply leaving delta)) ≡ Err CountSpent
+  counts_spent h = is_untold (learns g n own reply leaving delta) (count_passes (learns g n own reply leaving delta).node (omega (arith, h)))
 
--- a restart
-module _ (w : Weigher) (n : Node State) (id : Bytes) (now : ℕ) where
-  abbrev again : List Effect → Outcome State
-  again effects = record { done = record { reply = Restarted; effects = effects }; node = record n { supervisor = restarted n.supervisor id now }; letter = None; saves = false }
+-- a restart keeps what is kept
+pub keeps_again : (g : Weigher) (n : Node State) (id : Bytes) (now : ℕ) → keeps_placed g n ≡ true → keeps_placed g (record n { supervisor = restarted n.supervisor id now }) ≡ true
+keeps_again g n id now h = (λ i. again_wanted n.supervisor id (wanted by_tables g n) i && again_kept n.supervisor id (wanted by_tables g n) i) ∙ h
+
+pub begun_ready : (g : Weigher) (n : Node State) (id again : Bytes) (now : ℕ) (effects : List Effect) → again ≡ id → effects ≡ restart_effects n.supervisor id (lookup (bytes_eq id) n.supervisor.kept)
+    → passes_greatest (record n { supervisor = restarted n.supervisor id now }) ≡ false → keeps_placed g n ≡ true
+    → Readies g (exit_step by_tables g n id now Restart) n (Ok (record { reply = Restarted; effects = effects; change = Begins again now }))
+begun_ready g n id again now effects same told passes keeps =
+    let o : List Effect → Outcome State = λ es. record { done = record { reply = Restarted; effects = es }; node = record n { supervisor = restarted n.supervisor id now }; letter = None; saves = false } in
+    subst (λ x. Readies g (exit_step by_tables g n id now Restart) n (Ok (record { reply = Restarted; effects = effects; change = Begins x now }))) (sym same)
+    (ap (λ es. checked (Ok (o es))) (sym told) ∙ is_told (o effects) passes, tt, keeps_again g n id now keeps)
 
 -- a delta that brings nothing new
-pub known_ready : (w : Weigher) (n : Node State) (delta : State) (covered : Bool) (effects : List Effect) → covered ≡ true → join_states n.known delta ≡ n.known → effects ≡ [] → passes_greatest n ≡ false
-    → Readies (Ok (absorbs by_tables w n delta None covered)) n (Ok (record { reply = Known; effects = effects; change = Nothing }))
-known_ready w n delta covered effects ce je ee pe = (
+pub known_ready : (w : Weigher) (n : Node State) (delta : State) (covered : Bool) (effects : List Effect) → covered ≡ true → join_states n.known delta ≡ n.known → effects ≡ [] → passes_greatest n ≡ false → keeps_placed w n ≡ true
+    → Readies w (Ok (absorbs by_tables w n delta None covered)) n (Ok (record { reply = Known; effects = effects; change = Nothing }))
+known_ready w n delta covered effects ce je ee pe keeps = (
   ap (λ b. checked (Ok (absorbs by_tables w n delta None b))) ce
       ∙ (λ i. checked (Ok (only (record n { known = je i }) Known (sym ee i) None)))
       ∙ is_told (only n Known effects None) pe,
   tt,
+  keeps,
 )
 
 -- where there is such a member, what a drain names are its dots

@@ -1,43 +1,69 @@
 -- What an act makes ready, and what a node becomes once that is carried out (this project).
-use Rattle.std.specs.Prelude.{ℕ, ◌≡◌, ◌+◌, Bool, true, false, List, [], Option, Some, None, Result, Ok, Err, IsOk}
+use Rattle.std.specs.Prelude.{ℕ, ◌≡◌, ◌+◌, ◌≤◌, ◌<◌, Bool, true, false, List, [], Option, Some, None, Result, Ok, Err, IsOk}
 use mathlib.Core.Logic.{◌⊎◌}
+use Rattle.sup_specs.specs.declared.limits.TheConstants.{MAX}
 use Rattle.sup_tables.specs.States.{State}
 use Rattle.sup_tables.specs.Joined.{join_states}
+use Rattle.sup_tables.specs.Planned.{IsPlanFor}
 use Rattle.sup_wire.specs.declared.image.Image.{Image}
 use Rattle.sup_anti_entropy.specs.Buffers.{holds_more}
 use Rattle.sup_placement.specs.Place.{Weigher}
 use Rattle.sup_local_sup.specs.declared.effect.Effect.{Effect}
 use Rattle.sup_local_sup.specs.declared.leaving.Leaving.{Leaving}
+use Rattle.sup_local_sup.specs.declared.wanted.Wanted.{Wanted}
+use Rattle.sup_local_sup.specs.Changing.{carried}
 use Rattle.sup_local_sup.specs.Planning.{carried_out, restarted, leaving_after, leaving_effects}
+use Rattle.sup_local_sup.specs.Supervising.{Supervisor}
 use Rattle.sup_replica.specs.declared.done.Reply.{Reply}
 use Rattle.sup_replica.specs.declared.done.Reply.TheVariants.{Boot}
 use Rattle.sup_replica.specs.declared.refusal.Refusal.{Refusal}
 use Rattle.sup_replica.specs.declared.refusal.Refusal.TheVariants.{OutOfMemory, CountSpent}
 use Rattle.sup_replica.specs.Checks.{refused_if, then_do}
-use Rattle.sup_replica.specs.Nodes.{Node, Outcome}
+use Rattle.sup_replica.specs.Nodes.{Node, Outcome, wanted_at}
 use Rattle.sup_replica.specs.ByTables.{by_tables}
 use Rattle.sup_replica.specs.Steps.{passes_greatest, wanted}
 use Rattle.sup_replica.specs.Stations.{Station, acknowledged}
 use Rattle.sup_node.specs.declared.change.Change.{Change}
 use Rattle.sup_node.specs.declared.change.Change.TheVariants.{Nothing, Begins, Learns, Acknowledges}
+use Rattle.sup_node.specs.declared.change.Intake.{Intake}
+use Rattle.sup_node.specs.declared.change.Intake.TheVariants.{Whole, Touched}
 use Rattle.sup_node.specs.declared.change.Learned.{Learned}
 use Rattle.sup_node.specs.declared.change.Ready.{Ready}
+use Rattle.sup_node.specs.Placed.{keeps_placed}
 
 -- what a node keeps
 abbrev pub image_of : Node State → Image
 image_of n = record { node = n.name; boot = n.supervisor.boot; count = n.count; state = n.known }
+
+-- what it is to keep once its tables are these
+abbrev pub image_with : Node State → State → Image
+image_with n known = record { node = n.name; boot = n.supervisor.boot; count = n.count + 1; state = known }
 
 -- the newest own operation, where this one is own or none
 abbrev pub newer : Option State → Option State → Option State
 newer (Some own) old = Some own
 newer None old = old
 
--- tables that took in a delta, and what is kept then
+-- whether tables of the first state become the second's
+abbrev pub Makes : Intake → State → State → Type 0
+Makes (Whole tables plan) old new = tables ≡ new
+Makes (Touched tables plan) old new = IsPlanFor tables old new
+
+-- the supervisor then
+abbrev pub supervised : Supervisor → Intake → Supervisor
+supervised s (Whole tables plan) = carried_out s plan
+supervised s (Touched tables plan) = carried s plan
+
+-- which is in the same boot
+abbrev pub kept_by : Supervisor → Intake → Supervisor
+kept_by s intake = record s { kept = (supervised s intake).kept; given = (supervised s intake).given; window = (supervised s intake).window }
+
+-- a node that took in a delta
 abbrev pub learned : Node State → Learned → Node State
 learned n l = record n {
-  known = l.image.state;
-  count = l.image.count;
-  supervisor = carried_out n.supervisor l.plan;
+  known = join_states n.known l.delta;
+  count = n.count + 1;
+  supervisor = kept_by n.supervisor l.intake;
   newest = newer l.own n.newest;
 }
 
@@ -55,18 +81,22 @@ saves (Learns l) = true
 saves (Acknowledges from number) = false
 
 -- the image that is saved, if it changes
-abbrev pub image_in : Change → Option Image
-image_in Nothing = None
-image_in (Begins id now) = None
-image_in (Learns l) = Some l.image
-image_in (Acknowledges from number) = None
+abbrev pub image_after : Node State → Change → Option Image
+image_after n Nothing = None
+image_after n (Begins id now) = None
+image_after n (Learns l) = Some (image_of (learned n l))
+image_after n (Acknowledges from number) = None
 
--- the change's image is the changed node's
-abbrev pub IsImageOf : Node State → Change → Type 0
-IsImageOf n Nothing = Unit {0}
-IsImageOf n (Begins id now) = Unit {0}
-IsImageOf n (Learns l) = l.image ≡ image_of (learned n l)
-IsImageOf n (Acknowledges from number) = Unit {0}
+-- what a change's tables ask of the node: that its own become those with the delta
+abbrev pub MakesOf : Node State → Change → Type 0
+MakesOf n Nothing = Unit {0}
+MakesOf n (Begins id now) = Unit {0}
+MakesOf n (Learns l) = Makes l.intake n.known (join_states n.known l.delta)
+MakesOf n (Acknowledges from number) = Unit {0}
+
+-- the change is made for the node: it keeps what is placed on it then
+abbrev pub IsMadeFor : Weigher → Node State → Change → Type 0
+IsMadeFor g n change = MakesOf n change × (keeps_placed g (changed n change) ≡ true)
 
 -- the same of a station: what it learned stands behind the held deltas, and an acknowledged number only rises
 abbrev pub station_after : Station State → Change → Station State
@@ -79,14 +109,14 @@ station_after s (Acknowledges from number) = acknowledged by_tables s from numbe
 abbrev pub IsOwn : Node State → Change → Type 0
 IsOwn n Nothing = Unit {0}
 IsOwn n (Begins id now) = Unit {0}
-IsOwn n (Learns l) = (l.own ≡ Some l.delta) × (l.image.count ≡ n.count + 1)
+IsOwn n (Learns l) = l.own ≡ Some l.delta
 IsOwn n (Acknowledges from number) = ⊥
 
 -- the change counts this delta of another's, if it learns one
 abbrev pub IsOf : State → Node State → Change → Type 0
 IsOf delta n Nothing = Unit {0}
 IsOf delta n (Begins id now) = ⊥
-IsOf delta n (Learns l) = (l.own ≡ None) × (l.delta ≡ delta) × (l.image.count ≡ n.count + 1)
+IsOf delta n (Learns l) = (l.own ≡ None) × (l.delta ≡ delta)
 IsOf delta n (Acknowledges from number) = ⊥
 
 -- what is told and becomes, where no number passes the greatest
@@ -98,9 +128,9 @@ outcome_of n p = record { done = record { reply = p.reply; effects = p.effects }
 
 -- what is ready is the step's outcome, or it is refused as the step says; or for memory, and that only where the step says no refusal but of
 -- numbers
-abbrev pub Readies : Result (Outcome State) Refusal → Node State → Result Ready Refusal → Type 0
-Readies step n (Ok p) = (checked step ≡ Ok (outcome_of n p)) × IsImageOf n p.change
-Readies step n (Err r) = (checked step ≡ Err r) ⊎ ((r ≡ OutOfMemory) × IsOk step)
+abbrev pub Readies : Weigher → Result (Outcome State) Refusal → Node State → Result Ready Refusal → Type 0
+Readies g step n (Ok p) = (checked step ≡ Ok (outcome_of n p)) × IsMadeFor g n p.change
+Readies g step n (Err r) = (checked step ≡ Err r) ⊎ ((r ≡ OutOfMemory) × IsOk step)
 
 -- a stopped node, by its image
 abbrev pub stopped_node : ℕ → ℕ → Image → Node State
@@ -121,6 +151,21 @@ RestartsAs step (Err r) = (checked step ≡ Err r) ⊎ ((r ≡ OutOfMemory) × I
 -- a node that takes in a delta, of its own operation or of others'
 abbrev pub with_delta : Node State → Option State → State → Node State
 with_delta n own delta = record n { known = join_states n.known delta; count = n.count + 1; newest = newer own n.newest }
+
+-- what is wanted of it
+abbrev pub wanted_with : Weigher → Node State → State → List Wanted
+wanted_with g n delta = wanted_at g n.name (join_states n.known delta).rows
+
+-- how a delta is taken in: the tables become those with it, and what is kept and told is what is wanted then, without those that leave
+pub record IsIntake (g : Weigher) (n : Node State) (leaving : Leaving) (delta : State) (intake : Intake) (effects : List Effect) : Type 0 where
+  pub makes : Makes intake n.known (join_states n.known delta)
+  pub kept : kept_by n.supervisor intake ≡ leaving_after n.supervisor leaving (wanted_with g n delta)
+  pub told : effects ≡ leaving_effects n.supervisor leaving (wanted_with g n delta)
+  pub within : (kept_by n.supervisor intake).given ≤ MAX
+
+-- why it isn't: for memory, or since an incarnation would pass the greatest number
+abbrev pub IsNoIntake : Weigher → Node State → Leaving → State → Refusal → Type 0
+IsNoIntake g n leaving delta r = (r ≡ OutOfMemory) ⊎ ((r ≡ CountSpent) × (MAX < (leaving_after n.supervisor leaving (wanted_with g n delta)).given))
 
 -- and then keeps what is wanted, without those that leave
 abbrev pub learns : Weigher → Node State → Option State → Reply → Leaving → State → Outcome State

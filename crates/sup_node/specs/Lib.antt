@@ -1,7 +1,10 @@
+pub mod Placed
 pub mod Changes
 pub mod Carrying
 pub mod Texts
 pub mod Contents
 pub mod NodeSteps
+pub mod Openings
+pub mod OpenNodes
 pub mod Taking
 pub mod Whereabouts

@@ -3,6 +3,7 @@ use Rattle.std.specs.Prelude.{◌≡◌, ◌+◌, ◌≤◌, ℕ, Bool, true, fa
 use mathlib.Core.Logic.{◌⊎◌}
 use Rattle.sup_specs.specs.Values.{Bytes}
 use Rattle.sup_tables.specs.States.{State}
+use Rattle.sup_tables.specs.Joined.{join_states}
 use Rattle.sup_placement.specs.Place.{Weigher}
 use Rattle.sup_wire.specs.declared.image.Image.{Image}
 use Rattle.sup_replica.specs.Configs.{Config}
@@ -21,7 +22,8 @@ use Rattle.sup_replica.specs.Stations.{Station, Mail, Move, station_step}
 use Rattle.sup_node.specs.declared.change.Change.{Change}
 use Rattle.sup_node.specs.declared.change.Change.TheVariants.{Nothing, Begins, Learns, Acknowledges}
 use Rattle.sup_node.specs.declared.planned.Planned.{Planned}
-use Rattle.sup_node.specs.Changes.{stopped_node, changed, learned, saves, station_after, image_of}
+use Rattle.sup_node.specs.Changes.{stopped_node, changed, learned, saves, station_after, Makes}
+use Rattle.sup_node.specs.Placed.{keeps_placed}
 use Rattle.sup_node.specs.Texts.{IsReadAs, IsDoneOf, reads_as}
 
 -- what an event's bytes are read as, where it brings a message; nothing is asked of another
@@ -52,26 +54,31 @@ MayLack g s event now = (r : Refusal) → stepped g s event now None true ≡ Er
 abbrev pub IsRefused : Weigher → Station State → Event → ℕ → Refusal → Type 0
 IsRefused g s event now r = ((mail : Option (Mail State)) × Reads event mail × (stepped g s event now mail true ≡ Err r)) ⊎ ((r ≡ OutOfMemory) × MayLack g s event now)
 
--- what an event's plan asks of the node that carries it out: no number passes the greatest, and no more is acknowledged than there is
-abbrev pub Fits : Station State → Change → Type 0
-Fits s Nothing = Unit {0}
-Fits s (Begins id now) = passes_greatest (changed s.node (Begins id now)) ≡ false
-Fits s (Learns l) = (passes_greatest (learned s.node l) ≡ false) × (l.image ≡ image_of (learned s.node l)) × (l.image.count ≡ s.node.count + 1)
-Fits s (Acknowledges from number) = number ≤ s.node.count
+-- what a change asks of the node that it is carried out at, whatever children are weighed by: no number passes the greatest, its tables become those
+-- with the delta, and no more is acknowledged than there is
+abbrev pub MayChange : Station State → Change → Type 0
+MayChange s Nothing = Unit {0}
+MayChange s (Begins id now) = passes_greatest (changed s.node (Begins id now)) ≡ false
+MayChange s (Learns l) = (passes_greatest (learned s.node l) ≡ false) × Makes l.intake s.node.known (join_states s.node.known l.delta)
+MayChange s (Acknowledges from number) = number ≤ s.node.count
+
+-- what an event's plan asks of it: that, and that the node keeps what is placed on it then
+abbrev pub Fits : Weigher → Station State → Change → Type 0
+Fits g s change = MayChange s change × (keeps_placed g (changed s.node change) ≡ true)
 
 -- what is made ready is the step's move, and what the node becomes; where its save fails, it is refused
-pub record IsReady (step : Bool → Result (Move State) Refusal) (s : Station State) (p : Planned) : Type 0 where
+pub record IsReady (g : Weigher) (step : Bool → Result (Move State) Refusal) (s : Station State) (p : Planned) : Type 0 where
   pub move : Move State
   pub moves : step true ≡ Ok move
   pub unsaved : step false ≡ (if saves p.change then Err KeepFailed else Ok move)
   pub done : IsDoneOf move p.done
   pub after : station_after s p.change ≡ move.station
-  pub fits : Fits s p.change
+  pub fits : Fits g s p.change
 
 pub record IsPlanOf (g : Weigher) (s : Station State) (event : Event) (now : ℕ) (p : Planned) : Type 0 where
   pub mail : Option (Mail State)
   pub reads : Reads event mail
-  pub ready : IsReady (stepped g s event now mail) s p
+  pub ready : IsReady g (stepped g s event now mail) s p
 
 abbrev pub Plans : Weigher → Station State → Event → ℕ → Result Planned Refusal → Type 0
 Plans g s event now (Ok p) = IsPlanOf g s event now p

@@ -12,7 +12,7 @@ use Rattle.sup_node.specs.declared.planned.Planned.{Planned}
 use Rattle.sup_node.specs.NodeSteps.{IsReady}
 
 abbrev pub Takes : Weigher → Station State → Mail State → Result Planned Refusal → Type 0
-Takes g s mail (Ok p) = IsReady (mail_step by_tables g s mail) s p
+Takes g s mail (Ok p) = IsReady g (mail_step by_tables g s mail) s p
 Takes g s mail (Err r) = (mail_step by_tables g s mail true ≡ Err r) ⊎ (r ≡ OutOfMemory)
 
 -- what was made ready, with no letter

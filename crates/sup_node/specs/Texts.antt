@@ -1,5 +1,6 @@
 -- What the bytes of a letter or an image say (this project): the forms of messages and images.
-use Rattle.std.specs.Prelude.{◌≡◌, false, [], Option, Some, None}
+use Rattle.std.specs.Prelude.{◌≡◌, ℕ, false, [], Option, Some, None}
+use Rattle.std.specs.Global.{Vec}
 use Rattle.sup_specs.specs.Values.{Bytes}
 use Rattle.sup_tables.specs.States.{State}
 use Rattle.sup_wire.specs.declared.message.Message.{Message}
@@ -33,6 +34,19 @@ pub record IsImageText (text : Bytes) (i : Image) : Type 0 where
   pub form : IsTextOf IsDraftOfImage IsImageInRange text i
   pub says : Says IsDraftOfImage text i
   pub whole : IsWholeImage i
+
+-- a text of the image, which says it where its numbers are in their range
+pub record IsWritten (text : Bytes) (i : Image) : Type 0 where
+  pub form : IsTextOf IsDraftOfImage IsImageInRange text i
+  pub says : IsImageInRange i → Says IsDraftOfImage text i
+  pub whole : IsWholeImage i
+
+-- the same where there is an image
+abbrev pub IsWrittenOf : Option Image → Option (Vec ℕ) → Type 0
+IsWrittenOf None None = Unit {0}
+IsWrittenOf None (Some text) = ⊥
+IsWrittenOf (Some image) None = ⊥
+IsWrittenOf (Some image) (Some text) = IsWritten text.items image
 
 -- the mail that bytes are read as; none where no message has these bytes
 abbrev pub IsReadAs : Bytes → Option (Mail State) → Type 0

@@ -1,9 +1,8 @@
 //! What an act makes ready, so that it can be carried out with no more to be looked for.
-use sup_local_sup::{Effects, Plan};
+use sup_local_sup::{Effects, Plan, PlannedChange};
 use sup_replica::Reply;
 use sup_specs::{ChildId, NodeName};
-use sup_tables::Tables;
-use sup_wire::Image;
+use sup_tables::{PlannedTables, Tables};
 
 /// What becomes of a node.
 #[derive(Drop)]
@@ -17,15 +16,22 @@ pub(crate) enum Change {
     Acknowledges(NodeName, u64),
 }
 
-/// Tables that took in a delta.
+/// A delta that is taken in.
 #[derive(Drop)]
 pub(crate) struct Learned {
-    // The node's image with them.
-    pub image: Image,
+    pub intake: Intake,
     pub delta: Tables,
     // The delta once more, where it is of the node's own operation.
     pub own: Option<Tables>,
-    pub plan: Plan,
+}
+
+/// How tables and kept children become what they are with a delta.
+#[derive(Drop)]
+pub(crate) enum Intake {
+    /// By these tables, which know both, and a plan of all that is kept.
+    Whole(Tables, Plan),
+    /// By plans of what the delta touches.
+    Touched(PlannedTables, PlannedChange),
 }
 
 /// What an act answers, and what becomes of the node.

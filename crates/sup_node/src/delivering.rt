@@ -1,5 +1,5 @@
 //! What becomes of bytes that come.
-ghost use Rattle.std.specs.Prelude.{◌≢◌, ℕ, false};
+ghost use Rattle.std.specs.Prelude.{◌≡◌, ◌≢◌, ℕ, true, false};
 ghost use Rattle.sup_replica.specs.declared.event.Event.TheVariants.{Deliver};
 ghost use Rattle.sup_placement.specs.Place.{Weigher};
 ghost use Rattle.sup_wire.specs.Faults.{IsInRange};
@@ -7,6 +7,7 @@ ghost use Rattle.sup_wire.specs.Forms.{IsCount};
 ghost use Rattle.sup_replica.specs.Stations.{a_delta, a_push, an_ack};
 ghost use Rattle.sup_node.specs.Contents.{station_in};
 ghost use Rattle.sup_node.specs.NodeSteps.{Plans};
+ghost use Rattle.sup_node.specs.Placed.{keeps_placed};
 ghost use Rattle.sup_node.specs.Taking.{Takes};
 ghost use Rattle.sup_node.specs.Texts.{mail_of};
 
@@ -26,6 +27,7 @@ impl NodeState {
         bytes: &MessageText,
         weigher: &W,
     ) -> Result<Planned, Refusal>
+        requires { keeps_placed W.weight_of (station_in self.now).node ≡ true }
         ensures { (now : ℕ) → Plans W.weight_of (station_in self.now) (Deliver bytes.now) now result }
     {
         match decode(self.replica.alloc(), bytes.as_slice()) {
@@ -37,7 +39,8 @@ impl NodeState {
 
     // A message comes.
     fn take<W: Weigh>(&self, message: Message, weigher: &W) -> Result<Planned, Refusal>
-        requires { IsInRange message }
+        requires keeps { keeps_placed W.weight_of (station_in self.now).node ≡ true }
+        requires in_range { IsInRange message }
         ensures { Takes W.weight_of (station_in self.now) (mail_of message) result }
     {
         match message {
@@ -49,7 +52,7 @@ impl NodeState {
 
     // A peer has what it was sent.
     fn take_ack(&self, from: NodeName, to: &NodeName, n: u64) -> Result<Planned, Refusal>
-        ensures { (g : Weigher) → Takes g (station_in self.now) (an_ack from to.now n) result }
+        ensures { (g : Weigher) → keeps_placed g (station_in self.now).node ≡ true → Takes g (station_in self.now) (an_ack from to.now n) result }
     {
         if !self.replica.is_named(to) {
             return Err(Refusal::WrongReceiver);
@@ -68,6 +71,7 @@ impl NodeState {
         delta: Tables,
         weigher: &W,
     ) -> Result<Planned, Refusal>
+        requires { keeps_placed W.weight_of (station_in self.now).node ≡ true }
         ensures { Takes W.weight_of (station_in self.now) (a_push from to.now delta) result }
     {
         if !self.replica.is_named(to) {
@@ -86,6 +90,7 @@ impl NodeState {
         delta: Tables,
         weigher: &W,
     ) -> Result<Planned, Refusal>
+        requires keeps { keeps_placed W.weight_of (station_in self.now).node ≡ true }
         requires differ { from ≢ to.now }
         requires number { IsCount n }
         ensures { Takes W.weight_of (station_in self.now) (a_delta from to.now n false delta) result }

@@ -5,6 +5,8 @@ mod change;
 mod delivering;
 mod letters;
 pub mod node;
+mod opened;
+pub mod opening;
 mod placing;
 pub mod planned;
 mod planning;
@@ -15,6 +17,7 @@ pub mod state;
 pub mod whereis;
 
 pub use node::Node;
+pub use opening::OpenNode;
 pub use planned::Planned;
 pub use state::NodeState;
 pub use whereis::Whereis;

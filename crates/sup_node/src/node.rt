@@ -1,5 +1,7 @@
 //! A node.
-ghost use Rattle.std.specs.Prelude.{◌≡◌, true, false, IfOk, IsErr, OnOk, OnErr, MatchResult};
+ghost use Rattle.std.specs.Prelude.{◌≡◌, true, IfOk, IsErr, OnOk, OnErr, MatchResult};
+ghost use Rattle.sup_node.specs.Contents.{station_in};
+ghost use Rattle.sup_node.specs.Placed.{keeps_placed};
 
 use crate::planned::Planned;
 use crate::state::NodeState;
@@ -15,17 +17,19 @@ use sup_wire::Image;
 #[derive(Drop)]
 pub struct Node<W: Weigh> {
     pub(crate) state: NodeState,
-    weigher: PhantomData<W>,
+    pub(crate) weigher: PhantomData<W>,
+    pub ghost keeps: { keeps_placed W.weight_of (station_in state).node ≡ true },
 }
 
 impl<W: Weigh> Node<W> {
     ghost use Rattle.sup_node.specs.Carrying.{takes_memory};
-    ghost use Rattle.sup_node.specs.Changes.{saves, station_after};
-    ghost use Rattle.sup_node.specs.Contents.{station_in, station_of};
+    ghost use Rattle.sup_node.specs.Changes.{station_after};
+    ghost use Rattle.sup_node.specs.Contents.{station_of};
     ghost use Rattle.sup_node.specs.NodeSteps.{Plans, Goes, Fits, IsRestart, IsRestartRefused, fresh_station};
 
     /// The node that is in this state.
     pub fn of(state: NodeState) -> Node<W>
+        requires { keeps_placed W.weight_of (station_in state).node ≡ true }
         ensures { station_of result ≡ station_in state }
     {
         Node {
@@ -79,18 +83,17 @@ impl<W: Weigh> Node<W> {
     ///
     /// # Errors
     ///
-    /// Refused only for memory, and that for an acknowledgement alone. The node is unchanged then.
+    /// Refused only for memory, and that for an acknowledgement or a change of the tables alone. The node is unchanged then.
     pub fn carry_out(&mut self, planned: Planned) -> Result<Done, AllocError>
-        requires { Fits (station_of self.old) planned.change }
+        requires { Fits W.weight_of (station_of self.old) planned.change }
         ensures done { IfOk result (λ done. done ≡ planned.done) }
         ensures becomes { OnOk result (station_of self.new ≡ station_after (station_of self.old) planned.change) }
         ensures refused { OnErr result (station_of self.new ≡ station_of self.old) }
-        ensures saved { IsErr result → saves planned.change ≡ false }
         ensures only { IsErr result → takes_memory planned.change ≡ true }
     {
         let Planned { done, change } = planned;
         self.state.carry_out(change)?;
-        // Where one message brings nothing new, the next ones may bring nothing either: they are looked up.
+        // Where memory for it was refused before, an index is made again.
         if matches!(&done.reply, Reply::Known) {
             self.state.index_rows();
         }
@@ -101,7 +104,7 @@ impl<W: Weigh> Node<W> {
     ///
     /// # Errors
     ///
-    /// As [`Node::plan`] tells; and `OutOfMemory` for an acknowledgement. The node is unchanged then.
+    /// As [`Node::plan`] tells; and `OutOfMemory` as [`Node::carry_out`] tells. The node is unchanged then.
     pub fn step(&mut self, event: Event, now: u64, weigher: &W) -> Result<Done, Refusal>
         ensures { Goes W.weight_of (station_of self.old) event now result (station_of self.new) }
     {

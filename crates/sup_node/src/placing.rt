@@ -68,7 +68,7 @@ fn push_wanted<W: Weigh>(
 }
 
 // Whether a child is placed on this node.
-fn is_here<W: Weigh>(weigher: &W, me: &NodeName, hosts: &[NodeName], id: &ChildId) -> bool
+pub(crate) fn is_here<W: Weigh>(weigher: &W, me: &NodeName, hosts: &[NodeName], id: &ChildId) -> bool
     ensures { result ≡ is_placed_on me.now (place W.weight_of hosts.now id.now) }
 {
     match place(weigher, hosts, id) {

@@ -1,16 +1,13 @@
 //! An event that is made ready.
 ghost use Rattle.std.specs.Prelude.{◌≡◌, [], Some, None};
-ghost use Rattle.std.specs.Option.{option_copied};
 ghost use Rattle.sup_replica.specs.declared.done.Reply.TheVariants.{Sent, Acked};
 ghost use Rattle.sup_node.specs.declared.change.Change.TheVariants.{Nothing, Acknowledges};
-ghost use Rattle.sup_node.specs.Changes.{image_in};
 
 use crate::change::{Change, Ready};
 use std::alloc::Global;
 use sup_local_sup::Effects;
 use sup_replica::{Done, Letter, Reply};
 use sup_specs::NodeName;
-use sup_wire::Image;
 
 /// What an event answers, and what becomes of the node, made ready by [`Node::plan`](crate::Node::plan). It borrows nothing.
 #[derive(Drop)]
@@ -25,16 +22,6 @@ impl Planned {
         ensures { result.now ≡ self.now.done }
     {
         &self.done
-    }
-
-    /// The image of the node that is to be, if it changes: it is saved before the event is carried out.
-    pub fn image(&self) -> Option<&Image>
-        ensures { option_copied result ≡ image_in self.now.change }
-    {
-        match &self.change {
-            Change::Learns(learned) => Some(&learned.image),
-            _ => None,
-        }
     }
 
     // A letter leaves, and nothing changes.

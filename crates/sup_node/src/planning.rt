@@ -1,7 +1,8 @@
 //! Events, each made ready where it belongs.
-ghost use Rattle.std.specs.Prelude.{◌≡◌};
+ghost use Rattle.std.specs.Prelude.{◌≡◌, true};
 ghost use Rattle.sup_node.specs.Contents.{station_in};
 ghost use Rattle.sup_node.specs.NodeSteps.{Plans};
+ghost use Rattle.sup_node.specs.Placed.{keeps_placed};
 ghost use Rattle.sup_node.specs.Taking.{planned_of};
 
 use crate::change::Ready;
@@ -18,6 +19,7 @@ impl NodeState {
         now: u64,
         weigher: &W,
     ) -> Result<Planned, Refusal>
+        requires { keeps_placed W.weight_of (station_in self.now).node ≡ true }
         ensures { Plans W.weight_of (station_in self.now) event.now now result }
     {
         let replica = &self.replica;

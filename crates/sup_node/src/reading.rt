@@ -1,10 +1,14 @@
 //! What is read of a node.
 ghost use Rattle.std.specs.Prelude.{◌≡◌, length, IfOk};
-ghost use Rattle.sup_node.specs.Changes.{image_of};
+ghost use Rattle.sup_node.specs.Changes.{image_of, image_after};
 ghost use Rattle.sup_node.specs.Contents.{station_of, where_told};
+ghost use Rattle.sup_node.specs.NodeSteps.{Fits};
+ghost use Rattle.sup_node.specs.Texts.{IsWrittenOf};
 ghost use Rattle.sup_node.specs.Whereabouts.{where_is};
 
+use crate::change::Change;
 use crate::node::Node;
+use crate::planned::Planned;
 use crate::whereis::Whereis;
 use std::alloc::AllocError;
 use sup_local_sup::KeptList;
@@ -78,6 +82,25 @@ impl<W: Weigh> Node<W> {
             count: replica.count(),
             state: replica.tables().try_clone(replica.alloc())?,
         })
+    }
+
+    /// The text of the image of the node that is to be, if what was made ready changes it: it is saved before the change is
+    /// carried out. The node is as it was when it was planned.
+    ///
+    /// # Errors
+    ///
+    /// Refused only for memory.
+    pub fn text_after(&self, planned: &Planned) -> Result<Option<Vec<u8>>, AllocError>
+        requires { Fits W.weight_of (station_of self.now) planned.now.change }
+        ensures { IfOk result (λ text. IsWrittenOf (image_after (station_of self.now).node planned.now.change) text) }
+    {
+        match &planned.change {
+            Change::Learns(learned) => {
+                let text = self.state.replica.text_with(&learned.intake)?;
+                Ok(Some(text))
+            }
+            _ => Ok(None),
+        }
     }
 
     /// Where a name leads: to its child, and to the member that the child is placed on. Of several entries of a name the

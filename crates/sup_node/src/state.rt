@@ -1,8 +1,10 @@
 //! What a node is, whatever its children are weighed by.
-ghost use Rattle.std.specs.Prelude.{◌≡◌, true, false, IfOk, IsErr, OnOk, OnErr, MatchResult};
+ghost use Rattle.std.specs.Prelude.{◌≡◌, ◌<◌, ◌≤◌, true, IfOk, IfErr, IsErr, OnOk, OnErr, MatchResult};
+ghost use Rattle.sup_specs.specs.declared.limits.TheConstants.{MAX as MOST};
 ghost use Rattle.sup_anti_entropy.specs.Contents.{buffer_of};
 
-use crate::change::{Change, Learned};
+use crate::change::{Change, Intake, Learned};
+use crate::opened::{OpenIntake, OpenState};
 use crate::replica::Replica;
 use std::alloc::{AllocError, Global};
 use sup_anti_entropy::Buffer;
@@ -24,9 +26,12 @@ pub struct NodeState {
 impl NodeState {
     ghost use Rattle.sup_node.specs.declared.change.Change.TheVariants.{Learns};
     ghost use Rattle.sup_node.specs.Carrying.{takes_memory};
-    ghost use Rattle.sup_node.specs.Changes.{saves, station_after};
+    ghost use Rattle.sup_tables.specs.Joined.{join_states};
+    ghost use Rattle.sup_node.specs.Changes.{Makes, kept_by, station_after};
     ghost use Rattle.sup_node.specs.Contents.{station_in};
-    ghost use Rattle.sup_node.specs.NodeSteps.{Fits, IsRestart, IsRestartRefused, fresh_station};
+    ghost use Rattle.sup_node.specs.NodeSteps.{MayChange, IsRestart, IsRestartRefused, fresh_station};
+    ghost use Rattle.sup_node.specs.Openings.{IsOpenState};
+    ghost use Rattle.sup_node.specs.Placed.{keeps_placed};
 
     /// A node that was just made: in its first boot, with empty tables.
     ///
@@ -53,7 +58,8 @@ impl NodeState {
         config: Config,
         weigher: &W,
     ) -> Result<(NodeState, Effects), Refusal>
-        ensures { MatchResult result (λ r. IsRestart W.weight_of config image r.1 (station_in r.0)) (λ r. IsRestartRefused W.weight_of config image r) }
+        ensures restarts { MatchResult result (λ r. IsRestart W.weight_of config image r.1 (station_in r.0)) (λ r. IsRestartRefused W.weight_of config image r) }
+        ensures keeps { IfOk result (λ r. keeps_placed W.weight_of (station_in r.0).node ≡ true) }
     {
         let intensity = config.intensity() as usize;
         let period = config.period() as u64;
@@ -63,20 +69,16 @@ impl NodeState {
         Ok((NodeState { replica, buffer }, effects))
     }
 
-    // What is ready is carried out. It can only be refused where a peer's number has to be noted.
+    // What is ready is carried out. It can be refused where rows come, or where a peer's number has to be noted.
     pub(crate) fn carry_out(&mut self, change: Change) -> Result<(), AllocError>
-        requires { Fits (station_in self.old) change }
+        requires { MayChange (station_in self.old) change }
         ensures ok { OnOk result (station_in self.new ≡ station_after (station_in self.old) change) }
         ensures err { OnErr result (station_in self.new ≡ station_in self.old) }
-        ensures saved { IsErr result → saves change ≡ false }
         ensures only { IsErr result → takes_memory change ≡ true }
     {
         match change {
             Change::Acknowledges(from, n) => self.buffer.acked(from, n),
-            Change::Learns(learned) => {
-                self.learn(learned);
-                Ok(())
-            }
+            Change::Learns(learned) => self.learn(learned),
             Change::Begins(id, now) => {
                 self.replica.begin(&id, now);
                 Ok(())
@@ -92,18 +94,43 @@ impl NodeState {
         self.replica.index_rows();
     }
 
-    // The tables have more, what is kept follows them, and the delta stands behind the held ones.
-    fn learn(&mut self, learned: Learned)
-        requires { Fits (station_in self.old) (Learns learned) }
-        ensures { station_in self.new ≡ station_after (station_in self.old) (Learns learned) }
+    // A delta is taken in, and stands behind the held ones.
+    fn learn(&mut self, learned: Learned) -> Result<(), AllocError>
+        requires count { self.old.replica.count < MOST }
+        requires given { (kept_by self.old.replica.supervisor learned.intake).given ≤ MOST }
+        requires tables { Makes learned.intake self.old.replica.known (join_states self.old.replica.known learned.delta) }
+        ensures ok { OnOk result (station_in self.new ≡ station_after (station_in self.old) (Learns learned)) }
+        ensures err { OnErr result (station_in self.new ≡ station_in self.old) }
     {
-        let Learned {
-            image,
+        let Learned { intake, delta, own } = learned;
+        self.replica.take_in(intake, own)?;
+        let _noted = self.buffer.note(delta);
+        Ok(())
+    }
+
+    // Takes all memory that a delta wants. An `Err` is want of memory, and gives the state back.
+    pub(crate) fn open(self, learned: Learned) -> Result<OpenState, NodeState>
+        requires count { self.replica.count < MOST }
+        requires given { (kept_by self.replica.supervisor learned.intake).given ≤ MOST }
+        requires tables { Makes learned.intake self.replica.known (join_states self.replica.known learned.delta) }
+        ensures open { IfOk result (λ o. IsOpenState o (station_in self) (station_after (station_in self) (Learns learned))) }
+        ensures err { IfErr result (λ s. station_in s ≡ station_in self) }
+    {
+        let NodeState { replica, buffer } = self;
+        let Learned { intake, delta, own } = learned;
+        let (replica, intake) = match intake {
+            Intake::Whole(tables, plan) => (replica, OpenIntake::Whole(tables, plan)),
+            Intake::Touched(plan, kept) => match replica.open(plan) {
+                Ok((rest, tables)) => (rest, OpenIntake::Touched(tables, kept)),
+                Err(replica) => return Err(NodeState { replica, buffer }),
+            },
+        };
+        Ok(OpenState {
+            replica,
+            buffer,
+            intake,
             delta,
             own,
-            plan,
-        } = learned;
-        self.replica.take_in(image, own, plan);
-        let _noted = self.buffer.note(delta);
+        })
     }
 }

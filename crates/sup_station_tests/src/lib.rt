@@ -3,6 +3,8 @@
 #![tactic(auto)]
 
 #[cfg(test)]
+mod few_weighings;
+#[cfg(test)]
 mod given;
 #[cfg(test)]
 mod images;

@@ -65,11 +65,11 @@ module _ (old new : Written) (s : State) (p : Parts) (counted : (d : Dot) → ha
   }
 
 -- the image of parts that are lent
-image_with : Bytes → ℕ → ℕ → State → Image
+abbrev image_with : Bytes → ℕ → ℕ → State → Image
 image_with node boot count s = record { node = node; boot = boot; count = count; state = s }
 
 module _ (l : LentImage) where
-  state_lent : State
+  abbrev state_lent : State
   state_lent = with_rows l.context.now (rows_lent l.rows.items)
 
   lent_is : (i : Image) → IsLentOf l i → image_with l.node l.boot l.count state_lent ≡ i

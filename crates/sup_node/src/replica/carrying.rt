@@ -1,14 +1,21 @@
-//! What is ready is carried out. It can't be refused.
-ghost use Rattle.std.specs.Prelude.{◌≡◌, ◌<◌, ◌≤◌};
+//! What is ready is carried out.
+ghost use Rattle.std.specs.Prelude.{◌≡◌, ◌+◌, ◌<◌, ◌≤◌, length, IfOk, IfErr, OnOk, OnErr};
 ghost use Rattle.sup_specs.specs.declared.limits.TheConstants.{MAX as MOST};
+ghost use Rattle.sup_tables.specs.States.{State};
+ghost use Rattle.sup_tables.specs.Joined.{no_state};
+ghost use Rattle.sup_tables.specs.Planned.{IsPlanFor};
+ghost use Rattle.sup_tables.specs.Opened.{IsOpen};
+ghost use Rattle.sup_local_sup.specs.Changing.{carried};
 ghost use Rattle.sup_local_sup.specs.Planning.{restarted, carried_out};
-ghost use Rattle.sup_node.specs.Changes.{newer};
+ghost use Rattle.sup_node.specs.Changes.{Makes, kept_by, newer};
 
+use crate::change::Intake;
 use crate::replica::Replica;
-use sup_local_sup::Plan;
+use std::alloc::AllocError;
+use std::mem::replace;
+use sup_local_sup::{Plan, PlannedChange};
 use sup_specs::ChildId;
-use sup_tables::Tables;
-use sup_wire::Image;
+use sup_tables::{OpenTables, PlannedTables, Tables};
 
 impl Replica {
     // A kept child begins a new run.
@@ -19,23 +26,98 @@ impl Replica {
         self.supervisor.restart(id, now);
     }
 
-    // Its tables find rows by their dots from now on, until they change. It knows what it knew.
+    // Its tables find rows by their dots from now on. It knows what it knew.
     pub(crate) fn index_rows(&mut self)
         ensures { self.new ≡ self.old }
     {
         self.tables.index_rows();
     }
 
-    // Has the image's tables, and keeps what was made ready for them.
-    pub(crate) fn take_in(&mut self, image: Image, own: Option<Tables>, plan: Plan)
-        requires { image.count ≤ MOST }
-        ensures { self.new ≡ record self.old { known = image.state; count = image.count; supervisor = carried_out self.old.supervisor plan; newest = newer own self.old.newest } }
+    // Takes a delta in, as it was made ready. An `Err` is want of memory, and changes nothing.
+    pub(crate) fn take_in(
+        &mut self,
+        intake: Intake,
+        own: Option<Tables>,
+    ) -> Result<(), AllocError>
+        requires tables { (new : State) × Makes intake self.old.known new }
+        requires given { (kept_by self.old.supervisor intake).given ≤ MOST }
+        requires count { self.old.count < MOST }
+        ensures ok { OnOk result ((new : State) → Makes intake self.old.known new → self.new ≡ record self.old { known = new; count = self.old.count + 1; supervisor = kept_by self.old.supervisor intake; newest = newer own self.old.newest }) }
+        ensures err { OnErr result (self.new ≡ self.old) }
     {
-        let _effects = self.supervisor.carry_out(plan);
-        self.tables = image.state;
-        self.count = image.count;
+        match intake {
+            Intake::Whole(tables, plan) => {
+                let _effects = self.supervisor.carry_out(plan);
+                self.tables = tables;
+            }
+            Intake::Touched(plan, kept) => {
+                self.tables.follow(self.alloc, plan)?;
+                let _effects = self.supervisor.carry_out_change(kept);
+            }
+        }
+        self.counts(own);
+        Ok(())
+    }
+
+    // One change more, of an own operation or of others.
+    pub(crate) fn counts(&mut self, own: Option<Tables>)
+        requires { self.old.count < MOST }
+        ensures { self.new ≡ record self.old { count = self.old.count + 1; newest = newer own self.old.newest } }
+    {
+        self.count += 1;
         if own.is_some() {
             self.newest = own;
         }
+    }
+
+    // Its tables, opened for a plan, and the rest of it, which knows nothing then. An `Err` is want of memory, and gives it
+    // back.
+    pub(crate) fn open(self, plan: PlannedTables) -> Result<(Replica, OpenTables), Replica>
+        requires { (new : State) × IsPlanFor plan self.known new }
+        ensures rest { IfOk result (λ r. r.0 ≡ record self { known = no_state }) }
+        ensures open { IfOk result (λ r. (new : State) → IsPlanFor plan self.known new → IsOpen r.1 self.known new) }
+        ensures err { IfErr result (λ r. r ≡ self) }
+    {
+        let mut replica = self;
+        let alloc = replica.alloc;
+        let tables = replace(&mut replica.tables, Tables::empty(alloc));
+        match tables.open(alloc, plan) {
+            Ok(open) => Ok((replica, open)),
+            Err(tables) => {
+                replica.tables = tables;
+                Err(replica)
+            }
+        }
+    }
+
+    // It knows these tables.
+    pub(crate) fn with_tables(self, tables: Tables) -> Replica
+        ensures { result ≡ record self { known = tables } }
+    {
+        let mut replica = self;
+        replica.tables = tables;
+        replica
+    }
+
+    // It knows these tables, and keeps what is planned.
+    pub(crate) fn whole_with(self, tables: Tables, plan: Plan) -> Replica
+        ensures { result ≡ record self { known = tables; supervisor = carried_out self.supervisor plan } }
+    {
+        let mut replica = self;
+        let _effects = replica.supervisor.carry_out(plan);
+        replica.tables = tables;
+        replica
+    }
+
+    // It knows what the open tables become, and keeps what is planned.
+    pub(crate) fn touched_with(self, tables: OpenTables, kept: PlannedChange) -> Replica
+        requires open { (old : State) × (new : State) × IsOpen tables old new }
+        requires given { self.supervisor.given + length kept.fresh ≤ MOST }
+        ensures { (old : State) (new : State) → IsOpen tables old new → result ≡ record self { known = new; supervisor = carried self.supervisor kept } }
+    {
+        let mut replica = self;
+        let _effects = replica.supervisor.carry_out_change(kept);
+        replica.tables = tables.carried_out();
+        replica
     }
 }

@@ -10,6 +10,7 @@ ghost use Rattle.sup_replica.specs.declared.event.Event.TheVariants.{Join, Leave
 ghost use Rattle.sup_replica.specs.ByTables.{by_tables};
 ghost use Rattle.sup_replica.specs.Steps.{up_step};
 ghost use Rattle.sup_node.specs.Changes.{Readies, IsOwn};
+ghost use Rattle.sup_node.specs.Placed.{keeps_placed};
 
 use crate::change::Ready;
 use crate::replica::Replica;
@@ -24,7 +25,8 @@ use sup_tables::Tables;
 impl Replica {
     // The node joins.
     pub(crate) fn join<W: Weigh>(&self, label: &Text, weigher: &W) -> Result<Ready, Refusal>
-        ensures ready { Readies (up_step by_tables W.weight_of self.now (Join label.now) 0) self.now result }
+        requires keeps { keeps_placed W.weight_of self.now ≡ true }
+        ensures ready { Readies W.weight_of (up_step by_tables W.weight_of self.now (Join label.now) 0) self.now result }
         ensures own { IfOk result (λ p. IsOwn self.now p.change) }
     {
         if self.is_joined() {
@@ -42,7 +44,8 @@ impl Replica {
 
     // A member leaves.
     pub(crate) fn leave<W: Weigh>(&self, m: &NodeName, weigher: &W) -> Result<Ready, Refusal>
-        ensures ready { Readies (up_step by_tables W.weight_of self.now (Leave m.now) 0) self.now result }
+        requires keeps { keeps_placed W.weight_of self.now ≡ true }
+        ensures ready { Readies W.weight_of (up_step by_tables W.weight_of self.now (Leave m.now) 0) self.now result }
         ensures own { IfOk result (λ p. IsOwn self.now p.change) }
     {
         if !self.is_member(m) {
@@ -55,7 +58,8 @@ impl Replica {
 
     // A member stays, and keeps no children.
     pub(crate) fn drain<W: Weigh>(&self, m: &NodeName, weigher: &W) -> Result<Ready, Refusal>
-        ensures ready { Readies (up_step by_tables W.weight_of self.now (Drain m.now) 0) self.now result }
+        requires keeps { keeps_placed W.weight_of self.now ≡ true }
+        ensures ready { Readies W.weight_of (up_step by_tables W.weight_of self.now (Drain m.now) 0) self.now result }
         ensures own { IfOk result (λ p. IsOwn self.now p.change) }
     {
         if !self.is_member(m) {
@@ -84,7 +88,8 @@ impl Replica {
         spec: &ChildSpec,
         weigher: &W,
     ) -> Result<Ready, Refusal>
-        ensures ready { Readies (up_step by_tables W.weight_of self.now (Start id.now spec.now) 0) self.now result }
+        requires keeps { keeps_placed W.weight_of self.now ≡ true }
+        ensures ready { Readies W.weight_of (up_step by_tables W.weight_of self.now (Start id.now spec.now) 0) self.now result }
         ensures own { IfOk result (λ p. IsOwn self.now p.change) }
     {
         if self.is_child(id) {
@@ -107,7 +112,8 @@ impl Replica {
         spec: &ChildSpec,
         weigher: &W,
     ) -> Result<Ready, Refusal>
-        ensures ready { Readies (up_step by_tables W.weight_of self.now (Replace id.now spec.now) 0) self.now result }
+        requires keeps { keeps_placed W.weight_of self.now ≡ true }
+        ensures ready { Readies W.weight_of (up_step by_tables W.weight_of self.now (Replace id.now spec.now) 0) self.now result }
         ensures own { IfOk result (λ p. IsOwn self.now p.change) }
     {
         if !self.is_child(id) {
@@ -128,7 +134,8 @@ impl Replica {
 
     // A child goes.
     pub(crate) fn delete<W: Weigh>(&self, id: &ChildId, weigher: &W) -> Result<Ready, Refusal>
-        ensures ready { Readies (up_step by_tables W.weight_of self.now (Delete id.now) 0) self.now result }
+        requires keeps { keeps_placed W.weight_of self.now ≡ true }
+        ensures ready { Readies W.weight_of (up_step by_tables W.weight_of self.now (Delete id.now) 0) self.now result }
         ensures own { IfOk result (λ p. IsOwn self.now p.change) }
     {
         if !self.is_child(id) {
@@ -146,7 +153,8 @@ impl Replica {
         id: &ChildId,
         weigher: &W,
     ) -> Result<Ready, Refusal>
-        ensures ready { Readies (up_step by_tables W.weight_of self.now (Register name.now id.now) 0) self.now result }
+        requires keeps { keeps_placed W.weight_of self.now ≡ true }
+        ensures ready { Readies W.weight_of (up_step by_tables W.weight_of self.now (Register name.now id.now) 0) self.now result }
         ensures own { IfOk result (λ p. IsOwn self.now p.change) }
     {
         if !self.is_child(id) {
@@ -167,7 +175,8 @@ impl Replica {
 
     // A name is taken back.
     pub(crate) fn unregister<W: Weigh>(&self, name: &Name, weigher: &W) -> Result<Ready, Refusal>
-        ensures ready { Readies (up_step by_tables W.weight_of self.now (Unregister name.now) 0) self.now result }
+        requires keeps { keeps_placed W.weight_of self.now ≡ true }
+        ensures ready { Readies W.weight_of (up_step by_tables W.weight_of self.now (Unregister name.now) 0) self.now result }
         ensures own { IfOk result (λ p. IsOwn self.now p.change) }
     {
         if !self.is_name(name) {

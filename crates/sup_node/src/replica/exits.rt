@@ -1,5 +1,5 @@
 //! Exits, made ready.
-ghost use Rattle.std.specs.Prelude.{◌≡◌, IfOk};
+ghost use Rattle.std.specs.Prelude.{◌≡◌, true, IfOk};
 ghost use Rattle.sup_causal.specs.declared.dot.Dot.{Dot as DotValue};
 ghost use Rattle.sup_causal.specs.Dots.{IsCounted};
 ghost use Rattle.sup_tables.specs.Makers.{drop_member, finish_child};
@@ -11,6 +11,7 @@ ghost use Rattle.sup_replica.specs.declared.event.Event.TheVariants.{Exit};
 ghost use Rattle.sup_replica.specs.ByTables.{by_tables};
 ghost use Rattle.sup_replica.specs.Steps.{up_step, exit_step};
 ghost use Rattle.sup_node.specs.Changes.{Readies, IsOwn};
+ghost use Rattle.sup_node.specs.Placed.{keeps_placed};
 
 use crate::change::{Change, Ready};
 use crate::replica::Replica;
@@ -32,7 +33,8 @@ impl Replica {
         now: u64,
         weigher: &W,
     ) -> Result<Ready, Refusal>
-        ensures ready { Readies (up_step by_tables W.weight_of self.now (Exit id.now inc reason.now) now) self.now result }
+        requires keeps { keeps_placed W.weight_of self.now ≡ true }
+        ensures ready { Readies W.weight_of (up_step by_tables W.weight_of self.now (Exit id.now inc reason.now) now) self.now result }
         ensures own { IfOk result (λ p. IsOwn self.now p.change) }
     {
         match self.ruling(id, inc, reason, now) {
@@ -53,7 +55,7 @@ impl Replica {
 
     // The child begins a new run, and no table changes.
     fn begin_again(&self, id: &ChildId, now: u64) -> Result<Ready, Refusal>
-        ensures ready { (w : Weigher) → Readies (exit_step by_tables w self.now id.now now Restart) self.now result }
+        ensures ready { (w : Weigher) → keeps_placed w self.now ≡ true → Readies w (exit_step by_tables w self.now id.now now Restart) self.now result }
         ensures own { IfOk result (λ p. IsOwn self.now p.change) }
     {
         let again = id.try_clone(self.alloc)?;
@@ -70,8 +72,9 @@ impl Replica {
 
     // The entry that ran is done.
     fn finish<W: Weigh>(&self, id: &ChildId, dot: &Dot, weigher: &W) -> Result<Ready, Refusal>
-        requires { IsCounted dot.now }
-        ensures ready { Readies (exit_step by_tables W.weight_of self.now id.now 0 (Finish dot.now)) self.now result }
+        requires counted { IsCounted dot.now }
+        requires keeps { keeps_placed W.weight_of self.now ≡ true }
+        ensures ready { Readies W.weight_of (exit_step by_tables W.weight_of self.now id.now 0 (Finish dot.now)) self.now result }
         ensures own { IfOk result (λ p. IsOwn self.now p.change) }
     {
         let delta = self.finished(dot)?;
@@ -82,7 +85,8 @@ impl Replica {
 
     // The node leaves, and stops all other children.
     fn give_up<W: Weigh>(&self, id: &ChildId, weigher: &W) -> Result<Ready, Refusal>
-        ensures ready { Readies (exit_step by_tables W.weight_of self.now id.now 0 GiveUp) self.now result }
+        requires keeps { keeps_placed W.weight_of self.now ≡ true }
+        ensures ready { Readies W.weight_of (exit_step by_tables W.weight_of self.now id.now 0 GiveUp) self.now result }
         ensures own { IfOk result (λ p. IsOwn self.now p.change) }
     {
         let (delta, dots) = self.drop_itself()?;

@@ -5,18 +5,17 @@ ghost use Rattle.sup_replica.specs.ByTables.{by_tables};
 ghost use Rattle.sup_replica.specs.Steps.{issues};
 ghost use Rattle.sup_replica.specs.Acts.{absorbs};
 ghost use Rattle.sup_node.specs.Changes.{Readies, IsOwn, IsOf, learns};
+ghost use Rattle.sup_node.specs.Placed.{keeps_placed};
 
 use crate::change::{Change, Learned, Ready};
-use crate::placing::wanted_at;
 use crate::replica::Replica;
-use std::alloc::{AllocError, Global};
+use std::alloc::Global;
 use sup_causal::Lattice;
-use sup_local_sup::{Effects, Leaving, SupFault};
+use sup_local_sup::{Effects, Leaving};
 use sup_placement::Weigh;
 use sup_replica::{Refusal, Reply};
 use sup_specs::MAX;
 use sup_tables::Tables;
-use sup_wire::Image;
 
 impl Replica {
     // Makes an own operation ready, without those that leave.
@@ -27,7 +26,8 @@ impl Replica {
         delta: Tables,
         weigher: &W,
     ) -> Result<Ready, Refusal>
-        ensures ready { Readies (Ok (issues by_tables W.weight_of self.now reply leaving.now delta)) self.now result }
+        requires keeps { keeps_placed W.weight_of self.now ≡ true }
+        ensures ready { Readies W.weight_of (Ok (issues by_tables W.weight_of self.now reply leaving.now delta)) self.now result }
         ensures own { IfOk result (λ p. IsOwn self.now p.change) }
     {
         let own = delta.try_clone(self.alloc)?;
@@ -36,7 +36,8 @@ impl Replica {
 
     // Makes ready what comes of received tables.
     pub(crate) fn absorb<W: Weigh>(&self, delta: Tables, weigher: &W) -> Result<Ready, Refusal>
-        ensures ready { Readies (Ok (absorbs by_tables W.weight_of self.now delta None (covers_state self.now.known delta))) self.now result }
+        requires keeps { keeps_placed W.weight_of self.now ≡ true }
+        ensures ready { Readies W.weight_of (Ok (absorbs by_tables W.weight_of self.now delta None (covers_state self.now.known delta))) self.now result }
         ensures of { IfOk result (λ p. IsOf delta self.now p.change) }
     {
         // For its clause: no number is past the greatest.
@@ -60,39 +61,21 @@ impl Replica {
         delta: Tables,
         weigher: &W,
     ) -> Result<Ready, Refusal>
-        ensures ready { Readies (Ok (learns W.weight_of self.now own reply leaving.now delta)) self.now result }
+        requires keeps { keeps_placed W.weight_of self.now ≡ true }
+        ensures ready { Readies W.weight_of (Ok (learns W.weight_of self.now own reply leaving.now delta)) self.now result }
         ensures own { own ≡ Some delta → IfOk result (λ p. IsOwn self.now p.change) }
         ensures of { own ≡ None → IfOk result (λ p. IsOf delta self.now p.change) }
     {
         if self.count >= MAX {
             return Err(Refusal::CountSpent);
         }
-        let tables = self.tables.joined(self.alloc, &delta)?;
-        let wanted = wanted_at(self.alloc, weigher, &self.name, &tables)?;
-        match self.supervisor.plan(leaving, &wanted) {
-            Ok(plan) => {
-                let (plan, effects) = plan.parted();
-                let image = Image {
-                    node: self.name,
-                    boot: self.supervisor.boot(),
-                    count: self.count + 1,
-                    state: tables,
-                };
-                let learned = Learned {
-                    image,
-                    delta,
-                    own,
-                    plan,
-                };
-                Ok(Ready {
-                    reply,
-                    effects,
-                    change: Change::Learns(learned),
-                })
-            }
-            Err(SupFault::CountSpent) => Err(Refusal::CountSpent),
-            Err(SupFault::OutOfMemory) => Err(Refusal::OutOfMemory),
-        }
+        let (intake, effects) = self.intake(leaving, &delta, weigher)?;
+        let learned = Learned { intake, delta, own };
+        Ok(Ready {
+            reply,
+            effects,
+            change: Change::Learns(learned),
+        })
     }
 
     // Whether the tables have nothing new.

@@ -1,9 +1,10 @@
 //! A restart from an image.
-ghost use Rattle.std.specs.Prelude.{◌≡◌, ◌≤◌};
+ghost use Rattle.std.specs.Prelude.{◌≡◌, ◌≤◌, true, IfOk};
 ghost use Rattle.sup_replica.specs.ByTables.{by_tables};
 ghost use Rattle.sup_replica.specs.Acts.{act_step};
 ghost use Rattle.sup_replica.specs.declared.event.Act.TheVariants.{Restart};
 ghost use Rattle.sup_node.specs.Changes.{RestartsAs, stopped_node};
+ghost use Rattle.sup_node.specs.Placed.{keeps_placed};
 
 use crate::placing::wanted_at;
 use crate::replica::Replica;
@@ -24,7 +25,8 @@ impl Replica {
         weigher: &W,
     ) -> Result<(Replica, Effects), Refusal>
         requires { intensity ≤ 1000 }
-        ensures { RestartsAs (act_step by_tables W.weight_of (stopped_node intensity period image) Restart 0) result }
+        ensures restarts { RestartsAs (act_step by_tables W.weight_of (stopped_node intensity period image) Restart 0) result }
+        ensures keeps { IfOk result (λ r. keeps_placed W.weight_of r.0 ≡ true) }
     {
         if image.boot >= MAX {
             return Err(Refusal::CountSpent);
@@ -37,9 +39,11 @@ impl Replica {
         match supervisor.plan(&Leaving::Nobody, &wanted) {
             Ok(plan) => {
                 let effects = supervisor.carry_out(plan);
+                let mut tables = image.state;
+                tables.index_rows();
                 let replica = Replica {
                     name: image.node,
-                    tables: image.state,
+                    tables,
                     count: image.count,
                     supervisor,
                     newest: None,

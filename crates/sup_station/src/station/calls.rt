@@ -10,9 +10,8 @@ ghost use Rattle.sup_station.specs.Plans.{IsPreparedFor, IsReadyFor, Commits, is
 ghost use Rattle.sup_station.specs.Stills.{still_of, keeper_of, Goes, Refuses, FailsToSave, ComesToSave, IsUnsaved};
 
 use crate::prepared::Prepared;
-use crate::station::becoming::change_to;
+use crate::station::becoming::{change_to, save_and_change};
 use crate::station::opening::open;
-use crate::station::saving::save_text;
 use crate::station::{Refused, Station};
 use std::alloc::Global;
 use sup_keeper::{Keeper, MemKeeper};
@@ -116,13 +115,14 @@ impl<K: Keeper, W: Weigh> Station<K, W> {
         }
     }
 
-    /// Saves the image that was made ready, if the act changes it, and then carries the act out.
+    /// Saves the image that was made ready, if the act changes it, and then carries the act out. All memory is taken before
+    /// the save.
     ///
     /// # Errors
     ///
     /// `KeepFailed` where the save fails; `OutOfMemory`. The station is unchanged then.
     pub fn commit(&mut self, prepared: Prepared) -> Result<Done, Refusal>
-        requires { IsReadyFor (still_of K.kept self.old) prepared }
+        requires { IsReadyFor W.weight_of (still_of K.kept self.old) prepared }
         ensures answer { Commits (still_of K.kept self.old) prepared result (still_of K.kept self.new) }
         ensures rose { result ≡ Err KeepFailed → K.failures (keeper_of self.old) < K.failures (keeper_of self.new) }
         ensures told { K.failures (keeper_of self.old) < K.failures (keeper_of self.new) → result ≡ Err KeepFailed }
@@ -134,9 +134,10 @@ impl<K: Keeper, W: Weigh> Station<K, W> {
         ensures steady { K.sound (keeper_of self.old) ≡ true → K.failures (keeper_of self.new) ≡ K.failures (keeper_of self.old) }
     {
         let Prepared { next, text } = prepared;
-        save_text(&mut self.keeper, text)?;
-        let done = change_to(&mut self.node, next)?;
-        Ok(done)
+        match text {
+            None => change_to(&mut self.node, next),
+            Some(text) => save_and_change(&mut self.keeper, &mut self.node, next, &text),
+        }
     }
 
     /// One act at the moment `now`: [`prepare`](Station::prepare) and [`commit`](Station::commit).

@@ -3,13 +3,13 @@ ghost use Rattle.std.specs.Prelude.{◌≡◌, ◌≢◌, ◌⊎◌, ◌<◌, �
 ghost use Rattle.sup_replica.specs.declared.event.Act.TheVariants.{Event as Of, Stop, Restart};
 ghost use Rattle.sup_replica.specs.declared.refusal.Refusal.TheVariants.{KeepFailed};
 ghost use Rattle.sup_specs.specs.declared.limits.TheConstants.{MAX as MOST};
-ghost use Rattle.sup_station.specs.Opening.{IsWritten};
+ghost use Rattle.sup_node.specs.Texts.{IsWritten};
 ghost use Rattle.sup_station.specs.Plans.{IsPreparedFor, Prepares};
 ghost use Rattle.sup_station.specs.Stills.{still_of, keeper_of, Refuses, IsOwnImage, IsNoOwnImage};
 
 use crate::prepared::{Next, Prepared};
 use crate::station::Station;
-use crate::station::saving::{refusal, text_in, text_of};
+use crate::station::saving::{refusal, text_of};
 use std::alloc::{AllocError, Global};
 use sup_keeper::Keeper;
 use sup_local_sup::Effects;
@@ -32,7 +32,7 @@ impl<K: Keeper, W: Weigh> Station<K, W> {
             return Err(Refusal::Down);
         };
         let planned = node.plan(event, now, weigher)?;
-        let text = text_in(self.alloc, &planned)?;
+        let text = node.text_after(&planned)?;
         Ok(Prepared {
             next: Next::Changes(planned),
             text,

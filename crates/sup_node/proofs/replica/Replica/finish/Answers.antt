@@ -12,6 +12,6 @@ pub returns-clause-ready : goal.returns-clause-ready
 returns-clause-ready g c =
     let n = c.args.self.now in
     let w = g.W.Weigh.weight_of in
-    ready_same (exit_step by_tables w n c.args.id.now 0 (Finish c.args.dot.now)) (Ok (issues by_tables w n (Finished c.args.dot.now) (leaving.Finished c.in_ok-copy.copy) c.in_ok-delta.delta)) n c.issue.result
+    ready_same w (exit_step by_tables w n c.args.id.now 0 (Finish c.args.dot.now)) (Ok (issues by_tables w n (Finished c.args.dot.now) (leaving.Finished c.in_ok-copy.copy) c.in_ok-delta.delta)) n c.issue.result
     (λ i. Ok (issues by_tables w n (Finished c.args.dot.now) (leaving.Finished (sym c.in_ok-copy.ensures i)) (sym c.in_ok-delta.ensures i)))
     c.issue.ensures.ready

@@ -13,6 +13,6 @@ pub returns-clause-ready : goal.returns-clause-ready
 returns-clause-ready g c =
     let n = c.args.self.now in
     let w = g.W.Weigh.weight_of in
-    ready_same (up_step by_tables w n (Unregister c.args.name.now) 0) (Ok (issues by_tables w n (Removed c.new-removed.result) Nobody c.in_ok-delta.delta)) n c.issue.result
+    ready_same w (up_step by_tables w n (Unregister c.args.name.now) 0) (Ok (issues by_tables w n (Removed c.new-removed.result) Nobody c.in_ok-delta.delta)) n c.issue.result
     (drops w n _ (drop_name n.known.rows c.args.name.now) c.new-removed.result c.in_ok-delta.delta (passed _ _ _ _ (ap not (sym c.is_name.ensures ∙ c.if-not-is_name.false)) refl) (c.new-removed.ensures ∙ c.in_ok-delta.ensures.dots) c.in_ok-delta.ensures.delta)
     c.issue.ensures.ready

@@ -34,10 +34,10 @@ pub returns-in-Exit : goal.returns-in-Exit
 returns-in-Exit g c = is_own g.W.Weigh.weight_of (station_in c.args.self.now) (Exit c.in-Exit.id c.in-Exit.inc c.in-Exit.reason) c.args.now c.args.self.now.runs (λ b. refl) tt (λ x. x) c.exit.result c.exit.ensures.ready c.exit.ensures.own c.args.event.now c.in-Exit.is c.planned-in-Exit.result c.planned-in-Exit.ensures
 
 pub returns-in-Ship : goal.returns-in-Ship
-returns-in-Ship g c = subst (λ e. Plans g.W.Weigh.weight_of (station_in c.args.self.now) e c.args.now c.ship.result) (sym c.in-Ship.is) (c.ship.ensures g.W.Weigh.weight_of c.args.now)
+returns-in-Ship g c = subst (λ e. Plans g.W.Weigh.weight_of (station_in c.args.self.now) e c.args.now c.ship.result) (sym c.in-Ship.is) (c.ship.ensures g.W.Weigh.weight_of c.args.now c.requires)
 
 pub returns-in-Push : goal.returns-in-Push
-returns-in-Push g c = subst (λ e. Plans g.W.Weigh.weight_of (station_in c.args.self.now) e c.args.now c.push.result) (sym c.in-Push.is) (c.push.ensures g.W.Weigh.weight_of c.args.now)
+returns-in-Push g c = subst (λ e. Plans g.W.Weigh.weight_of (station_in c.args.self.now) e c.args.now c.push.result) (sym c.in-Push.is) (c.push.ensures g.W.Weigh.weight_of c.args.now c.requires)
 
 pub returns-in-Deliver : goal.returns-in-Deliver
 returns-in-Deliver g c = subst (λ e. Plans g.W.Weigh.weight_of (station_in c.args.self.now) e c.args.now c.deliver.result) (sym c.in-Deliver.is) (c.deliver.ensures c.args.now)

@@ -13,10 +13,10 @@ pub push_letter-requires : goal.push_letter-requires
 push_letter-requires c = record { differ = differs c.args.to.now c.args.self.now.replica.name c.name.result.now (sym c.is_named.ensures ∙ c.if-is_named.false) c.name.ensures }
 
 pub returns-in_ok-letter-in-Some : goal.returns-in_ok-letter-in-Some
-returns-in_ok-letter-in-Some c = λ w now. let own = c.in_ok-delta-in-Some.delta in
+returns-in_ok-letter-in-Some c = λ w now keeps. let own = c.in_ok-delta-in-Some.delta in
     subst (IsPlanOf w (station_in c.args.self.now) (Push c.args.to.now) now) (sym c.sent.ensures)
     (push-ready w (station_in c.args.self.now) c.args.to.now now c.args.self.now.runs own c.in_ok-letter-in-Some.letter
     (sym c.is_named.ensures ∙ c.if-is_named.false)
     (sym c.newest.ensures ∙ ap option_copied c.in-Some.is ∙ ap Some (sym c.in_ok-delta-in-Some.ensures.state))
     c.is_counted.ensures
-    (subst (λ me. IsLetter (a_push me c.args.to.now own) c.in_ok-letter-in-Some.letter) c.name.ensures c.in_ok-letter-in-Some.ensures))
+    (subst (λ me. IsLetter (a_push me c.args.to.now own) c.in_ok-letter-in-Some.letter) c.name.ensures c.in_ok-letter-in-Some.ensures) keeps)

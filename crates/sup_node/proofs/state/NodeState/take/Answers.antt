@@ -5,4 +5,4 @@ use Rattle.sup_node.specs.Texts.{mail_of}
 use Rattle.sup_node.proofs.state.NodeState.take.Goals as goal
 
 pub returns-in-Ack : goal.returns-in-Ack
-returns-in-Ack g c = subst (λ m. Takes g.W.Weigh.weight_of (station_in c.args.self.now) (mail_of m) c.take_ack.result) (sym c.in-Ack.is) (c.take_ack.ensures g.W.Weigh.weight_of)
+returns-in-Ack g c = subst (λ m. Takes g.W.Weigh.weight_of (station_in c.args.self.now) (mail_of m) c.take_ack.result) (sym c.in-Ack.is) (c.take_ack.ensures g.W.Weigh.weight_of c.requires.keeps)

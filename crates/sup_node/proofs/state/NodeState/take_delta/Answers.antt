@@ -15,7 +15,7 @@ ack_letter-requires-clause-differ g c = λ f. c.requires.differ (sym f ∙ c.nam
 
 pub returns : goal.returns
 returns g c =
-    subst (IsReady (mail_step by_tables g.W.Weigh.weight_of (station_in c.args.self.now) (a_delta c.args.from c.args.to.now c.args.n false c.args.delta)) (station_in c.args.self.now)) (sym c.with_letter.ensures)
+    subst (IsReady g.W.Weigh.weight_of (mail_step by_tables g.W.Weigh.weight_of (station_in c.args.self.now) (a_delta c.args.from c.args.to.now c.args.n false c.args.delta)) (station_in c.args.self.now)) (sym c.with_letter.ensures)
     (taken-ready g.W.Weigh.weight_of (station_in c.args.self.now) c.args.from (as_message by_tables c.args.to.now delta c.args.delta) (Some (an_ack c.args.self.now.replica.name c.args.from c.args.n)) c.args.self.now.runs
     (sym c.is_named.ensures ∙ c.if-not-is_named.false) (answer_to by_tables c.args.from delta) refl
     c.in_ok-ready.ready (Some c.in_ok-letter.letter) c.in_ok-ready.ensures.ready.0 c.in_ok-ready.ensures.ready.1 c.in_ok-ready.ensures.of

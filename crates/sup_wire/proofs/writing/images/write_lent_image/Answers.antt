@@ -5,8 +5,8 @@ use Rattle.sup_wire.specs.Writing.{parts_lent}
 use Rattle.sup_wire.proofs.Written.{writes_lent, on_ok_three}
 use Rattle.sup_wire.proofs.writing.images.write_lent_image.Goals as goal
 
-pub returns-clause : goal.returns-clause
-returns-clause c =
+pub returns : goal.returns
+returns c =
     let l = c.args.image.now in
     let p = parts_lent c.in_ok-parts.parts in
     let cut : IsCut (with_rows l.context.now (rows_lent l.rows.items)) p = rw (← c.deref.ensures.value) c.in_ok-parts.ensures in

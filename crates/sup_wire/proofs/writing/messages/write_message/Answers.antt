@@ -15,7 +15,7 @@ returns-in-Ack-clause-draft c =
 pub returns-in_ok-parts-in-Push-clause-draft : goal.returns-in_ok-parts-in-Push-clause-draft
 returns-in_ok-parts-in-Push-clause-draft c =
     let p = parts_lent c.in_ok-parts-in-Push.parts in
-    let cut : IsCut c.in-Push.delta p = cut_of _ _ _ p c.in_ok-rows-in-Push.context.ensures.value (rw (← c.in_ok-rows-in-Push.deref.ensures.value) c.in_ok-rows-in-Push.ensures.rows) c.in_ok-parts-in-Push.ensures in
+    let cut : IsCut c.in-Push.delta p = cut_of _ _ _ p c.context.ensures.value (rw (c.deref.ensures.value) c.in_ok-rows-in-Push.ensures.rows) c.in_ok-parts-in-Push.ensures in
     subst (λ (m : Message). OnOk c.write_push.result (WritesDraft IsDraftOf IsInRange c.args.out.now c.write_push.new.out m)) (sym c.in-Push.is)
     (on_ok_four c.write_push.result (λ a b written adds. writes_push _ _ c.in-Push.delta p c.in_ok-rows-in-Push.ensures.whole.counted c.in_ok-rows-in-Push.ensures.whole.covered cut written c.in-Push.from c.in-Push.to a b adds)
     c.write_push.ensures.from c.write_push.ensures.to c.write_push.ensures.written c.write_push.ensures.adds)
@@ -23,7 +23,7 @@ returns-in_ok-parts-in-Push-clause-draft c =
 pub returns-in_ok-parts-in-Delta-clause-draft : goal.returns-in_ok-parts-in-Delta-clause-draft
 returns-in_ok-parts-in-Delta-clause-draft c =
     let p = parts_lent c.in_ok-parts-in-Delta.parts in
-    let cut : IsCut c.in-Delta.delta p = cut_of _ _ _ p c.in_ok-rows-in-Delta.context.ensures.value (rw (← c.in_ok-rows-in-Delta.deref.ensures.value) c.in_ok-rows-in-Delta.ensures.rows) c.in_ok-parts-in-Delta.ensures in
+    let cut : IsCut c.in-Delta.delta p = cut_of _ _ _ p c.context-in-Delta.ensures.value (rw (c.deref-in-Delta.ensures.value) c.in_ok-rows-in-Delta.ensures.rows) c.in_ok-parts-in-Delta.ensures in
     subst (λ (m : Message). OnOk c.write_delta.result (WritesDraft IsDraftOf IsInRange c.args.out.now c.write_delta.new.out m)) (sym c.in-Delta.is)
     (on_ok_four c.write_delta.result (λ a b written adds. writes_delta _ _ c.in-Delta.delta p c.in_ok-rows-in-Delta.ensures.whole.counted c.in_ok-rows-in-Delta.ensures.whole.covered cut written c.in-Delta.from c.in-Delta.to c.in-Delta.n c.write_delta.ensures.fits a b adds)
     c.write_delta.ensures.from c.write_delta.ensures.to c.write_delta.ensures.written c.write_delta.ensures.adds)

@@ -1,0 +1,75 @@
+//! A node's state that is opened for a delta: all memory is taken, and nothing can be refused any more.
+ghost use Rattle.std.specs.Prelude.{◌≡◌, true};
+ghost use Rattle.sup_anti_entropy.specs.Contents.{buffer_of};
+ghost use Rattle.sup_replica.specs.Stations.{Station};
+ghost use Rattle.sup_tables.specs.States.{State};
+ghost use Rattle.sup_node.specs.Contents.{station_in};
+ghost use Rattle.sup_node.specs.Openings.{IsOpenState};
+
+use crate::replica::Replica;
+use crate::state::NodeState;
+use sup_anti_entropy::Buffer;
+use sup_local_sup::{Plan, PlannedChange};
+use sup_tables::{OpenTables, Tables};
+
+/// A node's state that is opened for a delta.
+#[derive(Drop)]
+pub(crate) struct OpenState {
+    // It knows nothing while its tables are open.
+    pub replica: Replica,
+    pub buffer: Buffer,
+    pub intake: OpenIntake,
+    pub delta: Tables,
+    pub own: Option<Tables>,
+    pub ghost same_count: { replica.count ≡ (buffer_of buffer).count },
+    pub ghost runs: { replica.up ≡ true },
+}
+
+/// How a delta is taken in, once all memory for it is there.
+#[derive(Drop)]
+pub(crate) enum OpenIntake {
+    Whole(Tables, Plan),
+    Touched(OpenTables, PlannedChange),
+}
+
+impl OpenState {
+    // The state with the delta. It takes no memory.
+    pub fn carried_out(self) -> NodeState
+        requires { (old : Station State) × (new : Station State) × IsOpenState self old new }
+        ensures { (old : Station State) (new : Station State) → IsOpenState self old new → station_in result ≡ new }
+    {
+        let OpenState {
+            replica,
+            mut buffer,
+            intake,
+            delta,
+            own,
+        } = self;
+        let mut replica = match intake {
+            OpenIntake::Whole(tables, plan) => replica.whole_with(tables, plan),
+            OpenIntake::Touched(tables, kept) => replica.touched_with(tables, kept),
+        };
+        replica.counts(own);
+        let _noted = buffer.note(delta);
+        NodeState { replica, buffer }
+    }
+
+    // The state as it was. It takes no memory.
+    pub fn given_up(self) -> NodeState
+        requires { (old : Station State) × (new : Station State) × IsOpenState self old new }
+        ensures { (old : Station State) (new : Station State) → IsOpenState self old new → station_in result ≡ old }
+    {
+        let OpenState {
+            replica,
+            buffer,
+            intake,
+            delta: _,
+            own: _,
+        } = self;
+        let replica = match intake {
+            OpenIntake::Whole(_, _) => replica,
+            OpenIntake::Touched(tables, _) => replica.with_tables(tables.given_up()),
+        };
+        NodeState { replica, buffer }
+    }
+}

@@ -1,0 +1,82 @@
+//! What is wanted now under the ids that a delta touches.
+ghost use Rattle.std.specs.Prelude.{◌≡◌, true, map, IfOk, IfSome};
+ghost use Rattle.std.specs.Option.{option_copied};
+ghost use Rattle.sup_causal.specs.Dots.{IsCounted};
+ghost use Rattle.sup_tables.specs.States.{State};
+ghost use Rattle.sup_tables.specs.Planned.{IsPlanFor};
+ghost use Rattle.sup_local_sup.specs.Keeping.{AreCounted};
+ghost use Rattle.sup_local_sup.specs.Changing.{news};
+ghost use Rattle.sup_node.specs.Placed.{Reaches, ended_of, wanted_under, change_of};
+
+use crate::placing::is_here;
+use crate::replica::Replica;
+use std::alloc::AllocError;
+use sup_local_sup::{Change, Leaving, Wanted};
+use sup_placement::Weigh;
+use sup_specs::{ChildId, NodeName, Plain};
+use sup_tables::PlannedTables;
+
+impl Replica {
+    // What is wanted under these ids once a plan is carried out, where these members may have children.
+    pub(super) fn changes<W: Weigh>(
+        &self,
+        weigher: &W,
+        hosts: &[NodeName],
+        plan: &PlannedTables,
+        ids: &[ChildId],
+    ) -> Result<Vec<Change>, AllocError>
+        ensures changes { IfOk result (λ changes. (new : State) → IsPlanFor plan.now self.now.known new → changes.items ≡ map (change_of W.weight_of self.now.name hosts.now new.rows) ids.now) }
+        ensures counted { IfOk result (λ changes. (new : State) → IsPlanFor plan.now self.now.known new → AreCounted (news changes.items)) }
+    {
+        let mut changes = Vec::with_capacity(self.alloc, ids.len())?;
+        for id in ids {
+            let now = self.wanted_after(weigher, hosts, plan, id)?;
+            let id = id.try_clone(self.alloc)?;
+            changes.push(Change { id, now })?;
+        }
+        Ok(changes)
+    }
+
+    // What is wanted under an id then.
+    fn wanted_after<W: Weigh>(
+        &self,
+        weigher: &W,
+        hosts: &[NodeName],
+        plan: &PlannedTables,
+        id: &ChildId,
+    ) -> Result<Option<Wanted>, AllocError>
+        ensures wanted { IfOk result (λ w. (new : State) → IsPlanFor plan.now self.now.known new → w ≡ wanted_under W.weight_of self.now.name hosts.now new.rows id.now) }
+        ensures counted { IfOk result (λ w. (new : State) → IsPlanFor plan.now self.now.known new → IfSome w (λ v. IsCounted v.dot)) }
+    {
+        let Some((dot, spec)) = self.tables.child_after(plan, id) else {
+            return Ok(None);
+        };
+        if !is_here(weigher, &self.name, hosts, id) {
+            return Ok(None);
+        }
+        let spec = spec.try_clone(self.alloc)?;
+        let id = id.try_clone(self.alloc)?;
+        Ok(Some(Wanted { id, dot, spec }))
+    }
+}
+
+// Whether whoever leaves is among these children, and nobody else leaves.
+pub(super) fn reaches(children: &[ChildId], leaving: &Leaving) -> bool
+    ensures { result ≡ true → Reaches children.now leaving.now }
+{
+    match leaving {
+        Leaving::Nobody => true,
+        Leaving::Finished(id) => children.iter().any(|child| child == id),
+        Leaving::GaveUp(_) => false,
+    }
+}
+
+// The child whose run has ended.
+pub(super) fn ended(leaving: &Leaving) -> Option<&ChildId>
+    ensures { option_copied result ≡ ended_of leaving.now }
+{
+    match leaving {
+        Leaving::Finished(id) => Some(id),
+        Leaving::Nobody | Leaving::GaveUp(_) => None,
+    }
+}
