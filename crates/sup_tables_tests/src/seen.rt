@@ -130,13 +130,27 @@ fn push_lent<'a>(rt: &impl Abort, shown: &mut Vec<Shown<'a>>, row: &LentRow<'a>)
     push(rt, shown, table, key, row.dot, value)
 }
 
-// Expects these to be all rows that are lent, in this order.
-pub(crate) fn expect_lent(rt: &(impl Abort + AllocGlobal), tables: &Tables, wanted: &[Shown<'_>]) {
+fn shown_lent<'a>(rt: &(impl Abort + AllocGlobal), rows: &[LentRow<'a>]) -> Vec<Shown<'a>> {
     let mut shown = Vec::new(rt.alloc());
-    for row in &tables.lent_rows().expect(rt, "rows") {
+    for row in rows {
         push_lent(rt, &mut shown, row);
     }
-    assert!(rt; shown.as_slice() == wanted);
+    shown
+}
+
+// Expects these to be all rows that are lent, in this order.
+pub(crate) fn expect_lent(rt: &(impl Abort + AllocGlobal), tables: &Tables, wanted: &[Shown<'_>]) {
+    let rows = tables.lent_rows().expect(rt, "rows");
+    assert!(rt; shown_lent(rt, &rows).as_slice() == wanted);
+}
+
+// Expects rows that are lent to be those of these tables, in their order.
+pub(crate) fn expect_same_lent(
+    rt: &(impl Abort + AllocGlobal),
+    rows: &[LentRow<'_>],
+    tables: &Tables,
+) {
+    expect_lent(rt, tables, &shown_lent(rt, rows));
 }
 
 pub(crate) fn knows(rt: &impl Abort, tables: &Tables, name: &str, counter: u64) -> bool {

@@ -1,8 +1,9 @@
-//! Joins that tell what they touch.
-use crate::acts::{absorb, copy, drain, empty, finish, join, leave, merged, start};
+//! Joins that tell what they touch, and joins in three steps.
+use crate::acts::{absorb, copy, drain, empty, finish, join, leave, merged, register, start};
 use crate::given::child_id;
-use crate::seen::expect_same;
+use crate::seen::{expect_same, expect_same_lent};
 use std::process::Abort;
+use sup_causal::Lattice;
 use sup_tables::Tables;
 
 // Expects a join with the other tables to give what a merge gives, and to touch these children, and the members or not.
@@ -64,8 +65,8 @@ fn a_join_touches_members_where_other_ones_are_open(rt: HostRuntime) {
     expect_touched(&rt, &b, &a, &[], true);
 }
 
-// The kind of a child's winner as it is to be, by a plan of the join.
-fn kind_after(
+// Expects a plan of the join to tell what a merge gives, and this kind of a child's winner.
+fn expect_told(
     rt: &(impl Abort + AllocGlobal),
     mine: &Tables,
     other: &Tables,
@@ -75,8 +76,11 @@ fn kind_after(
     let plan = mine.plan_join(rt.alloc(), other).expect(rt, "room");
     let found = mine.child_after(&plan, &child_id(rt, id));
     assert!(rt; found.map(|(_, spec)| spec.kind.as_str()) == wanted);
+    let joined = merged(rt, mine, other);
     let rows = mine.lent_rows_after(rt.alloc(), &plan).expect(rt, "room");
-    assert!(rt; rows.len() == merged(rt, mine, other).row_count());
+    expect_same_lent(rt, &rows, &joined);
+    let context = mine.context_after(&plan);
+    assert!(rt; context.leq(joined.context()) && joined.context().leq(context));
 }
 
 #[test]
@@ -85,9 +89,45 @@ fn a_plan_tells_what_is_to_be(rt: HostRuntime) {
     let mut b = empty(&rt);
     start(&rt, &mut a, "a", "x", "one");
     start(&rt, &mut b, "b", "x", "two");
-    kind_after(&rt, &b, &a, "x", Some("one"));
-    kind_after(&rt, &a, &b, "x", Some("one"));
-    kind_after(&rt, &a, &b, "y", None);
+    expect_told(&rt, &b, &a, "x", Some("one"));
+    expect_told(&rt, &a, &b, "x", Some("one"));
+    expect_told(&rt, &a, &b, "y", None);
+    // A dot whose row is gone is known yet.
     finish(&rt, &mut b, "a", 1);
-    kind_after(&rt, &a, &b, "x", Some("two"));
+    expect_told(&rt, &a, &b, "x", Some("two"));
+}
+
+// The tables after a join in three steps.
+fn carried_out(rt: &(impl Abort + AllocGlobal), mine: Tables, other: &Tables) -> Tables {
+    let plan = mine.plan_join(rt.alloc(), other).expect(rt, "room");
+    let open = mine.open(rt.alloc(), plan).ok().expect(rt, "room");
+    open.carried_out()
+}
+
+// The tables after a join that is given up in its last step.
+fn given_up(rt: &(impl Abort + AllocGlobal), mine: Tables, other: &Tables) -> Tables {
+    let plan = mine.plan_join(rt.alloc(), other).expect(rt, "room");
+    let open = mine.open(rt.alloc(), plan).ok().expect(rt, "room");
+    open.given_up()
+}
+
+#[test]
+fn a_join_in_three_steps_is_carried_out_or_given_up(rt: HostRuntime) {
+    let mut a = empty(&rt);
+    let mut b = empty(&rt);
+    join(&rt, &mut a, "a", "l");
+    start(&rt, &mut a, "a", "x", "one");
+    register(&rt, &mut a, "a", "n", "x");
+    absorb(&rt, &mut b, &a);
+    drop(leave(&rt, &mut b, "a"));
+    start(&rt, &mut b, "b", "y", "two");
+    register(&rt, &mut b, "b", "n", "y");
+    expect_same(
+        &rt,
+        &carried_out(&rt, copy(&rt, &a), &b),
+        &merged(&rt, &a, &b),
+    );
+    expect_same(&rt, &given_up(&rt, copy(&rt, &a), &b), &a);
+    expect_same(&rt, &carried_out(&rt, empty(&rt), &b), &b);
+    expect_same(&rt, &given_up(&rt, empty(&rt), &b), &empty(&rt));
 }
