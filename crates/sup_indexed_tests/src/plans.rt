@@ -69,6 +69,7 @@ fn a_plan_touches_the_keys_whose_first_value_differs(rt: HostRuntime) {
 }
 
 // A value is this one.
+#[derive(Drop)]
 struct Is {
     value: u8,
 }
