@@ -13,7 +13,7 @@ use Rattle.sup_specs.specs.Rising.{among}
 use Rattle.sup_specs.proofs.RisingLaws.{among-rising, rising_same, rising_rises}
 use Rattle.sup_tables.specs.declared.row.Row.{Row}
 use Rattle.sup_tables.specs.Rows.{members, is_at, is_in, key_of, info_of}
-use Rattle.sup_tables.specs.Readers.{entries, winner, keys, is_open, eligible}
+use Rattle.sup_tables.specs.Readers.{winner, keys, is_open, eligible}
 use Rattle.sup_tables.proofs.AddLaws.{and-first, and-second}
 use Rattle.sup_tables.proofs.OrderedRows.{rising_already}
 use Rattle.sup_tables.proofs.PointLaws.{same_text}

@@ -1,27 +1,24 @@
 -- What a plan touches.
-use mathlib.Core.Bool.{false≢true}
-use Rattle.std.specs.Prelude.{◌≡◌, ◌↔◌, Bool, true, false, ◌&&◌, cond, List, [], ◌∷◌, map, filter, Option, Some, None, IsSome, IsTrue, is_some, slice_get, refl}
+use Rattle.std.specs.Prelude.{◌≡◌, ◌↔◌, Bool, true, ◌&&◌, List, [], ◌∷◌, map, Option, Some, None, IsTrue, slice_get, refl}
 use Rattle.std.specs.Option.{option_map}
 use Rattle.std.specs.declared.cmp.Ordering.{Ordering}
-use Rattle.std.specs.declared.cmp.Ordering.TheVariants.{Less, Equal, Greater}
+use Rattle.std.specs.declared.cmp.Ordering.TheVariants.{Less}
 use Rattle.std.specs.Ordering.{eq_by_cmp, ordering_then}
-use Rattle.std.specs.Cmp.{IsTotalOrder, both_ways, tied_itself}
+use Rattle.std.specs.Cmp.{both_ways, tied_itself}
 use Rattle.sup_specs.specs.OrderLaws.{text_total}
 use Rattle.sup_dot_store.specs.Places.{optional_held}
 use Rattle.sup_dot_store.specs.Index.{value_of}
 use Rattle.sup_indexed.specs.Changed.{changed_at}
-use Rattle.std.specs.List.{AllByRecursion, list_any}
+use Rattle.std.specs.List.{AllByRecursion}
 use Rattle.std.specs.List.Sorted.{IsStrictlySortedBy}
-use Rattle.std.specs.FinMap.Entries.{by_order}
 use Rattle.std.specs.Map.{keys_of, lookup}
-use Rattle.std.specs.BTreeMap.{BTreeMap, get, is_at as is_key}
+use Rattle.std.specs.BTreeMap.{get, is_at as is_key}
 use Rattle.std.proofs.Common.{Bor, sym, ap, ◌∙◌, subst}
 use Rattle.std.proofs.lemmas.Option.{same_Some}
 use Rattle.std.proofs.lemmas.List.Kept.{IsStrictlySortedBy-filter}
 use Rattle.std.proofs.lemmas.Map.Views.{any-filter_same}
-use Rattle.sup_causal.proofs.Rising.{less_from_greater}
 use Rattle.sup_specs.specs.Values.{Bytes, text_cmp}
-use Rattle.sup_specs.specs.Rising.{put_in, rising, among}
+use Rattle.sup_specs.specs.Rising.{among}
 use Rattle.sup_specs.proofs.RisingLaws.{rising_same, rising_rises}
 use Rattle.sup_specs.specs.declared.child.ChildSpec.{ChildSpec}
 use Rattle.sup_specs.specs.declared.child.MemberInfo.{MemberInfo}
@@ -29,27 +26,25 @@ use Rattle.sup_causal.specs.declared.dot.Dot.{Dot}
 use Rattle.sup_causal.specs.Dots.{Context, dot_cmp}
 use Rattle.sup_causal.proofs.DotLemmas.{dot_eq-refl}
 use Rattle.sup_dot_store.specs.declared.dot_fun.DotFun.{DotFun}
-use Rattle.sup_dot_store.specs.ByDot.{at_dot}
 use Rattle.sup_dot_store.specs.Contents.{values_of}
 use Rattle.sup_indexed.specs.Contents.{functions_planned}
 use Rattle.sup_indexed.specs.Touched.{first_in, function_after, first_has}
 use Rattle.sup_tables.specs.declared.row.Row.{Row}
 use Rattle.sup_tables.specs.declared.planning.PlannedTables.{PlannedTables}
-use Rattle.sup_tables.specs.Rows.{Table, members, children, names, table_of, key_of, spec_of, info_of, row_cmp, is_at}
+use Rattle.sup_tables.specs.Rows.{Table, members, children, table_of, key_of, spec_of, row_cmp, is_at}
 use Rattle.sup_tables.specs.RowLaws.{row_total, row_tie}
 use Rattle.sup_tables.specs.Readers.{entries, winner, is_open}
 use Rattle.sup_tables.specs.States.{State, IsKept, is_point, row_at}
-use Rattle.sup_tables.specs.Joined.{IsTables}
 use Rattle.sup_tables.specs.Stored.{Stored, value_in, member_row, child_row, state_of}
-use Rattle.sup_tables.specs.Planned.{changed_row, planned_row, IsPlanFor, AreTouched, MembersDiffer}
+use Rattle.sup_tables.specs.Planned.{planned_row, IsPlanFor, AreTouched, MembersDiffer}
 use Rattle.sup_tables.proofs.AddLaws.{same_row, and-first, and-second}
 use Rattle.sup_tables.proofs.EligibleLaws.{opens, eligible_told, eligible_same}
 use Rattle.sup_tables.proofs.EntryLaws.{shown}
 use Rattle.sup_tables.proofs.OperationLaws.{is_row_of}
 use Rattle.sup_tables.proofs.OrderedRows.{rising_already}
 use Rattle.sup_tables.proofs.PlannedJoins.{row_stored, changed_made}
-use Rattle.sup_tables.proofs.PointLaws.{text_itself, IsAt, at_point, find_some, point_itself, row_of_is, is_row_of-itself}
-use Rattle.sup_tables.proofs.StoredLaws.{stored_row, IsOrderedStored, among-values}
+use Rattle.sup_tables.proofs.PointLaws.{text_itself, IsAt, at_point, find_some, row_of_is, is_row_of-itself}
+use Rattle.sup_tables.proofs.StoredLaws.{IsOrderedStored, among-values}
 
 -- rows of one key that are made of values by rising dots rise
 made_rise : {V : Type 0} (make : Dot → V → Row) → ((d e : Dot) (v w : V) → dot_cmp d e ≡ Less → row_cmp (make d v) (make e w) ≡ Less) → (es : List (Dot × V)) → IsStrictlySortedBy dot_cmp (keys_of es) → IsStrictlySortedBy row_cmp (map (λ e. make e.0 e.1) es)

@@ -1,12 +1,9 @@
 -- A join of tables that is planned beside them: what it makes of a state, and what it touches (this project).
-use Rattle.std.specs.Prelude.{◌≡◌, ℕ, ◌≤◌, ◌↔◌, Bool, true, List, Option, Some, None, IsTrue, length}
+use Rattle.std.specs.Prelude.{◌≡◌, ℕ, ◌≤◌, ◌↔◌, true, List, Option, Some, None, length}
 use Rattle.std.specs.Option.{option_map}
 use Rattle.std.specs.BTreeMap.{get}
-use Rattle.std.specs.List.Sorted.{IsStrictlySortedBy}
 use Rattle.sup_specs.specs.Values.{Bytes, text_cmp}
 use Rattle.sup_specs.specs.Rising.{among}
-use Rattle.sup_specs.specs.declared.child.MemberInfo.{MemberInfo}
-use Rattle.sup_specs.specs.declared.child.ChildSpec.{ChildSpec}
 use Rattle.sup_specs.specs.contracts.child.ChildSpecOrd.TheImpl as child_spec_ord
 use Rattle.sup_specs.specs.contracts.child.MemberInfoOrd.TheImpl as member_info_ord
 use Rattle.std.specs.declared.cmp.Ordering.{Ordering}
