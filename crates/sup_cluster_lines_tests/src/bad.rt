@@ -26,8 +26,9 @@ const LINKS: &[&str] = &[
 const COMMANDS: &[&str] = &[
     "deliver a 1",
     "raw a x",
-    "stop a",
-    "restart a",
+    "stop c",
+    "restart c",
+    "restart a !fail",
     "settle",
     "show a",
     "where a x",

@@ -81,6 +81,16 @@ fn a_drain_is_a_command_like_the_others(rt: HostRuntime) {
 }
 
 #[test]
+fn nodes_stop_and_restart_at_moments(rt: HostRuntime) {
+    let script = read(&rt, "nodes a b\nstop a\nrestart a @9\n");
+    assert!(rt; script.commands.len() == 2);
+    assert!(rt; matches!(script.commands[0].act, Act::Stop));
+    assert!(rt; matches!(script.commands[1].act, Act::Restart));
+    assert!(rt; script.commands[1].node == name(&rt, "a"));
+    assert!(rt; script.commands[1].now == 9);
+}
+
+#[test]
 fn an_exit_is_a_command_like_the_others(rt: HostRuntime) {
     let script = read(&rt, "nodes a b\nexit a x 1.1 crash\n");
     assert!(rt; script.commands.len() == 1);

@@ -18,14 +18,14 @@ is_among nodes name = list_any (λ n. bytes_eq n name) nodes
 abbrev pub is_peer : List Bytes → Bytes → Bytes → Bool
 is_peer nodes node to = is_among nodes to && not (bytes_eq node to)
 
--- a node may be told this: no message comes by a command, and no node ends by one
+-- a node may be told this: no message comes by a command
 abbrev pub may_do : List Bytes → Bytes → Act → Bool
 may_do nodes node (Of (Ship to)) = is_peer nodes node to
 may_do nodes node (Of (Push to)) = is_peer nodes node to
 may_do nodes node (Of (Deliver bytes)) = false
 may_do nodes node (Of event) = true
-may_do nodes node Stop = false
-may_do nodes node Restart = false
+may_do nodes node Stop = true
+may_do nodes node Restart = true
 
 abbrev pub may_tell : List Bytes → Command → Bool
 may_tell nodes c = is_among nodes c.node && may_do nodes c.node c.act

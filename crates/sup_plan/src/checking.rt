@@ -13,8 +13,8 @@ const FEWEST: usize = 2;
 
 const MOST: usize = 5;
 
-/// Whether a plan can be run: it has 2 to 5 nodes, whose names differ; each command is told to one of them, and is no stop, restart or
-/// delivery; each ship and push is to another one; each script is of a link from one of them to another, and no two are of the same link.
+/// Whether a plan can be run: it has 2 to 5 nodes, whose names differ; each command is told to one of them, and is no delivery; each
+/// ship and push is to another one; each script is of a link from one of them to another, and no two are of the same link.
 pub fn is_plan(plan: &Plan) -> bool
     ensures { IsTrue result ↔ IsPlan plan.now }
 {
@@ -61,7 +61,7 @@ fn may_do(nodes: &[NodeName], node: &NodeName, act: &Act) -> bool
         Act::Event(Event::Push(to)) => is_peer(nodes, node, to),
         Act::Event(Event::Deliver(_)) => false,
         Act::Event(_) => true,
-        Act::Stop | Act::Restart => false,
+        Act::Stop | Act::Restart => true,
     }
 }
 

@@ -51,10 +51,18 @@ fn ships_and_pushes_go_to_other_nodes_of_the_plan(rt: HostRuntime) {
 }
 
 #[test]
-fn no_command_delivers_stops_or_restarts(rt: HostRuntime) {
+fn no_command_delivers(rt: HostRuntime) {
     assert!(rt; !is_plan(&told(&rt, plan(&rt, &["a", "b"]), "a", deliver(&rt), 0)));
-    assert!(rt; !is_plan(&told(&rt, plan(&rt, &["a", "b"]), "a", Act::Stop, 0)));
-    assert!(rt; !is_plan(&told(&rt, plan(&rt, &["a", "b"]), "a", Act::Restart, 0)));
+}
+
+#[test]
+fn nodes_of_the_plan_are_stopped_and_restarted(rt: HostRuntime) {
+    let stopped = told(&rt, plan(&rt, &["a", "b"]), "a", Act::Stop, 0);
+    assert!(rt; is_plan(&stopped));
+    assert!(rt; is_plan(&told(&rt, stopped, "a", Act::Restart, 7)));
+    assert!(rt; is_plan(&told(&rt, plan(&rt, &["a", "b"]), "b", Act::Restart, 0)));
+    assert!(rt; !is_plan(&told(&rt, plan(&rt, &["a", "b"]), "c", Act::Stop, 0)));
+    assert!(rt; !is_plan(&told(&rt, plan(&rt, &["a", "b"]), "c", Act::Restart, 0)));
 }
 
 #[test]
