@@ -19,7 +19,8 @@ use sup_posts::{Drive, Driven, Post, ThreadFault};
 /// their letters stands among the other nodes' deliveries. The threads make no other calls but exits, with the reason `failed`, of runs
 /// that didn't start: each of a run that an answer to the thread began, and at the moment of the command or the delivery to which it was.
 /// Of the faults of a driver and of the receivers behind its links the gravest is told: want of memory before a full history, and that
-/// before a closed link.
+/// before a closed link. Such a driver still ends its links, and a receiver at a full history still takes what comes, and throws it away: so
+/// the others come to their ends.
 ///
 /// # Errors
 ///

@@ -3,6 +3,8 @@
 //! Every node has a driver, which gives it its commands in their order and puts the letters of their answers into the links to the other
 //! nodes. Behind each of these links a receiver takes what comes, and gives it to the node there. A receiver puts no letters: those that
 //! its node answers lie in the node's outbox until that node's driver puts them. What a node has done with children is told a runner.
+//! A thread that meets a fault goes on for the others: a driver ends its links, a receiver takes to its link's end, unless it is refused
+//! memory, and drops its end.
 #![tactic(auto)]
 
 mod acting;

@@ -38,7 +38,19 @@ impl<'a, R: Wait, W: Weigh, N: Runner, C> Field<'a, R, W, N, C> {
         self.act_all(post, seat, effects, MOMENT)
     }
 
-    // Gives the node all messages that come out of a link, in their order, until its end.
+    // Takes what still comes out of a link, until its end, and throws it away: so its driver is not held up, and finds no closed link.
+    fn throw_away(&self, exit: &mut LinkOut)
+        ensures { SameOut exit.old exit.new }
+    {
+        for _ in self.rt.forever() {
+            let Ok(Some(_)) = exit.take(self.rt) else {
+                return;
+            };
+        }
+    }
+
+    // Gives the node all messages that come out of a link, in their order, until its end. Where its history is full, what still comes is
+    // thrown away.
     pub(crate) fn receive(
         &self,
         post: &Post<W>,
@@ -61,7 +73,15 @@ impl<'a, R: Wait, W: Weigh, N: Runner, C> Field<'a, R, W, N, C> {
             let Some(text) = taken else {
                 return Ok(());
             };
-            self.deliver(post, seat, text)?;
+            match self.deliver(post, seat, text) {
+                Ok(()) => {}
+                Err(fault) => {
+                    if fault != ThreadFault::OutOfMemory {
+                        self.throw_away(exit);
+                    }
+                    return Err(fault);
+                }
+            }
         }
         unreachable!()
     }

@@ -4,7 +4,9 @@ ghost use Rattle.std.specs.Prelude.{◌≡◌, true};
 use sup_local_sup::Effect;
 use sup_specs::NodeName;
 
-/// Has done what nodes have done with their children.
+/// Has done what nodes have done with their children. Several threads tell it of one node, and between threads there is no order: of a node
+/// that was stopped, a start of the boot before may be told after one of the new boot. Incarnations are in order, by boot and then by number,
+/// so who runs children leaves out a start that is older than what it has. That a node stops is not told: its children end with it.
 pub trait Runner {
     /// Does it at this node. False where a start failed: the node is then told, by the thread that was told this, that the child's run
     /// has ended with the reason `failed`.

@@ -60,7 +60,15 @@ pub(crate) fn put_letter<R: Wait>(
     put_letter(rt, alloc, letter, others)
 }
 
-// Puts the end marks. What was put until then stays known.
+// Puts the end marks, and keeps nothing.
+pub(crate) fn end_each<R: Wait>(rt: &R, wires: Vec<Wire>) {
+    for wire in wires {
+        let Wire { to: _, entry } = wire;
+        let _ = entry.end(rt);
+    }
+}
+
+// Puts the end marks, also where memory is refused. What was put until then stays known.
 pub(crate) fn end_all<R: Wait>(
     rt: &R,
     alloc: Global,
@@ -68,7 +76,13 @@ pub(crate) fn end_all<R: Wait>(
 ) -> Result<Vec<Sent>, AllocError>
     ensures { IfOk result (λ ended. AllZip IsEnded wires.items ended.items) }
 {
-    let mut ended = Vec::with_capacity(alloc, wires.len())?;
+    let mut ended = match Vec::with_capacity(alloc, wires.len()) {
+        Ok(room) => room,
+        Err(refused) => {
+            end_each(rt, wires);
+            return Err(refused);
+        }
+    };
     for wire in wires {
         let Wire { to: _, entry } = wire;
         ended.push(entry.end(rt))?;

@@ -5,7 +5,7 @@ ghost use Rattle.sup_driving.specs.Teams.{IsReadyToSteer, IsReadyToReceive, Stee
 use crate::field::Field;
 use crate::runner::{Checkpoint, Runner};
 use crate::teams::{Receive, Steer};
-use crate::wires::end_all;
+use crate::wires::{end_all, end_each};
 use std::sync::Wait;
 use sup_crew::Work;
 use sup_links::{LinkOut, Sent};
@@ -42,9 +42,17 @@ impl<'a, R: Wait, W: Weigh, N: Runner, C: Checkpoint> Work<
             commands,
             mut wires,
         } = steer;
-        self.drive(&self.posts[at], &mut seat, commands, &mut wires)?;
-        let sent = end_all(self.rt, self.alloc, wires)?;
-        Ok(Steered { seat, sent })
+        // The links end also where it gives up: the receivers behind them then find their end.
+        match self.drive(&self.posts[at], &mut seat, commands, &mut wires) {
+            Ok(()) => {
+                let sent = end_all(self.rt, self.alloc, wires)?;
+                Ok(Steered { seat, sent })
+            }
+            Err(fault) => {
+                end_each(self.rt, wires);
+                Err(fault)
+            }
+        }
     }
 }
 

@@ -8,18 +8,18 @@ use Rattle.sup_driving.specs.Wires.{IsLater, IsEnded}
 use Rattle.sup_driving.proofs.Puts.{sent_all, whole}
 use Rattle.sup_driving.proofs.work.FieldWorkSteerResultSteeredThreadFault.run.Goals as goal
 
-pub returns : goal.returns
-returns g c = let did = c.in_ok-drive.ensures.did in record {
+pub returns-in_ok-sent-in-Ok : goal.returns-in_ok-sent-in-Ok
+returns-in_ok-sent-in-Ok g c = let did = c.in-Ok.ensures.did in record {
   seat = (c.requires.0, c.requires.1, subst (λ (p : Post g.row.W.Denot g.W.Weigh). IsOf kept_by p.gate c.drive.new.seat) (get_or_from_slice_get c.args.self.now.posts.now c.args.steer.at c.requires.0 c.index-self-at.result c.requires.1) c.drive.ensures.of);
   entries = did.entries;
   are = did.are;
   stand = did.stand;
   sent =
-      let later = subst (λ l. AllZip IsLater l c.drive.new.wires) c.deref_mut.ensures.value c.in_ok-drive.ensures.later in
-      sent_all did.entries c.args.steer.wires.items c.drive.new.wires c.in_ok-sent.sent.items later
-      (subst (λ l. AllZip IsEnded l c.in_ok-sent.sent.items)
+      let later = subst (λ l. AllZip IsLater l c.drive.new.wires) c.deref_mut.ensures.value c.in-Ok.ensures.later in
+      sent_all did.entries c.args.steer.wires.items c.drive.new.wires c.in_ok-sent-in-Ok.sent.items later
+      (subst (λ l. AllZip IsEnded l c.in_ok-sent-in-Ok.sent.items)
       (ap (λ n. take n (c.drive.new.wires ++ drop (length c.drive.new.wires) c.args.steer.wires.items)) c.args.steer.wires.ok.0 ∙ whole c.args.steer.wires.items c.drive.new.wires later)
-      c.in_ok-sent.ensures)
+      c.in_ok-sent-in-Ok.ensures)
       did.put;
-  made = c.in_ok-drive.ensures.made;
+  made = c.in-Ok.ensures.made;
 }
