@@ -1,10 +1,11 @@
 -- The histories are a run of the plan.
-use Rattle.std.specs.Prelude.{◌≡◌, ◌≢◌, ℕ, List, map, flat_map, All, Some, Result, Ok, slice_get, refl}
+use Rattle.std.specs.Prelude.{◌≡◌, ◌≢◌, ◌≤◌, ℕ, List, length, map, flat_map, All, Some, Result, Ok, slice_get, refl}
 use Rattle.std.specs.List.{AllZip}
 use Rattle.std.proofs.Common.{sym, ap, ◌∙◌, subst}
 use Rattle.sup_specs.specs.Values.{Bytes}
 use Rattle.sup_placement.specs.Place.{Weigher}
 use Rattle.sup_placement.specs.declared.weigh.Weigh.{Ghosts as WeighGhosts}
+use Rattle.sup_replica.specs.Configs.{Config}
 use Rattle.sup_station.specs.Opening.{Opens, kept_by}
 use Rattle.sup_node_gate.specs.Gates.{opening_of, view_of}
 use Rattle.sup_node_gate.specs.declared.entry.Entry.{Entry}
@@ -76,19 +77,27 @@ module _ {W : Type 0} {h : WeighGhosts W} where
             reached plan posts all r.2.entries x k p.0 q.0 at.0 lane.0 a.0 p.2.named q.2.named q.1 at.1 lane.2 a.2 (contained (Ends all) (passes_of driven) a.0 others in_all);
       }
 
-  pub is_run : (g : Weigher) (plan : Plan) (posts : List (Post W h)) (drives : List (Drive W h)) (results : List (Result (Driven W h) ThreadFault)) (all : List History)
-      → AllZip (IsPostOf plan.config) plan.nodes.items posts → AllZip (IsDriveOf plan posts) posts drives → AllZip (Gives posts) drives results
+  -- no history is longer than its gate lets it be
+  pub all_within : (g : Weigher) (config : Config) (bound : ℕ) (names : List Bytes) (posts : List (Post W h)) (all : List History)
+      → AllZip (IsPostOf config bound) names posts → AllZip (IsHistoryOf g) posts all → All (λ (k : History). length k.entries.items ≤ bound) all
+  all_within g config bound names posts all ps hs = all_at (λ (k : History). length k.entries.items ≤ bound) all (λ i x e.
+      let p = zip_right (IsHistoryOf g) posts all i x hs e in
+      let n = zip_right (IsPostOf config bound) names posts i p.0 ps p.1 in
+      subst (λ (b : ℕ). length x.entries.items ≤ b) n.2.bound p.2.within)
+
+  pub is_run : (g : Weigher) (plan : Plan) (bound : ℕ) (posts : List (Post W h)) (drives : List (Drive W h)) (results : List (Result (Driven W h) ThreadFault)) (all : List History)
+      → AllZip (IsPostOf plan.config bound) plan.nodes.items posts → AllZip (IsDriveOf plan posts) posts drives → AllZip (Gives posts) drives results
       → AreFinished g posts results all → IsRunOf g plan all
-  is_run g plan posts drives results all ps ds gs f =
+  is_run g plan bound posts drives results all ps ds gs f =
       let given : AllZip (Drives posts) drives f.driven = zip_map (Gives posts) Ok drives f.driven (subst (AllZip (Gives posts) drives) f.given gs) in
       record {
         nodes =
             zip_equal (λ (p : Post W h). p.name) (λ (k : History). k.node) posts all (zip_weaken (IsHistoryOf g) (λ p k. k.node ≡ p.name) (λ p k y. y.named) posts all f.histories)
-            ∙ zip_equal (λ (n : Bytes). n) (λ (p : Post W h). p.name) plan.nodes.items posts (zip_weaken (IsPostOf plan.config) (λ n p. p.name ≡ n) (λ n p y. y.named) plan.nodes.items posts ps)
+            ∙ zip_equal (λ (n : Bytes). n) (λ (p : Post W h). p.name) plan.nodes.items posts (zip_weaken (IsPostOf plan.config bound) (λ n p. p.name ≡ n) (λ n p y. y.named) plan.nodes.items posts ps)
             ∙ map_same plan.nodes.items;
         ran = all_at (HasRun g plan.config) all (λ i x e.
             let p = zip_right (IsHistoryOf g) posts all i x f.histories e in
-            let n = zip_right (IsPostOf plan.config) plan.nodes.items posts i p.0 ps p.1 in
+            let n = zip_right (IsPostOf plan.config bound) plan.nodes.items posts i p.0 ps p.1 in
             (opening_of kept_by p.0.gate, subst (λ name. Opens name plan.config (opening_of kept_by p.0.gate)) (sym (p.2.named ∙ n.2.named)) n.2.opens, p.2.replays));
         drove = all_at (Drove plan all) all (drove_at g plan posts drives f.driven all ds given f.histories f.own f.others);
       }

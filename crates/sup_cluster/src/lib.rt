@@ -7,5 +7,5 @@
 
 mod running;
 
-pub use running::run;
+pub use running::{run, run_bounded};
 pub use sup_driving::{Checkpoint, Quiet, Runner};

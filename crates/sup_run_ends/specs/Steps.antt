@@ -1,12 +1,11 @@
 -- What stands between the steps of a run (this project).
-use Rattle.std.specs.Prelude.{◌≡◌, ◌≢◌, ◌⊎◌, ◌==◌, not, ℕ, zero, suc, List, [], ◌∷◌, ◌++◌, length, All, Contains, map, flat_map, Some, Result, Ok, IsOk, IfOk, slice_get}
+use Rattle.std.specs.Prelude.{◌≡◌, ◌≢◌, ◌≤◌, ◌⊎◌, ◌==◌, not, ℕ, zero, suc, List, [], ◌∷◌, ◌++◌, length, All, Contains, map, flat_map, Some, Result, Ok, IsOk, IfOk, slice_get}
 use Rattle.std.specs.List.{AllZip, filter}
 use Rattle.sup_specs.specs.Values.{Bytes}
 use Rattle.sup_placement.specs.Place.{Weigher}
 use Rattle.sup_placement.specs.declared.weigh.Weigh.{Ghosts as WeighGhosts}
 use Rattle.sup_replica.specs.Configs.{Config}
 use Rattle.sup_station.specs.Opening.{Opens, kept_by}
-use Rattle.sup_node_gate.specs.declared.bound.TheConstants.{MAX_BOUND}
 use Rattle.sup_node_gate.specs.Gates.{IsOf, bound_of, view_of, opening_of}
 use Rattle.sup_node_gate.specs.Histories.{IsHistory, IsPrefix}
 use Rattle.sup_links.specs.Ends.{script_of, room_of}
@@ -50,11 +49,11 @@ module _ {W : Type 0} {h : WeighGhosts W} where
   abbrev pub IsSeatOf : Post W h → Seat W h → Type 0
   IsSeatOf post seat = IsOf kept_by post.gate seat
 
-  -- a node's post before the run
-  pub record IsPostOf (config : Config) (name : Bytes) (post : Post W h) : Type 0 where
+  -- a node's post before the run, whose history may have so many entries at most
+  pub record IsPostOf (config : Config) (most : ℕ) (name : Bytes) (post : Post W h) : Type 0 where
     pub named : post.name ≡ name
     pub opens : Opens name config (opening_of kept_by post.gate)
-    pub bound : bound_of post.gate ≡ MAX_BOUND
+    pub bound : bound_of post.gate ≡ most
 
   -- the link leads to the node at this place, by the plan's script
   pub record IsLaneTo (scripts : List Route) (from : Bytes) (at : ℕ) (other : Post W h) (lane : Lane W h) : Type 0 where
@@ -91,10 +90,11 @@ module _ {W : Type 0} {h : WeighGhosts W} where
     pub stands : slice_get all a.to ≡ Some history
     pub begins : Begins a.seat history
 
-  -- the history of a post's node
+  -- the history of a post's node, which has room for it
   pub record IsHistoryOf (g : Weigher) (post : Post W h) (history : History) : Type 0 where
     pub named : history.node ≡ post.name
     pub replays : IsHistory g (opening_of kept_by post.gate) history.entries.items
+    pub within : length history.entries.items ≤ bound_of post.gate
 
   -- the second pass has seen what the first has
   abbrev pub HasSeen : Seat W h → Seat W h → Type 0

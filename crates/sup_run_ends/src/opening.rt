@@ -1,13 +1,14 @@
 //! The nodes of a run, before it begins.
 ghost use Rattle.std.specs.Prelude.{◌≡◌, IfOk, IfErr};
 ghost use Rattle.std.specs.List.{AllZip};
+ghost use Rattle.sup_node_gate.specs.Gates.{IsBound};
 ghost use Rattle.sup_run_ends.specs.Steps.{IsPostOf, IsSeatOf};
 ghost use Rattle.sup_posts.specs.declared.fault.RunFault.TheVariants.{OutOfMemory};
 
 use std::alloc::Global;
 use std::sync::Mutex;
 use sup_keeper::MemKeeper;
-use sup_node_gate::{MAX_BOUND, NodeGate};
+use sup_node_gate::NodeGate;
 use sup_placement::Weigh;
 use sup_posts::{Post, RunFault, Seat};
 use sup_replica::Config;
@@ -19,35 +20,40 @@ fn open_post<W: Weigh>(
     alloc: Global,
     name: NodeName,
     config: Config,
+    bound: u64,
 ) -> Result<(Post<W>, Seat<W>), RunFault>
-    ensures post { IfOk result (λ r. IsPostOf config name r.0) }
+    requires { IsBound bound }
+    ensures post { IfOk result (λ r. IsPostOf config bound name r.0) }
     ensures seat { IfOk result (λ r. IsSeatOf r.0 r.1) }
     ensures fault { IfErr result (λ f. f ≡ OutOfMemory) }
 {
     let Ok(station) = Station::new(alloc, name, config, MemKeeper::new(alloc)) else {
         return Err(RunFault::OutOfMemory);
     };
-    let Ok((gate, seat)) = NodeGate::new(alloc, station, MAX_BOUND) else {
+    let Ok((gate, seat)) = NodeGate::new(alloc, station, bound) else {
         return Err(RunFault::OutOfMemory);
     };
     let outbox = Mutex::new(Vec::new(alloc));
     Ok((Post { name, gate, outbox }, seat))
 }
 
-/// These nodes, in their order, and a first pass of each one's gate.
+/// These nodes, in their order, each one's history with room for `bound` entries, from 1 to
+/// [`MAX_BOUND`](sup_node_gate::MAX_BOUND), and a first pass of each one's gate.
 pub fn open_posts<W: Weigh>(
     alloc: Global,
     config: Config,
+    bound: u64,
     nodes: &[NodeName],
 ) -> Result<(Vec<Post<W>>, Vec<Seat<W>>), RunFault>
-    ensures posts { IfOk result (λ r. AllZip (IsPostOf config) nodes.now r.0.items) }
+    requires { IsBound bound }
+    ensures posts { IfOk result (λ r. AllZip (IsPostOf config bound) nodes.now r.0.items) }
     ensures seats { IfOk result (λ r. AllZip IsSeatOf r.0.items r.1.items) }
     ensures fault { IfErr result (λ f. f ≡ OutOfMemory) }
 {
     let mut posts = Vec::new(alloc);
     let mut seats = Vec::new(alloc);
     for name in nodes {
-        let (post, seat) = open_post(alloc, *name, config)?;
+        let (post, seat) = open_post(alloc, *name, config, bound)?;
         let Ok(()) = posts.push(post) else {
             return Err(RunFault::OutOfMemory);
         };

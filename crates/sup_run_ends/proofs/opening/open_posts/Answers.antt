@@ -8,8 +8,8 @@ use Rattle.sup_run_ends.proofs.opening.open_posts.Goals as goal
 pub loop-name-preserved : goal.loop-name-preserved
 loop-name-preserved g c =
     let seats = all_zipped_more IsSeatOf c.loop-name.posts.items c.loop-name.seats.items c.in_ok-post.post c.in_ok-post.seat c.loop-name.invariant.1 c.in_ok-post.ensures.seat in (
-      subst (AllZip (IsPostOf c.args.config) (take (c.loop-name.name-index + 1) c.args.nodes.now)) (sym c.in-Ok.ensures.items)
-          (zip_taken (IsPostOf c.args.config) c.args.nodes.now c.loop-name.name-index c.name-item.result c.loop-name.posts.items c.in_ok-post.post c.loop-name-test.true c.name-item.is c.loop-name.invariant.0 c.in_ok-post.ensures.post),
+      subst (AllZip (IsPostOf c.args.config c.args.bound) (take (c.loop-name.name-index + 1) c.args.nodes.now)) (sym c.in-Ok.ensures.items)
+          (zip_taken (IsPostOf c.args.config c.args.bound) c.args.nodes.now c.loop-name.name-index c.name-item.result c.loop-name.posts.items c.in_ok-post.post c.loop-name-test.true c.name-item.is c.loop-name.invariant.0 c.in_ok-post.ensures.post),
       subst (AllZip IsSeatOf c.push.new.self.items) (sym c.in-Ok-push.ensures.items)
           (subst (λ l. AllZip IsSeatOf l (c.loop-name.seats.items ++ c.in_ok-post.seat ∷ [])) (sym c.in-Ok.ensures.items) seats),
     )

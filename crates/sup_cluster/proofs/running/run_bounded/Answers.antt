@@ -1,11 +1,12 @@
-use Rattle.std.proofs.Common.{All, sym, subst}
+use Rattle.std.proofs.Common.{◌≤◌, All, length, sym, subst}
 use Rattle.std.specs.List.{AllZip}
+use Rattle.sup_plan.specs.declared.histories.History.{History}
 use Rattle.sup_posts.specs.Jobs.{Takes, Gives}
 use Rattle.sup_cluster.specs.Runs.{IsRunOf}
 use Rattle.sup_run_ends.specs.Steps.{IsPostOf, IsDriveOf}
 use Rattle.sup_cluster.proofs.Returning.{drives_take, returned}
-use Rattle.sup_cluster.proofs.Finishing.{is_run}
-use Rattle.sup_cluster.proofs.running.run.Goals as goal
+use Rattle.sup_cluster.proofs.Finishing.{all_within, is_run}
+use Rattle.sup_cluster.proofs.running.run_bounded.Goals as goal
 
 pub launch-requires : goal.launch-requires
 launch-requires g c =
@@ -22,8 +23,14 @@ finish-requires g c =
 
 pub returns-clause-run : goal.returns-clause-run
 returns-clause-run g c = subst (IsRunOf g.W.Weigh.weight_of c.args.plan.now) (sym c.new.ensures)
-    (is_run g.W.Weigh.weight_of c.args.plan.now c.in_ok-posts.posts.items c.in_ok-drives.drives.items c.in_ok-results.results.items c.in_ok-histories.histories.items
-    (subst (λ l. AllZip (IsPostOf c.args.plan.now.config) l c.in_ok-posts.posts.items) c.deref.ensures.value c.in_ok-posts.ensures.posts)
+    (is_run g.W.Weigh.weight_of c.args.plan.now c.args.bound c.in_ok-posts.posts.items c.in_ok-drives.drives.items c.in_ok-results.results.items c.in_ok-histories.histories.items
+    (subst (λ l. AllZip (IsPostOf c.args.plan.now.config c.args.bound) l c.in_ok-posts.posts.items) c.deref.ensures.value c.in_ok-posts.ensures.posts)
     (subst (λ l. AllZip (IsDriveOf c.args.plan.now l) l c.in_ok-drives.drives.items) c.deref-2.ensures.value c.in_ok-drives.ensures)
     (subst (λ l. AllZip (Gives l) c.in_ok-drives.drives.items c.in_ok-results.results.items) c.deref-3.ensures.value c.in_ok-results.ensures)
     c.in_ok-histories.ensures.histories)
+
+pub returns-clause-bound : goal.returns-clause-bound
+returns-clause-bound g c = subst (All (λ (k : History). length k.entries.items ≤ c.args.bound)) (sym c.new.ensures)
+    (all_within g.W.Weigh.weight_of c.args.plan.now.config c.args.bound c.args.plan.now.nodes.items c.in_ok-posts.posts.items c.in_ok-histories.histories.items
+    (subst (λ l. AllZip (IsPostOf c.args.plan.now.config c.args.bound) l c.in_ok-posts.posts.items) c.deref.ensures.value c.in_ok-posts.ensures.posts)
+    c.in_ok-histories.ensures.histories.histories)
