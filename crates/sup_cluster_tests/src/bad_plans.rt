@@ -8,7 +8,6 @@ use sup_links::Verdict;
 use sup_placement::FlatWeigh;
 use sup_plan::Plan;
 use sup_posts::RunFault;
-use sup_replica::Act;
 
 fn is_bad<R: Threads + Wait + Sync + AllocGlobal>(rt: &R, plan: &Plan) -> bool {
     matches!(
@@ -34,8 +33,6 @@ fn equal_names(rt: HostRuntime) {
 fn commands_that_no_node_is_told(rt: HostRuntime) {
     let two = || plan(&rt, &["a", "b"]);
     assert!(rt; is_bad(&rt, &told(&rt, two(), "c", join(&rt))));
-    assert!(rt; is_bad(&rt, &told(&rt, two(), "a", Act::Stop)));
-    assert!(rt; is_bad(&rt, &told(&rt, two(), "a", Act::Restart)));
     assert!(rt; is_bad(&rt, &told(&rt, two(), "a", deliver(&rt))));
     assert!(rt; is_bad(&rt, &told(&rt, two(), "a", ship(&rt, "a"))));
     assert!(rt; is_bad(&rt, &told(&rt, two(), "a", ship(&rt, "c"))));

@@ -1,10 +1,25 @@
 //! What the tests are given.
 use std::process::Abort;
+use std::sync::atomic::{AtomicBool, Ordering};
+use std::thread::yield_now;
 use sup_links::{LinkScript, Verdict};
 use sup_placement::FlatWeigh;
 use sup_plan::{Command, Histories, Plan, Route};
-use sup_replica::{Act, Config, Event, MessageText, Reply};
+use sup_replica::{Act, Config, Event, MessageText, Refusal, Reply};
 use sup_specs::{ChildId, ChildSpec, Kind, NodeName, Restart, Shutdown, Text};
+
+// How often a thread that waits looks again, at most.
+const TURNS: u64 = 100_000_000;
+
+/// Waits until the lamp is lit, but no longer than its turns.
+pub(crate) fn wait_for(lamp: &AtomicBool) {
+    for _ in 0..TURNS {
+        if lamp.load(Ordering::SeqCst) {
+            return;
+        }
+        yield_now();
+    }
+}
 
 pub(crate) fn node(rt: &impl Abort, name: &str) -> NodeName {
     NodeName::parse(name).expect(rt, "a node's name")
@@ -80,6 +95,10 @@ pub(crate) fn ship(rt: &impl Abort, to: &str) -> Act {
     Act::Event(Event::Ship(node(rt, to)))
 }
 
+pub(crate) fn push(rt: &impl Abort, to: &str) -> Act {
+    Act::Event(Event::Push(node(rt, to)))
+}
+
 pub(crate) fn deliver(rt: &impl AllocGlobal) -> Act {
     Act::Event(Event::Deliver(MessageText::new(Vec::new(rt.alloc()))))
 }
@@ -92,6 +111,7 @@ pub(crate) enum Counted {
     Absorbed,
     Known,
     Acked,
+    Stopped,
 }
 
 fn is_it(reply: &Reply, counted: Counted) -> bool {
@@ -101,6 +121,7 @@ fn is_it(reply: &Reply, counted: Counted) -> bool {
         Counted::Absorbed => matches!(reply, Reply::Absorbed),
         Counted::Known => matches!(reply, Reply::Known),
         Counted::Acked => matches!(reply, Reply::Acked),
+        Counted::Stopped => matches!(reply, Reply::Stopped),
     }
 }
 
@@ -116,6 +137,18 @@ pub(crate) fn count(histories: &Histories, at: usize, counted: Counted) -> usize
             Ok(done) => is_it(&done.reply, counted),
             Err(_) => false,
         })
+        .count()
+}
+
+/// How many of a node's entries are refused since it is stopped.
+pub(crate) fn refused_down(histories: &Histories, at: usize) -> usize {
+    let Some(history) = histories.as_slice().get(at) else {
+        return 0;
+    };
+    history
+        .entries
+        .iter()
+        .filter(|entry| matches!(entry.answer, Err(Refusal::Down)))
         .count()
 }
 

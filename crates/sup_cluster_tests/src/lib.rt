@@ -5,6 +5,8 @@
 #[cfg(test)]
 mod bad_plans;
 #[cfg(test)]
+mod bounded;
+#[cfg(test)]
 mod failing;
 #[cfg(test)]
 mod five;
@@ -12,5 +14,7 @@ mod five;
 mod given;
 #[cfg(test)]
 mod lossy;
+#[cfg(test)]
+mod stopped;
 #[cfg(test)]
 mod together;

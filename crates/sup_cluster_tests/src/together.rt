@@ -1,32 +1,18 @@
 //! Drivers that wait for one another, which get on since they run at once.
-use crate::given::{Counted, count, is_certified, join, plan, ship, start, told};
+use crate::given::{Counted, count, is_certified, join, plan, ship, start, told, wait_for};
 use std::process::Abort;
 use std::sync::atomic::{AtomicBool, Ordering};
-use std::thread::yield_now;
 use sup_cluster::{Checkpoint, Runner, run};
 use sup_local_sup::Effect;
 use sup_placement::FlatWeigh;
 use sup_plan::Plan;
 use sup_specs::NodeName;
 
-// How often a thread that waits looks again, at most.
-const TURNS: u64 = 100_000_000;
-
 // Whether b's first command was answered, and whether b was told to start a child.
 #[derive(Drop)]
 struct Lamps {
     joined: AtomicBool,
     started: AtomicBool,
-}
-
-// Waits until the lamp is lit, but no longer than its turns.
-fn wait_for(lamp: &AtomicBool) {
-    for _ in 0..TURNS {
-        if lamp.load(Ordering::SeqCst) {
-            return;
-        }
-        yield_now();
-    }
 }
 
 impl Checkpoint for Lamps {

@@ -8,6 +8,8 @@ mod bad_lines;
 #[cfg(test)]
 mod children;
 #[cfg(test)]
+mod clusters;
+#[cfg(test)]
 mod devices;
 #[cfg(test)]
 mod inputs;

@@ -1,0 +1,98 @@
+//! Runs whose histories may have few entries.
+use crate::given::{is_certified, join, linked, plan, push, start, told, wait_for};
+use std::process::Abort;
+use std::sync::atomic::{AtomicBool, Ordering};
+use sup_cluster::{Checkpoint, Quiet, run_bounded};
+use sup_links::Verdict;
+use sup_placement::FlatWeigh;
+use sup_plan::Plan;
+use sup_posts::RunFault;
+use sup_specs::NodeName;
+
+// Node a has two commands, and b none.
+fn two_commands(rt: &(impl Abort + AllocGlobal)) -> Plan {
+    let plan = told(rt, plan(rt, &["a", "b"]), "a", join(rt));
+    told(rt, plan, "a", start(rt, "x"))
+}
+
+#[test]
+fn a_history_of_one_entry_has_no_room_for_two_commands(rt: HostRuntime) {
+    let plan = two_commands(&rt);
+    let ended = run_bounded(&rt, rt.alloc(), &plan, 1, &Quiet, &Quiet, &FlatWeigh);
+    assert!(rt; matches!(ended, Err(RunFault::HistoryFull)));
+}
+
+#[test]
+fn a_history_may_have_as_many_entries_as_its_bound(rt: HostRuntime) {
+    let plan = two_commands(&rt);
+    let Ok(histories) = run_bounded(&rt, rt.alloc(), &plan, 2, &Quiet, &Quiet, &FlatWeigh) else {
+        panic!(rt; "no histories")
+    };
+    assert!(rt; histories.as_slice()[0].entries.len() == 2);
+    assert!(rt; is_certified(&rt, &plan, &histories));
+}
+
+#[test]
+fn a_bad_plan_is_refused_whatever_the_bound(rt: HostRuntime) {
+    let plan = plan(&rt, &["a"]);
+    let ended = run_bounded(&rt, rt.alloc(), &plan, 1, &Quiet, &Quiet, &FlatWeigh);
+    assert!(rt; matches!(ended, Err(RunFault::BadPlan)));
+}
+
+// B's history has room for its own commands and fifteen deliveries. Behind the one that finds it full twenty messages more come from a: more
+// than wait in a link.
+const BOUND: u64 = 40;
+
+const STARTS: u64 = 25;
+
+const PUSHES: u64 = 36;
+
+// What b acknowledges is lost, so that a's history has room for all its commands.
+fn many_messages(rt: &(impl Abort + AllocGlobal)) -> Plan {
+    let lost = [Verdict::Lose; 16];
+    let mut plan = linked(rt, plan(rt, &["a", "b"]), "b", "a", &lost);
+    plan = told(rt, plan, "a", start(rt, "x"));
+    for _ in 0..PUSHES {
+        plan = told(rt, plan, "a", push(rt, "b"));
+    }
+    for _ in 0..STARTS {
+        plan = told(rt, plan, "b", start(rt, "y"));
+    }
+    plan
+}
+
+// Whether b's last command was answered, and a's.
+#[derive(Drop)]
+struct Lamps {
+    started: AtomicBool,
+    pushed: AtomicBool,
+}
+
+impl Checkpoint for Lamps {
+    fn before(&self, node: &NodeName, place: u64) {
+        if node.as_str() == "a" && place == 2 {
+            wait_for(&self.started);
+        }
+    }
+
+    fn answered(&self, node: &NodeName, place: u64) {
+        match node.as_str() {
+            "b" if place == STARTS => self.started.store(true, Ordering::SeqCst),
+            "a" if place == PUSHES + 1 => self.pushed.store(true, Ordering::SeqCst),
+            _ => {}
+        }
+    }
+}
+
+#[test]
+fn a_driver_makes_all_its_commands_though_another_nodes_history_is_full(rt: HostRuntime) {
+    let lamps = Lamps {
+        started: AtomicBool::new(false),
+        pushed: AtomicBool::new(false),
+    };
+    let plan = many_messages(&rt);
+    let ended = run_bounded(&rt, rt.alloc(), &plan, BOUND, &Quiet, &lamps, &FlatWeigh);
+    assert!(rt; matches!(ended, Err(RunFault::HistoryFull)));
+    // A receiver that had dropped its end would have closed the link.
+    assert!(rt; lamps.pushed.load(Ordering::SeqCst));
+}
