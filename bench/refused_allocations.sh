@@ -1,6 +1,8 @@
 #!/usr/bin/env bash
-# Runs `supctl simulate` on scripts, and on files that end in .cluster, .members and .image `supctl cluster`, `place` and `inspect`, with each
-# allocation refused in turn, and the saves of scripts with each failing in turn, and looks at what comes of it:
+# Runs `supctl simulate` on scripts, and on files that end in .cluster, .members and .image, and the inputs of cases of clusters, `supctl
+# cluster`, `place` and `inspect`, with each allocation refused in turn, and the saves of scripts with each failing in turn. Of the threads of
+# a cluster the K-th allocation is another one from run to run, so all is done ten times over; no run may take a minute. It looks at what
+# comes of it:
 # - status 3: `out of memory` on standard error, and a front of the run's output;
 # - status 0 and one step answered `refused 19 OutOfMemory`: where its line is repeated, all else is as without that answer (of `settle`,
 #   whose steps before stand, what is shown at the end);
@@ -15,6 +17,7 @@ rows=$top/crates/sup_rows/data
   "$rows"/{cut-and-misdirected-messages,delivery-at-a-stopped-node,interval-after-restart-without-its-text,member-leaves-rejoins-and-restarts}/stdin \
   "$rows"/{least-dot-wins,finish-removes-the-one-dot-that-ran,restart-keeps-its-place,each-refusal-in-order,names-follow-their-child}/stdin \
   "$rows"/{drained-member-loses-its-child,a-drain-takes-winner-and-losers}/stdin \
+  "$rows"/{cluster-with-lost-and-doubled-letters,cluster-stop-and-restart}/stdin \
   "$rows"/{interval-after-restart-version-2,image-printed-version-2,inspected-node-tells-what-its-peers-acknowledged,removal-overtakes-its-add}/stdin
 "${CC:-cc}" -shared -fPIC -O1 -o "$work/refuse.so" "$top/bench/refuse_allocation.c" -ldl
 "$top/supctl" simulate <<<'nodes a' >"$work/output"
@@ -59,12 +62,12 @@ is_front() {
   head -c "$(wc -c <"$work/output")" "$work/whole" | cmp -s - "$work/output"
 }
 
-# Runs the command with its K-th allocation refused; whether there was one.
+# Runs the command with its K-th allocation refused; whether there was one. One that takes a minute ends with status 124.
 run_refused() {
   local input=$1
   : >"$work/mark"
   status=0
-  REFUSED=$2 LD_PRELOAD=$work/refuse.so "$program" "$command" <"$input" >"$work/output" 2>"$work/errors" 9>"$work/mark" || status=$?
+  timeout 60 env REFUSED="$2" LD_PRELOAD="$work/refuse.so" "$program" "$command" <"$input" >"$work/output" 2>"$work/errors" 9>"$work/mark" || status=$?
   [ -s "$work/mark" ]
 }
 
@@ -130,7 +133,11 @@ for script in "$@"; do
   rm -f "$work"/before.*
   more=()
   command=simulate
-  [ "$script" = "${script%.cluster}" ] || command=cluster
+  times=1
+  if [ "$script" != "${script%.cluster}" ] || [ "$(head -n 1 "$(dirname "$script")/args" 2>"$work/errors")" = cluster ]; then
+    command=cluster
+    times=10
+  fi
   [ "$script" = "${script%.members}" ] || command=place
   [ "$script" = "${script%.image}" ] || command=inspect
   name=$(basename "$script")
@@ -142,5 +149,7 @@ for script in "$@"; do
     play_fronts
     fail_each_save
   fi
-  refuse_each_allocation
+  for _ in $(seq "$times"); do
+    refuse_each_allocation
+  done
 done
