@@ -1,13 +1,14 @@
-//! Five nodes that drain, over links that lose and double.
+//! Five nodes that drain, stop and restart, over links that lose and double.
 use crate::given::{drain, is_certified, join, linked, plan, ship, start, told};
 use std::process::Abort;
 use sup_cluster::{Quiet, run};
 use sup_links::Verdict;
 use sup_placement::FlatWeigh;
 use sup_plan::Plan;
+use sup_replica::Act;
 
-// The node joins and starts a child, and is drained then. It ships to the next one before that and behind it, over a link that loses the
-// first message and doubles the second.
+// The node joins and starts a child, stops and comes back, and is drained then. It ships to the next one before each of these and behind
+// them, over a link that loses the first message and doubles the second.
 fn with_member(
     rt: &(impl Abort + AllocGlobal),
     plan: Plan,
@@ -18,6 +19,9 @@ fn with_member(
     let plan = linked(rt, plan, name, next, &[Verdict::Lose, Verdict::Twice]);
     let plan = told(rt, plan, name, join(rt));
     let plan = told(rt, plan, name, start(rt, child));
+    let plan = told(rt, plan, name, ship(rt, next));
+    let plan = told(rt, plan, name, Act::Stop);
+    let plan = told(rt, plan, name, Act::Restart);
     let plan = told(rt, plan, name, ship(rt, next));
     let plan = told(rt, plan, name, drain(rt, name));
     told(rt, plan, name, ship(rt, next))
@@ -33,7 +37,7 @@ fn ring(rt: &(impl Abort + AllocGlobal)) -> Plan {
 }
 
 #[test]
-fn a_hundred_runs_of_five_nodes_that_drain_are_certified(rt: HostRuntime) {
+fn a_hundred_runs_of_five_nodes_that_drain_stop_and_restart_are_certified(rt: HostRuntime) {
     let plan = ring(&rt);
     for _ in 0..100 {
         let Ok(histories) = run(&rt, rt.alloc(), &plan, &Quiet, &Quiet, &FlatWeigh) else {
