@@ -1,4 +1,0 @@
-pub mod Heard
-pub mod Answering
-pub mod Serving
-pub mod Beginning

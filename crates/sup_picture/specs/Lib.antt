@@ -1,4 +1,0 @@
-pub mod Messages
-pub mod Arrows
-pub mod Turns
-pub mod Children

@@ -1,4 +1,0 @@
-pub mod Escapes
-pub mod Grids
-pub mod Pieces
-pub mod Svg

@@ -1,3 +1,0 @@
-pub mod Taking
-pub mod Hosts
-pub mod Talking

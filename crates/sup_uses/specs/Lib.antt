@@ -1,2 +1,0 @@
-pub mod Letters
-pub mod Sharing
