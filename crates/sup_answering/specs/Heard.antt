@@ -1,0 +1,50 @@
+-- Whose acknowledgements a node has heard (this project): a node holds no list of its peers.
+use Rattle.std.specs.Prelude.{◌≡◌, ℕ, Bool, true, false, List, [], ◌∷◌, ◌++◌, Option, Some, None, Result, Ok, Err, if◌then◌else◌}
+use Rattle.std.specs.List.{list_any}
+use Rattle.std.specs.Str.{bytes_eq}
+use Rattle.sup_specs.specs.Values.{Bytes}
+use Rattle.sup_tables.specs.States.{State}
+use Rattle.sup_replica.specs.Stations.{Mail, a_delta, a_push, an_ack}
+use Rattle.sup_replica.specs.declared.event.Act.{Act}
+use Rattle.sup_replica.specs.declared.event.Act.TheVariants.{Event as Of}
+use Rattle.sup_replica.specs.declared.event.Event.TheVariants.{Deliver}
+use Rattle.sup_replica.specs.declared.done.Done.{Done}
+use Rattle.sup_replica.specs.declared.done.Reply.{Reply}
+use Rattle.sup_replica.specs.declared.done.Reply.TheVariants.{Acked}
+use Rattle.sup_replica.specs.declared.refusal.Refusal.{Refusal}
+use Rattle.sup_node.specs.Texts.{IsReadAs}
+
+abbrev pub IsAck : Option (Mail State) → Type 0
+IsAck None = ⊥
+IsAck (Some (a_delta from to n whole content)) = ⊥
+IsAck (Some (a_push from to content)) = ⊥
+IsAck (Some (an_ack from to n)) = Unit {0}
+
+-- who acknowledges by these bytes: none where they are read as no acknowledgement
+abbrev pub IsSender : Bytes → Option Bytes → Type 0
+IsSender bytes None = (mail : Option (Mail State)) × IsReadAs bytes mail × ¬ IsAck mail
+IsSender bytes (Some peer) = (to : Bytes) × (n : ℕ) × IsReadAs bytes (Some (an_ack peer to n))
+
+-- who acknowledges by an act
+abbrev pub Acknowledges : Act → Option Bytes → Type 0
+Acknowledges (Of (Deliver bytes)) peer = IsSender bytes peer
+Acknowledges act peer = peer ≡ None
+
+-- a name among others, once
+abbrev pub with_peer : Option Bytes → List Bytes → List Bytes
+with_peer None peers = peers
+with_peer (Some peer) peers = if list_any (λ other. bytes_eq other peer) peers then peers else peers ++ (peer ∷ [])
+
+abbrev pub is_acked : Reply → Bool
+is_acked Acked = true
+is_acked reply = false
+
+abbrev pub is_acked_at : Result Done Refusal → Bool
+is_acked_at (Ok done) = is_acked done.reply
+is_acked_at (Err refusal) = false
+
+-- the peers behind an act's end: with who acknowledged by it
+abbrev pub Hears : Act → Result Done Refusal → List Bytes → List Bytes → Type 0
+Hears act end before after =
+    (is_acked_at end ≡ false → after ≡ before)
+    × (is_acked_at end ≡ true → (peer : Option Bytes) × Acknowledges act peer × (after ≡ with_peer peer before))

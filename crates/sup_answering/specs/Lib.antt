@@ -1,0 +1,4 @@
+pub mod Heard
+pub mod Answering
+pub mod Serving
+pub mod Beginning

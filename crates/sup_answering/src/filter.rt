@@ -1,0 +1,174 @@
+//! A station that answers lines.
+
+ghost use Rattle.std.specs.Prelude.{◌≡◌, IfOk, OnOk};
+ghost use Rattle.sup_station.specs.Stills.{Goes, keeper_of, still_of};
+ghost use Rattle.sup_node_text.specs.Shown.{show_text, where_text};
+ghost use Rattle.sup_told.specs.Told.{ended_text};
+ghost use Rattle.sup_answering.specs.Heard.{Hears, with_peer};
+ghost use Rattle.sup_answering.specs.Answering.{Answers, IsDone, IsInspectedBy, known, members_of, shown_by};
+
+use crate::members::members_of;
+use crate::peers::{acknowledger, in_order, is_acked};
+use std::alloc::{AllocError, Global};
+use sup_asked::{Asked, read_asked};
+use sup_disk::ImageKeeper;
+use sup_node_text::{inspect_text, show_text, where_text};
+use sup_placement::Weigh;
+use sup_replica::{Act, Done, Event, Refusal};
+use sup_specs::{Name, NodeName};
+use sup_station::Station;
+use sup_talk::Answerer;
+use sup_told::{bad_text, ended_text, told_text};
+
+/// A node that answers lines: its station, what it weighs children by, and the peers whose acknowledgements it has heard.
+#[derive(Drop)]
+pub struct Filter<K: ImageKeeper, W: Weigh + Drop> {
+    pub name: NodeName,
+    pub station: Station<K, W>,
+    pub peers: Vec<NodeName>,
+    pub weigher: W,
+    pub alloc: Global,
+}
+
+impl<K: ImageKeeper, W: Weigh + Drop> Filter<K, W> {
+    /// Does what is asked for, and gives its answer, which an empty line ends.
+    ///
+    /// # Errors
+    ///
+    /// Where memory for the text was refused. What is asked for may be done then.
+    pub fn answer_asked(&mut self, asked: Option<Asked>) -> Result<Vec<u8>, AllocError>
+        ensures { IfOk result (λ text. Answers W.weight_of (known self.old.name (still_of K.kept self.old.station) self.old.peers.items (K.lost (keeper_of self.old.station))) asked text.items
+            (known self.new.name (still_of K.kept self.new.station) self.new.peers.items (K.lost (keeper_of self.new.station)))) }
+    {
+        match asked {
+            None => bad_text(self.alloc),
+            Some(Asked::Does(event, now)) => self.answer_event(event, now),
+            Some(Asked::Show) => self.show(),
+            Some(Asked::Inspect) => self.inspect(),
+            Some(Asked::Members) => self.members(),
+            Some(Asked::Image) => self.image(),
+            Some(Asked::Where(sought)) => self.lead(&sought),
+        }
+    }
+
+    // Does an event, and tells its end.
+    fn answer_event(&mut self, event: Event, now: u64) -> Result<Vec<u8>, AllocError>
+        ensures { IfOk result (λ text. IsDone W.weight_of (known self.old.name (still_of K.kept self.old.station) self.old.peers.items (K.lost (keeper_of self.old.station))) event now text.items
+            (known self.new.name (still_of K.kept self.new.station) self.new.peers.items (K.lost (keeper_of self.new.station)))) }
+    {
+        let act = Act::Event(event);
+        let end = self.step(&act, now);
+        self.hear(&act, &end)?;
+        told_text(self.alloc, end)
+    }
+
+    // As the station's own step, which takes the act.
+    fn step(&mut self, act: &Act, now: u64) -> Result<Done, Refusal>
+        ensures goes { Goes W.weight_of (still_of K.kept self.old.station) act.now now result (still_of K.kept self.new.station) }
+        ensures name { self.new.name ≡ self.old.name }
+        ensures peers { self.new.peers.items ≡ self.old.peers.items }
+    {
+        let prepared = self.station.prepare(act, now, &self.weigher)?;
+        self.station.commit(prepared)
+    }
+
+    // Notes who acknowledged by an act that ended so.
+    fn hear(&mut self, act: &Act, end: &Result<Done, Refusal>) -> Result<(), AllocError>
+        ensures hears { OnOk result (Hears act.now end.now self.old.peers.items self.new.peers.items) }
+        ensures name { self.new.name ≡ self.old.name }
+        ensures station { self.new.station ≡ self.old.station }
+    {
+        if !is_acked(end) {
+            return Ok(());
+        }
+        let peer = acknowledger(self.alloc, act)?;
+        self.note(peer)
+    }
+
+    fn note(&mut self, peer: Option<NodeName>) -> Result<(), AllocError>
+        ensures peers { OnOk result (self.new.peers.items ≡ with_peer peer self.old.peers.items) }
+        ensures name { self.new.name ≡ self.old.name }
+        ensures station { self.new.station ≡ self.old.station }
+    {
+        let Some(peer) = peer else {
+            return Ok(());
+        };
+        if self.peers.contains(&peer) {
+            return Ok(());
+        }
+        self.peers.push(peer)?;
+        Ok(())
+    }
+
+    fn show(&self) -> Result<Vec<u8>, AllocError>
+        ensures { IfOk result (λ text. text.items ≡ ended_text (show_text W.weight_of self.now.name (shown_by (still_of K.kept self.now.station)))) }
+    {
+        let lines = show_text(self.alloc, &self.name, self.station.node(), &self.weigher)?;
+        ended_text(lines)
+    }
+
+    fn inspect(&self) -> Result<Vec<u8>, AllocError>
+        ensures { IfOk result (λ text. IsInspectedBy W.weight_of (known self.now.name (still_of K.kept self.now.station) self.now.peers.items (K.lost (keeper_of self.now.station))) text.items) }
+    {
+        let peers = in_order(self.alloc, self.peers.as_slice())?;
+        let lines = inspect_text(
+            self.alloc,
+            &self.name,
+            self.station.node(),
+            peers.as_slice(),
+            &self.weigher,
+        )?;
+        ended_text(lines)
+    }
+
+    fn members(&self) -> Result<Vec<u8>, AllocError>
+        ensures { IfOk result (λ text. text.items ≡ ended_text (members_of self.now.name (still_of K.kept self.now.station).node)) }
+    {
+        let lines = members_of(self.alloc, &self.name, self.station.node())?;
+        ended_text(lines)
+    }
+
+    fn image(&self) -> Result<Vec<u8>, AllocError>
+        ensures { IfOk result (λ text. text.items ≡ ended_text (ended_text (still_of K.kept self.now.station).kept)) }
+    {
+        let mut text = self.station.keeper().stored().to_vec(self.alloc)?;
+        text.push(b'\n')?;
+        text.push(b'\n')?;
+        Ok(text)
+    }
+
+    fn lead(&self, sought: &Name) -> Result<Vec<u8>, AllocError>
+        ensures { IfOk result (λ text. text.items ≡ ended_text (where_text W.weight_of self.now.name (shown_by (still_of K.kept self.now.station)) sought.now)) }
+    {
+        let lines = where_text(
+            self.alloc,
+            &self.name,
+            self.station.node(),
+            sought,
+            &self.weigher,
+        )?;
+        ended_text(lines)
+    }
+}
+
+impl<K: ImageKeeper, W: Weigh + Drop> Answerer for Filter<K, W> {
+    ghost use Rattle.sup_station.specs.Stills.{keeper_of, still_of};
+    ghost use Rattle.sup_answering.specs.Answering.{AnswersLine, known};
+
+    ghost over = { λ f. K.lost (keeper_of f.station) };
+
+    ghost answers = { λ s heard text t. AnswersLine W.weight_of (known s.name (still_of K.kept s.station) s.peers.items (K.lost (keeper_of s.station))) heard text
+        (known t.name (still_of K.kept t.station) t.peers.items (K.lost (keeper_of t.station))) };
+
+    fn answer(&mut self, line: Option<&[u8]>) -> Result<Vec<u8>, AllocError> {
+        let asked = match line {
+            Some(line) => read_asked(self.alloc, &self.name, line)?,
+            None => None,
+        };
+        self.answer_asked(asked)
+    }
+
+    fn is_over(&self) -> bool {
+        self.station.keeper().is_lost()
+    }
+}

@@ -1,0 +1,56 @@
+//! Whose acknowledgements were heard.
+
+ghost use Rattle.std.specs.Prelude.{◌≡◌, IfOk, IsPermutation, IsSorted};
+ghost use Rattle.sup_specs.specs.Values.{text_cmp};
+ghost use Rattle.sup_answering.specs.Heard.{Acknowledges, IsSender, is_acked_at};
+
+use std::alloc::{AllocError, Global};
+use sup_replica::{Act, Done, Event, Refusal, Reply};
+use sup_specs::NodeName;
+use sup_wire::{Message, WireFault, decode};
+
+// Whether an acknowledgement was taken.
+pub(crate) fn is_acked(end: &Result<Done, Refusal>) -> bool
+    ensures { result ≡ is_acked_at end.now }
+{
+    match end {
+        Ok(done) => match done.reply {
+            Reply::Acked => true,
+            _ => false,
+        },
+        Err(_) => false,
+    }
+}
+
+// Who acknowledges by an act.
+pub(crate) fn acknowledger(alloc: Global, act: &Act) -> Result<Option<NodeName>, AllocError>
+    ensures { IfOk result (λ peer. Acknowledges act.now peer) }
+{
+    match act {
+        Act::Event(Event::Deliver(bytes)) => sender_of(alloc, bytes.as_slice()),
+        _ => Ok(None),
+    }
+}
+
+// Who acknowledges by these bytes.
+fn sender_of(alloc: Global, bytes: &[u8]) -> Result<Option<NodeName>, AllocError>
+    ensures { IfOk result (λ peer. IsSender bytes.now peer) }
+{
+    match decode(alloc, bytes) {
+        Ok(Message::Ack { from, .. }) => Ok(Some(from)),
+        Ok(Message::Push { .. }) => Ok(None),
+        Ok(Message::Delta { .. }) => Ok(None),
+        Err(WireFault::OutOfMemory) => Err(AllocError),
+        Err(_) => Ok(None),
+    }
+}
+
+// The names in their order.
+pub(crate) fn in_order(alloc: Global, names: &[NodeName]) -> Result<Vec<NodeName>, AllocError>
+    ensures sorted { IfOk result (λ ordered. IsSorted text_cmp ordered.items) }
+    ensures all { IfOk result (λ ordered. IsPermutation names.now ordered.items) }
+{
+    let mut ordered = Vec::from_slice(alloc, names)?;
+    ordered.sort()?;
+    Ok(ordered)
+}

@@ -1,0 +1,33 @@
+//! A node that answers until its host says no more.
+
+ghost use Rattle.sup_station.specs.Stills.{keeper_of, still_of};
+ghost use Rattle.sup_answering.specs.Answering.{known};
+ghost use Rattle.sup_answering.specs.Serving.{Serves};
+
+use crate::filter::Filter;
+use std::alloc::Global;
+use sup_disk::ImageKeeper;
+use sup_jobs::DeviceFault;
+use sup_placement::Weigh;
+use sup_talk::{Host, LINE_LIMIT, TalkEnd, TalkFault, talk};
+
+/// Tells the first answer unasked, and then answers each line of the host before the next is heard, until the host says no more, or the
+/// node doesn't know any more what outlives it.
+///
+/// # Errors
+///
+/// As [`talk`] tells.
+pub fn serve<K: ImageKeeper, W: Weigh + Drop, H: Host>(
+    alloc: Global,
+    filter: &mut Filter<K, W>,
+    first: &[u8],
+    host: &mut H,
+) -> Result<TalkEnd, TalkFault>
+    ensures { Serves W.weight_of LINE_LIMIT (known filter.old.name (still_of K.kept filter.old.station) filter.old.peers.items (K.lost (keeper_of filter.old.station)))
+        (known filter.new.name (still_of K.kept filter.new.station) filter.new.peers.items (K.lost (keeper_of filter.new.station))) first.now (H.seen host.old) (H.seen host.new) result }
+{
+    match host.tell(first) {
+        Ok(()) => talk(alloc, filter, host),
+        Err(DeviceFault) => Err(TalkFault::Device),
+    }
+}

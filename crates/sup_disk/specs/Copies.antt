@@ -1,0 +1,20 @@
+-- What a keeper over a file keeps (this project).
+use Rattle.std.specs.Prelude.{ℕ, Bool, Option, Some, None, []}
+use Rattle.std.specs.Global.{Vec}
+use Rattle.sup_specs.specs.Values.{Bytes}
+use Rattle.sup_disk.specs.Crashes.{What}
+
+-- the bytes of a copy of what a file has
+abbrev pub copied : Option (Vec ℕ) → What
+copied None = None
+copied (Some bytes) = Some bytes.items
+
+-- the bytes that are kept: none where there is no file yet
+abbrev pub kept_of : What → Bytes
+kept_of None = []
+kept_of (Some bytes) = bytes
+
+pub record Filed : Type 0 where
+  pub copy : What  -- what the file has
+  pub failures : ℕ
+  pub lost : Bool  -- the file may have other bytes than the copy

@@ -1,0 +1,52 @@
+//! A file and another beside it, as a disk has them.
+
+ghost use Rattle.std.specs.Prelude.{OnOk, IfOk};
+ghost use Rattle.sup_specs.specs.Values.{Bytes};
+ghost use Rattle.sup_disk.specs.Crashes.{What, NoMore, OrThese, OnlyThese, OnlyThis};
+ghost use Rattle.sup_disk.specs.Copies.{copied};
+
+use std::alloc::Global;
+use std::io;
+
+/// A file and another beside it. Each call asks for what the one before it has to have done.
+pub trait Disk: Drop {
+    // What the file may have if the power goes.
+    ghost may_have: { Self → What → Type 0 };
+
+    // The file beside it has these bytes, as long as the system runs.
+    ghost written: { Self → Bytes → Type 0 };
+
+    // It has them also where the power goes.
+    ghost flushed: { Self → Bytes → Type 0 };
+
+    // The file has these bytes, as long as the system runs.
+    ghost named: { Self → Bytes → Type 0 };
+
+    /// Writes the file beside.
+    fn write_beside(&mut self, bytes: &[u8]) -> io::Result<()>
+        ensures file { NoMore (may_have self.old) (may_have self.new) }
+        ensures written { OnOk result (written self.new bytes.now) };
+
+    /// Flushes the file beside.
+    fn flush_beside(&mut self, bytes: &[u8]) -> io::Result<()>
+        requires { written self.old bytes.now }
+        ensures file { NoMore (may_have self.old) (may_have self.new) }
+        ensures flushed { OnOk result (flushed self.new bytes.now) };
+
+    /// Gives the file beside the file's name.
+    fn rename(&mut self, bytes: &[u8]) -> io::Result<()>
+        requires { flushed self.old bytes.now }
+        ensures file { OrThese (may_have self.old) (may_have self.new) bytes.now }
+        ensures named { OnOk result (named self.new bytes.now) };
+
+    /// Flushes the names of the folder.
+    fn flush_folder(&mut self, bytes: &[u8]) -> io::Result<()>
+        requires { named self.old bytes.now }
+        ensures file { NoMore (may_have self.old) (may_have self.new) }
+        ensures only { OnOk result (OnlyThese (may_have self.new) bytes.now) };
+
+    /// What the file has, none where it isn't there. It is flushed with the names of the folder, so that it has nothing else where the
+    /// power goes.
+    fn read(&mut self, alloc: Global) -> io::Result<Option<Vec<u8>>>
+        ensures { IfOk result (λ bytes. OnlyThis (may_have self.new) (copied bytes)) };
+}

@@ -1,0 +1,153 @@
+//! A keeper over a disk.
+
+ghost use Rattle.std.specs.Prelude.{◌≡◌, ◌↔◌, Bool, false, None, IfOk, IsTrue};
+ghost use Rattle.std.proofs.Props.{props};
+ghost use Rattle.sup_disk.specs.Crashes.{OnlyThis};
+ghost use Rattle.sup_disk.specs.Copies.{copied};
+
+use crate::disk::Disk;
+use crate::replacing::{ReplaceFault, replace_on};
+use std::alloc::Global;
+use std::io;
+use std::marker::Model;
+use sup_keeper::{KeepFault, Keeper};
+
+/// A keeper that shows what it keeps, and may come not to know it.
+pub trait ImageKeeper: Keeper {
+    // What outlives it may be other bytes than those that it keeps.
+    ghost lost: { Self → Bool };
+
+    /// Whether what outlives it may be other bytes than those that it keeps.
+    fn is_lost(&self) -> bool
+        ensures { result ≡ lost self.now };
+
+    /// The bytes that it keeps.
+    fn stored(&self) -> &[u8]
+        ensures { result.now ≡ Self.kept self.now };
+}
+
+/// Keeps bytes in a file, and a copy of them. As long as it isn't lost, a loss of power leaves the copy and nothing else.
+#[derive(Drop)]
+pub struct DiskKeeper<D: Disk> {
+    disk: D,
+    // What the file has; none where there is no file yet.
+    copy: Option<Vec<u8>>,
+    failures: u64,
+    // The file may have other bytes than the copy.
+    lost: bool,
+    alloc: Global,
+    pub ghost agrees: { lost ≡ false → OnlyThis (D.may_have disk) (copied copy) } by { Prim.hlevel props },
+}
+
+impl<D: Disk> Model for DiskKeeper<D> {
+    ghost use Rattle.sup_disk.specs.Copies.{Filed, copied};
+
+    ghost Value = { Filed };
+
+    ghost view = { λ k. record { copy = copied k.copy; failures = k.failures; lost = k.lost } };
+}
+
+impl<D: Disk> DiskKeeper<D> {
+    /// A keeper of what the file has.
+    ///
+    /// # Errors
+    ///
+    /// Where the file can't be read or flushed.
+    pub fn open(alloc: Global, disk: D) -> io::Result<DiskKeeper<D>>
+        ensures sound { IfOk result (λ k. k.lost ≡ false) }
+        ensures failures { IfOk result (λ k. k.failures ≡ 0) }
+    {
+        let mut disk = disk;
+        let copy = disk.read(alloc)?;
+        Ok(DiskKeeper {
+            disk,
+            copy,
+            failures: 0,
+            lost: false,
+            alloc,
+        })
+    }
+
+    /// Whether there is no image yet.
+    pub fn is_new(&self) -> bool
+        ensures { IsTrue result ↔ self.now.copy ≡ None }
+    {
+        self.copy.is_none()
+    }
+
+    /// The disk. As long as the keeper isn't lost, a loss of power leaves what is kept.
+    pub fn disk(&self) -> &D
+        ensures { self.now.lost ≡ false → OnlyThis (D.may_have result.now) self.now.copy }
+    {
+        &self.disk
+    }
+}
+
+impl<D: Disk> ImageKeeper for DiskKeeper<D> {
+    ghost lost = { λ k. k.lost };
+
+    fn is_lost(&self) -> bool {
+        self.lost
+    }
+
+    fn stored(&self) -> &[u8] {
+        match &self.copy {
+            Some(bytes) => bytes.as_slice(),
+            None => &[],
+        }
+    }
+}
+
+impl<D: Disk> Keeper for DiskKeeper<D> {
+    ghost use Rattle.std.specs.Prelude.{false};
+    ghost use Rattle.sup_disk.specs.Copies.{kept_of};
+
+    ghost kept = { λ k. kept_of k.copy };
+
+    ghost failures = { λ k. k.failures };
+
+    ghost failing = { λ k. k.lost };
+
+    // A disk may fail at any time.
+    ghost sound = { λ _. false };
+
+    fn save(&mut self, bytes: &[u8]) -> Result<(), KeepFault> {
+        // All the room is taken before the file is touched.
+        let copy = bytes.to_vec(self.alloc)?;
+        // A failure that can't be counted must not come.
+        if self.failures == u64::MAX {
+            return Err(KeepFault::OutOfMemory);
+        }
+        if self.lost {
+            self.failures += 1;
+            return Err(KeepFault::Failed);
+        }
+        match replace_on(&mut self.disk, bytes) {
+            Ok(()) => {
+                self.copy = Some(copy);
+                Ok(())
+            }
+            Err(ReplaceFault::Kept) => {
+                self.failures += 1;
+                Err(KeepFault::Failed)
+            }
+            Err(ReplaceFault::Unsure) => {
+                self.lost = true;
+                self.failures += 1;
+                Err(KeepFault::Failed)
+            }
+        }
+    }
+
+    fn load(&mut self) -> Result<Vec<u8>, KeepFault> {
+        let copy = match &self.copy {
+            Some(bytes) => bytes.to_vec(self.alloc)?,
+            None => Vec::new(self.alloc),
+        };
+        Ok(copy)
+    }
+
+    fn failures(&self) -> u64 {
+        self.failures
+    }
+}

@@ -1,0 +1,150 @@
+//! A disk in memory, whose calls fail and whose power goes as it is told.
+
+ghost use Rattle.std.specs.Prelude.{◌≡◌, Some, None, IfOk, OnOk, if◌then◌else◌};
+ghost use Rattle.sup_disk.specs.Copies.{copied};
+
+use crate::disk::Disk;
+use std::alloc::Global;
+use std::io::{self, ErrorKind};
+
+/// Which call fails.
+#[derive(Clone, Copy, Debug, PartialEq, Eq)]
+pub enum Next {
+    /// None.
+    Holds,
+    /// The write of the file beside.
+    WriteFails,
+    /// Its flush.
+    FlushFails,
+    /// The rename, which isn't done then.
+    RenameFails,
+    /// The rename, which is done though.
+    RenameIsUntold,
+    /// The flush of the folder.
+    FolderFails,
+}
+
+/// What the running system has under the file's name, what the disk has there, and the file beside.
+#[derive(Drop)]
+pub struct MemDisk {
+    pub alloc: Global,
+    pub shown: Option<Vec<u8>>,
+    pub safe: Option<Vec<u8>>,
+    pub beside: Option<Vec<u8>>,
+    pub is_flushed: bool,
+    pub next: Next,
+}
+
+impl MemDisk {
+    /// A disk that has no file.
+    pub fn new(alloc: Global) -> MemDisk
+        ensures shown { copied result.shown ≡ None }
+        ensures safe { copied result.safe ≡ None }
+        ensures next { result.next ≡ Next.Holds }
+    {
+        MemDisk {
+            alloc,
+            shown: None,
+            safe: None,
+            beside: None,
+            is_flushed: false,
+            next: Next::Holds,
+        }
+    }
+
+    /// The power goes and comes: the file has what the disk had, or, where names outran their flush, what the running system had.
+    ///
+    /// # Errors
+    ///
+    /// Refused only for memory.
+    pub fn lose_power(&mut self, is_ahead: bool) -> io::Result<()>
+        ensures shown { OnOk result (copied self.new.shown ≡ (if is_ahead then copied self.old.shown else copied self.old.safe)) }
+        ensures safe { OnOk result (copied self.new.safe ≡ copied self.new.shown) }
+        ensures beside { OnOk result (copied self.new.beside ≡ None) }
+    {
+        let shown = self.left_over(is_ahead)?;
+        let safe = copy_of(self.alloc, &shown)?;
+        self.shown = shown;
+        self.safe = safe;
+        self.beside = None;
+        self.is_flushed = false;
+        Ok(())
+    }
+
+    fn left_over(&self, is_ahead: bool) -> io::Result<Option<Vec<u8>>>
+        ensures { IfOk result (λ copy. copied copy ≡ (if is_ahead then copied self.now.shown else copied self.now.safe)) }
+    {
+        if is_ahead {
+            copy_of(self.alloc, &self.shown)
+        } else {
+            copy_of(self.alloc, &self.safe)
+        }
+    }
+}
+
+// A copy of bytes that may be there.
+fn copy_of(alloc: Global, bytes: &Option<Vec<u8>>) -> io::Result<Option<Vec<u8>>>
+    ensures { IfOk result (λ copy. copied copy ≡ copied bytes.now) }
+{
+    match bytes {
+        Some(bytes) => Ok(Some(bytes.to_vec(alloc)?)),
+        None => Ok(None),
+    }
+}
+
+impl Disk for MemDisk {
+    ghost use Rattle.std.specs.Prelude.{◌≡◌, ◌⊎◌, true, Some};
+    ghost use Rattle.sup_disk.specs.Copies.{copied};
+
+    ghost may_have = { λ d what. (what ≡ copied d.safe) ⊎ (what ≡ copied d.shown) };
+
+    ghost written = { λ d bytes. copied d.beside ≡ Some bytes };
+
+    ghost flushed = { λ d bytes. (copied d.beside ≡ Some bytes) × (d.is_flushed ≡ true) };
+
+    ghost named = { λ d bytes. copied d.shown ≡ Some bytes };
+
+    fn write_beside(&mut self, bytes: &[u8]) -> io::Result<()> {
+        if self.next == Next::WriteFails {
+            return Err(io::Error::from(ErrorKind::Other));
+        }
+        let copy = bytes.to_vec(self.alloc)?;
+        self.beside = Some(copy);
+        self.is_flushed = false;
+        Ok(())
+    }
+
+    fn flush_beside(&mut self, _bytes: &[u8]) -> io::Result<()> {
+        if self.next == Next::FlushFails {
+            return Err(io::Error::from(ErrorKind::Other));
+        }
+        self.is_flushed = true;
+        Ok(())
+    }
+
+    fn rename(&mut self, _bytes: &[u8]) -> io::Result<()> {
+        if self.next == Next::RenameFails {
+            return Err(io::Error::from(ErrorKind::Other));
+        }
+        self.shown = self.beside.take();
+        if self.next == Next::RenameIsUntold {
+            return Err(io::Error::from(ErrorKind::Other));
+        }
+        Ok(())
+    }
+
+    fn flush_folder(&mut self, _bytes: &[u8]) -> io::Result<()> {
+        if self.next == Next::FolderFails {
+            return Err(io::Error::from(ErrorKind::Other));
+        }
+        let copy = copy_of(self.alloc, &self.shown)?;
+        self.safe = copy;
+        Ok(())
+    }
+
+    fn read(&mut self, alloc: Global) -> io::Result<Option<Vec<u8>>> {
+        let copy = copy_of(self.alloc, &self.shown)?;
+        self.safe = copy;
+        copy_of(alloc, &self.shown)
+    }
+}

@@ -1,0 +1,96 @@
+//! A file of the file system, of which contracts claim nothing.
+
+use crate::disk::Disk;
+use std::alloc::{AllocError, Global};
+use std::fs::{self, File, OpenFile};
+use std::io::{self, ErrorKind, Read, Write};
+use std::rt::Files;
+
+/// A file at a path.
+#[derive(Drop)]
+pub struct SystemDisk<R: Files + Drop> {
+    rt: R,
+    path: String,
+    beside: String,
+    folder: String,
+    // The file beside from its write to its flush, so that no error that comes between them is told to nobody.
+    opened: Option<R::File>,
+}
+
+impl<R: Files + Drop> SystemDisk<R> {
+    /// The file at this path, which need not be there yet. The file beside it has `.new` behind its name, so that a rename never leaves
+    /// the file system.
+    ///
+    /// # Errors
+    ///
+    /// Refused only for memory.
+    pub fn at(alloc: Global, rt: R, path: &str) -> Result<SystemDisk<R>, AllocError> {
+        let mut beside = String::from_str(alloc, path)?;
+        beside.push_str(".new")?;
+        let folder = match path.rfind('/') {
+            None => String::from_str(alloc, ".")?,
+            Some(0) => String::from_str(alloc, "/")?,
+            Some(end) => String::from_str(alloc, &path[..end])?,
+        };
+        let path = String::from_str(alloc, path)?;
+        Ok(SystemDisk {
+            rt,
+            path,
+            beside,
+            folder,
+            opened: None,
+        })
+    }
+
+    // Flushes the names of the folder.
+    fn flush_names(&self) -> io::Result<()> {
+        let folder = File::open(&self.rt, self.folder.as_str())?;
+        folder.sync_all()
+    }
+}
+
+impl<R: Files + Drop> Disk for SystemDisk<R> {
+    // Nothing is told of what it may have.
+    ghost may_have = { λ _ _. ⊥ };
+
+    ghost written = { λ _ _. Unit {0} };
+
+    ghost flushed = { λ _ _. Unit {0} };
+
+    ghost named = { λ _ _. Unit {0} };
+
+    fn write_beside(&mut self, bytes: &[u8]) -> io::Result<()> {
+        let mut file = File::create(&self.rt, self.beside.as_str())?;
+        file.write_all(bytes)?;
+        self.opened = Some(file);
+        Ok(())
+    }
+
+    fn flush_beside(&mut self, _bytes: &[u8]) -> io::Result<()> {
+        match self.opened.take() {
+            Some(file) => file.sync_all(),
+            None => Err(io::Error::from(ErrorKind::NotFound)),
+        }
+    }
+
+    fn rename(&mut self, _bytes: &[u8]) -> io::Result<()> {
+        fs::rename(&self.rt, self.beside.as_str(), self.path.as_str())
+    }
+
+    fn flush_folder(&mut self, _bytes: &[u8]) -> io::Result<()> {
+        self.flush_names()
+    }
+
+    fn read(&mut self, alloc: Global) -> io::Result<Option<Vec<u8>>> {
+        let mut file = match File::open(&self.rt, self.path.as_str()) {
+            Ok(file) => file,
+            Err(error) if error.kind() == ErrorKind::NotFound => return Ok(None),
+            Err(error) => return Err(error),
+        };
+        file.sync_all()?;
+        self.flush_names()?;
+        let mut bytes = Vec::new(alloc);
+        file.read_to_end(&mut bytes)?;
+        Ok(Some(bytes))
+    }
+}

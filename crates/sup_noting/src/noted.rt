@@ -1,0 +1,158 @@
+//! A log that grows by a line.
+
+ghost use Rattle.std.specs.Prelude.{◌≡◌, ◌++◌, ◌∷◌, [], OnOk};
+ghost use Rattle.sup_noting.specs.Noted.{answered, looked, noted_of, refused, row_in, settled, unsettled};
+
+use crate::posts::{add_came, add_left, add_refused, place_of};
+use crate::turns::{add_effects, add_effects_of, add_turn};
+use std::alloc::{AllocError, Global};
+use sup_local_sup::Effect;
+use sup_model::Step;
+use sup_picture::{Caption, Log, Mark, Row};
+use sup_replica::{Done, Refusal};
+use sup_specs::NodeName;
+use sup_text::{answer_text, refusal_text, settled_text};
+
+/// Notes a line that made this step, and what was answered: at which node, and with which number its letter left.
+///
+/// # Errors
+///
+/// `AllocError` where memory was refused. The log may have a part of the line then.
+pub fn note_answer(
+    alloc: Global,
+    log: &mut Log,
+    line: &[u8],
+    step: &Step,
+    at: &NodeName,
+    done: &Done,
+    number: Option<u64>,
+) -> Result<(), AllocError>
+    ensures rows { OnOk result ((noted_of log.new).rows ≡ (answered (noted_of log.old) line.now step.now at.now done.now number).rows) }
+    ensures posts { OnOk result ((noted_of log.new).posts ≡ (answered (noted_of log.old) line.now step.now at.now done.now number).posts) }
+    ensures changes { OnOk result ((noted_of log.new).changes ≡ (answered (noted_of log.old) line.now step.now at.now done.now number).changes) }
+{
+    let row = log.rows.len() as u64;
+    let said = answer_text(alloc, at, done, number)?;
+    add_came(&mut log.posts, step, at, &done.reply, row)?;
+    add_left(&mut log.posts, at, &done.out, number, row)?;
+    add_turn(alloc, &mut log.changes, step, row)?;
+    add_effects(alloc, &mut log.changes, at, done.effects.as_slice(), row)?;
+    add_row(alloc, &mut log.rows, line, said.as_bytes(), Mark::Done(*at))
+}
+
+/// Notes a line whose step was refused.
+///
+/// # Errors
+///
+/// `AllocError` where memory was refused. The log may have a part of the line then.
+pub fn note_refusal(
+    alloc: Global,
+    log: &mut Log,
+    line: &[u8],
+    step: &Step,
+    refusal: Refusal,
+) -> Result<(), AllocError>
+    ensures rows { OnOk result ((noted_of log.new).rows ≡ (refused (noted_of log.old) line.now step.now refusal).rows) }
+    ensures posts { OnOk result ((noted_of log.new).posts ≡ (refused (noted_of log.old) line.now step.now refusal).posts) }
+    ensures changes { OnOk result ((noted_of log.new).changes ≡ (refused (noted_of log.old) line.now step.now refusal).changes) }
+{
+    let row = log.rows.len() as u64;
+    let said = refusal_text(alloc, refusal)?;
+    let at = place_of(log.posts.as_slice(), step);
+    add_refused(&mut log.posts, step, refusal, row)?;
+    add_row(
+        alloc,
+        &mut log.rows,
+        line,
+        said.as_bytes(),
+        Mark::Refused(at),
+    )
+}
+
+/// Notes a line by which the nodes settled: how many messages they sent, and what is to be done.
+///
+/// # Errors
+///
+/// `AllocError` where memory was refused. The log may have a part of the line then.
+pub fn note_settling(
+    alloc: Global,
+    log: &mut Log,
+    line: &[u8],
+    messages: u64,
+    effects: &[(NodeName, Effect)],
+) -> Result<(), AllocError>
+    ensures rows { OnOk result ((noted_of log.new).rows ≡ (settled (noted_of log.old) line.now messages effects.now).rows) }
+    ensures posts { OnOk result ((noted_of log.new).posts ≡ (settled (noted_of log.old) line.now messages effects.now).posts) }
+    ensures changes { OnOk result ((noted_of log.new).changes ≡ (settled (noted_of log.old) line.now messages effects.now).changes) }
+{
+    let row = log.rows.len() as u64;
+    let said = settled_text(alloc, messages, effects)?;
+    add_effects_of(alloc, &mut log.changes, effects, row)?;
+    add_row(
+        alloc,
+        &mut log.rows,
+        line,
+        said.as_bytes(),
+        Mark::Everywhere,
+    )
+}
+
+/// Notes a line whose settling was cut short.
+///
+/// # Errors
+///
+/// `AllocError` where memory was refused. The log is as it was then.
+pub fn note_unsettled(
+    alloc: Global,
+    log: &mut Log,
+    line: &[u8],
+    refusal: Refusal,
+) -> Result<(), AllocError>
+    ensures rows { OnOk result ((noted_of log.new).rows ≡ (unsettled (noted_of log.old) line.now refusal).rows) }
+    ensures posts { OnOk result ((noted_of log.new).posts ≡ (unsettled (noted_of log.old) line.now refusal).posts) }
+    ensures changes { OnOk result ((noted_of log.new).changes ≡ (unsettled (noted_of log.old) line.now refusal).changes) }
+{
+    let said = refusal_text(alloc, refusal)?;
+    add_row(
+        alloc,
+        &mut log.rows,
+        line,
+        said.as_bytes(),
+        Mark::Everywhere,
+    )
+}
+
+/// Notes a line that makes no step.
+///
+/// # Errors
+///
+/// `AllocError` where memory was refused. The log is as it was then.
+pub fn note_look(alloc: Global, log: &mut Log, line: &[u8]) -> Result<(), AllocError>
+    ensures rows { OnOk result ((noted_of log.new).rows ≡ (looked (noted_of log.old) line.now).rows) }
+    ensures posts { OnOk result ((noted_of log.new).posts ≡ (looked (noted_of log.old) line.now).posts) }
+    ensures changes { OnOk result ((noted_of log.new).changes ≡ (looked (noted_of log.old) line.now).changes) }
+{
+    add_row(alloc, &mut log.rows, line, b"", Mark::Nowhere)
+}
+
+// Adds a row.
+fn add_row(
+    alloc: Global,
+    rows: &mut Vec<Row>,
+    line: &[u8],
+    said: &[u8],
+    mark: Mark,
+) -> Result<(), AllocError>
+    ensures { OnOk result (rows.new.items ≡ rows.old.items ++ row_in rows.old.items line.now said.now mark ∷ []) }
+{
+    let row = rows.len() as u64;
+    let line = Caption::new(line.to_vec(alloc)?);
+    let said = Caption::new(said.to_vec(alloc)?);
+    rows.push(Row {
+        row,
+        line,
+        said,
+        mark,
+    })?;
+    Ok(())
+}

@@ -1,0 +1,4 @@
+pub mod Messages
+pub mod Arrows
+pub mod Turns
+pub mod Children

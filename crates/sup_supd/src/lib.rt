@@ -1,0 +1,10 @@
+//! The program `supd` but for its `main`: from its words, its host and its file to its status.
+#![tactic(auto)]
+
+pub mod node;
+pub mod run;
+pub mod settings;
+
+pub use node::run_node;
+pub use run::run;
+pub use settings::{Settings, read_settings};

@@ -1,0 +1,109 @@
+//! A node's run, from what is kept and its host to its status.
+
+ghost use Rattle.std.specs.Prelude.{◌≡◌};
+ghost use Rattle.sup_command_line.specs.Weighings.{weight_of};
+ghost use Rattle.sup_jobs.specs.Tells.{Tells};
+ghost use Rattle.sup_supd.specs.Ends.{IsToldAs, RunsTo, end_told, fault_told};
+
+use std::alloc::Global;
+use std::io::Write;
+use sup_answering::begin::begin;
+use sup_answering::{BeginFault, Begun, serve};
+use sup_command_line::Weighing;
+use sup_disk::ImageKeeper;
+use sup_jobs::{Ended, Fault, finish, put_all};
+use sup_placement::{FlatWeigh, Sha256Weigh, Weigh};
+use sup_replica::{Config, Refusal};
+use sup_specs::NodeName;
+use sup_talk::{Host, LINE_LIMIT, TalkEnd, TalkFault};
+
+/// Runs a node of this name with what its keeper keeps, which is new if nothing is, until its host says no more or a fault ends it. Tells the
+/// error writer why, and answers that with the exit status: 0, or 1 where what is kept is no image for this node, and 3 where the device,
+/// the keeper or memory ended it.
+pub fn run_node<K: ImageKeeper, H: Host, E: Write>(
+    alloc: Global,
+    name: NodeName,
+    config: Config,
+    weighing: Weighing,
+    keeper: K,
+    is_new: bool,
+    host: &mut H,
+    errors: &mut E,
+) -> Ended
+    ensures { RunsTo (weight_of weighing) LINE_LIMIT is_new name config (K.kept keeper) (H.seen host.old) (H.seen host.new)
+        (E.contents errors.old) (E.contents errors.new) result }
+{
+    match weighing {
+        Weighing::Sha256 => run_by(
+            alloc,
+            name,
+            config,
+            Sha256Weigh,
+            keeper,
+            is_new,
+            host,
+            errors,
+        ),
+        Weighing::Flat => run_by(alloc, name, config, FlatWeigh, keeper, is_new, host, errors),
+    }
+}
+
+fn run_by<K: ImageKeeper, W: Weigh + Drop, H: Host, E: Write>(
+    alloc: Global,
+    name: NodeName,
+    config: Config,
+    weigher: W,
+    keeper: K,
+    is_new: bool,
+    host: &mut H,
+    errors: &mut E,
+) -> Ended
+    ensures { RunsTo W.weight_of LINE_LIMIT is_new name config (K.kept keeper) (H.seen host.old) (H.seen host.new)
+        (E.contents errors.old) (E.contents errors.new) result }
+{
+    match begin(alloc, name, config, keeper, is_new, weigher) {
+        Ok(begun) => {
+            let Begun { mut filter, first } = begun;
+            let end = serve(alloc, &mut filter, first.as_slice(), host);
+            end_with(end, errors)
+        }
+        Err(fault) => refuse(fault, errors),
+    }
+}
+
+// Tells how a node that began ended.
+fn end_with<E: Write>(end: Result<TalkEnd, TalkFault>, errors: &mut E) -> Ended
+    ensures { IsToldAs (end_told end) (E.contents errors.old) (E.contents errors.new) result }
+{
+    match end {
+        Ok(TalkEnd::Ended) => finish(errors, Ok(())),
+        Ok(TalkEnd::Over) => finish(errors, Err(Fault::Device)),
+        Ok(TalkEnd::Spent) => finish(errors, Err(Fault::Device)),
+        Err(TalkFault::Device) => finish(errors, Err(Fault::Device)),
+        Err(TalkFault::OutOfMemory) => finish(errors, Err(Fault::OutOfMemory)),
+    }
+}
+
+// Tells why a node didn't begin.
+fn refuse<E: Write>(fault: BeginFault, errors: &mut E) -> Ended
+    ensures { IsToldAs (fault_told fault) (E.contents errors.old) (E.contents errors.new) result }
+{
+    match fault {
+        BeginFault::BadImage(fault) => finish(errors, Err(Fault::BadImage(fault))),
+        BeginFault::OthersImage => bad_image(errors, b"bad image OtherNode\n"),
+        BeginFault::Refused(Refusal::CountSpent) => bad_image(errors, b"bad image CountSpent\n"),
+        BeginFault::Refused(Refusal::OutOfMemory) => finish(errors, Err(Fault::OutOfMemory)),
+        BeginFault::Refused(_) => finish(errors, Err(Fault::Device)),
+        BeginFault::NoMemory => finish(errors, Err(Fault::OutOfMemory)),
+    }
+}
+
+fn bad_image<E: Write>(errors: &mut E, line: &[u8]) -> Ended
+    ensures status { result.status ≡ 1 }
+    ensures told { Tells result.told (E.contents errors.old) (E.contents errors.new) line.now }
+{
+    Ended {
+        status: 1,
+        told: put_all(errors, line),
+    }
+}

@@ -1,0 +1,50 @@
+//! A disk of which some saves hold, and then each fails in one way.
+
+use std::alloc::Global;
+use std::io::{self, ErrorKind};
+use sup_disk::Disk;
+
+/// Keeps nothing. So many renames hold, and then each call of one kind fails.
+#[derive(Drop)]
+pub struct LaterDisk {
+    pub holds: u64,
+    /// Whether the rename fails, and not the write before it.
+    pub fails_late: bool,
+}
+
+impl Disk for LaterDisk {
+    ghost may_have = { λ _ _. ⊥ };
+
+    ghost written = { λ _ _. Unit {0} };
+
+    ghost flushed = { λ _ _. Unit {0} };
+
+    ghost named = { λ _ _. Unit {0} };
+
+    fn write_beside(&mut self, _bytes: &[u8]) -> io::Result<()> {
+        if self.holds == 0 && !self.fails_late {
+            return Err(io::Error::from(ErrorKind::Other));
+        }
+        Ok(())
+    }
+
+    fn flush_beside(&mut self, _bytes: &[u8]) -> io::Result<()> {
+        Ok(())
+    }
+
+    fn rename(&mut self, _bytes: &[u8]) -> io::Result<()> {
+        if self.holds == 0 {
+            return Err(io::Error::from(ErrorKind::Other));
+        }
+        self.holds = self.holds.saturating_sub(1);
+        Ok(())
+    }
+
+    fn flush_folder(&mut self, _bytes: &[u8]) -> io::Result<()> {
+        Ok(())
+    }
+
+    fn read(&mut self, _alloc: Global) -> io::Result<Option<Vec<u8>>> {
+        Ok(None)
+    }
+}

@@ -1,0 +1,194 @@
+//! Stories of a node, from what is kept and the lines of its host to its status.
+
+use crate::later_disk::LaterDisk;
+use std::process::Abort;
+use sup_command_line::Weighing;
+use sup_disk::{Disk, DiskKeeper, MemDisk, Next};
+use sup_jobs::Ended;
+use sup_replica::Config;
+use sup_specs::NodeName;
+use sup_supd::run_node;
+use sup_talk::Streams;
+
+// A node `a` over a disk with this file, whose saves go so: expects what it tells, its status and its line of error.
+fn expect(
+    rt: &(impl Abort + AllocGlobal),
+    file: Option<&[u8]>,
+    next: Next,
+    lines: &[u8],
+    said: &[u8],
+    status: u8,
+    line: &[u8],
+) {
+    let alloc = rt.alloc();
+    let shown = match file {
+        Some(bytes) => Some(bytes.to_vec(alloc).expect(rt, "room")),
+        None => None,
+    };
+    let disk = MemDisk {
+        alloc,
+        shown,
+        safe: None,
+        beside: None,
+        is_flushed: false,
+        next,
+    };
+    expect_on(rt, disk, lines, said, status, line);
+}
+
+// The same over any disk.
+fn expect_on<D: Disk>(
+    rt: &(impl Abort + AllocGlobal),
+    disk: D,
+    lines: &[u8],
+    said: &[u8],
+    status: u8,
+    line: &[u8],
+) {
+    let alloc = rt.alloc();
+    let keeper = DiskKeeper::open(alloc, disk).expect(rt, "it opens");
+    let is_new = keeper.is_new();
+    let name = NodeName::parse("a").expect(rt, "a name");
+    let config = Config::new(1, 5, 64).expect(rt, "settings");
+    let mut host = Streams::new(lines, Vec::new(alloc));
+    let mut told = Vec::new(alloc);
+    let ended = run_node(
+        alloc,
+        name,
+        config,
+        Weighing::Flat,
+        keeper,
+        is_new,
+        &mut host,
+        &mut told,
+    );
+    assert!(rt;
+        ended
+            == Ended {
+                status,
+                told: Ok(())
+            }
+    );
+    assert_eq!(rt; host.writer().as_slice(), said);
+    assert_eq!(rt; told.as_slice(), line);
+}
+
+const IMAGE: &[u8] =
+    b"{\"boot\":1,\"count\":1,\"ctx\":{\"cloud\":[],\"vector\":{\"a\":1}},\"kind\":\"image\",\"node\":\"a\",\"rows\":[[\"member\",\"a\",[\"a\",1],{\"label\":\"\",\"status\":\"open\"}]],\"v\":2}";
+
+#[test]
+fn a_new_node_tells_its_boot_and_answers_line_by_line(rt: HostRuntime) {
+    expect(
+        &rt,
+        None,
+        Next::Holds,
+        b"join\nstart web arg=x\nmembers\nwhere www\nbad\nexit web 1.1 crash @1\nstart cut",
+        b"ok boot 1\n\nok (a,1)\n\nok (a,2)\n  start web 1.1 worker permanent 5000 arg=x\n\nmember a (a,1) label=\n\nwww unknown\n\nbad line\n\nok restarted\n  start web 1.2 worker permanent 5000 arg=x\n\n",
+        0,
+        b"",
+    );
+}
+
+#[test]
+fn a_node_goes_on_from_its_image(rt: HostRuntime) {
+    expect(
+        &rt,
+        Some(IMAGE),
+        Next::Holds,
+        b"start web\nshow\n",
+        b"ok boot 2\n\nok (a,2)\n  start web 2.1 worker permanent 5000 arg=\n\nnode a boot 2\nmember a (a,1) label=\nchild web (a,2) worker permanent 5000 arg= on a\nkept web 2.1\n\n",
+        0,
+        b"",
+    );
+}
+
+#[test]
+fn a_peer_that_acknowledged_is_told_of_also_where_it_is_no_member(rt: HostRuntime) {
+    expect(
+        &rt,
+        None,
+        Next::Holds,
+        b"join\ndeliver {\"from\":\"z\",\"kind\":\"ack\",\"n\":1,\"to\":\"a\",\"v\":2}\ndeliver {\"from\":\"b\",\"kind\":\"ack\",\"n\":1,\"to\":\"a\",\"v\":2}\ndeliver {\"from\":\"z\",\"kind\":\"ack\",\"n\":1,\"to\":\"a\",\"v\":2}\ndeliver {\"from\":\"c\",\"kind\":\"ack\",\"n\":9,\"to\":\"a\",\"v\":2}\ninspect\n",
+        b"ok boot 1\n\nok (a,1)\n\nok acked\n\nok acked\n\nok acked\n\nrefused 17 BadMessage\n\nnode a boot 1\nmember a (a,1) label=\ncount 1\nbuffer 1\nvector a 1\nacked b 1\nacked z 1\n\n",
+        0,
+        b"",
+    );
+}
+
+#[test]
+fn an_image_is_shown_as_it_is_kept(rt: HostRuntime) {
+    expect(
+        &rt,
+        None,
+        Next::Holds,
+        b"image\n",
+        b"ok boot 1\n\n{\"boot\":1,\"count\":0,\"ctx\":{\"cloud\":[],\"vector\":{}},\"kind\":\"image\",\"node\":\"a\",\"rows\":[],\"v\":2}\n\n",
+        0,
+        b"",
+    );
+}
+
+#[test]
+fn a_disk_that_fails_at_the_begin_has_no_node(rt: HostRuntime) {
+    for file in [None, Some(IMAGE)] {
+        for next in [
+            Next::WriteFails,
+            Next::FlushFails,
+            Next::RenameFails,
+            Next::FolderFails,
+        ] {
+            expect(&rt, file, next, b"show\n", b"", 3, b"device\n");
+        }
+    }
+}
+
+#[test]
+fn a_save_that_fails_before_the_rename_is_refused_and_the_node_goes_on(rt: HostRuntime) {
+    let disk = LaterDisk {
+        holds: 2,
+        fails_late: false,
+    };
+    expect_on(
+        &rt,
+        disk,
+        b"join\nstart web\nstart db\nship b\n",
+        b"ok boot 1\n\nok (a,1)\n\nrefused 16 KeepFailed\n\nrefused 16 KeepFailed\n\nok sent\n  send b {\"ctx\":{\"cloud\":[],\"vector\":{\"a\":1}},\"from\":\"a\",\"kind\":\"delta\",\"n\":1,\"rows\":[[\"member\",\"a\",[\"a\",1],{\"label\":\"\",\"status\":\"open\"}]],\"to\":\"b\",\"v\":2}\n\n",
+        0,
+        b"",
+    );
+}
+
+#[test]
+fn a_save_that_fails_at_the_rename_is_refused_and_no_line_is_heard_behind_it(rt: HostRuntime) {
+    let disk = LaterDisk {
+        holds: 2,
+        fails_late: true,
+    };
+    expect_on(
+        &rt,
+        disk,
+        b"join\nstart web\nstart db\nshow\n",
+        b"ok boot 1\n\nok (a,1)\n\nrefused 16 KeepFailed\n\n",
+        3,
+        b"device\n",
+    );
+}
+
+#[test]
+fn what_is_no_image_of_the_node_is_told(rt: HostRuntime) {
+    for (file, line) in [
+        (b"".as_slice(), b"bad image NotJson\n".as_slice()),
+        (b"{}", b"bad image NotMessage\n"),
+        (b"{\"v\":3}", b"bad image BadVersion\n"),
+        (
+            b"{\"boot\":1,\"count\":0,\"ctx\":{\"cloud\":[],\"vector\":{}},\"kind\":\"image\",\"node\":\"b\",\"rows\":[],\"v\":2}",
+            b"bad image OtherNode\n",
+        ),
+        (
+            b"{\"boot\":9007199254740991,\"count\":0,\"ctx\":{\"cloud\":[],\"vector\":{}},\"kind\":\"image\",\"node\":\"a\",\"rows\":[],\"v\":2}",
+            b"bad image CountSpent\n",
+        ),
+    ] {
+        expect(&rt, Some(file), Next::Holds, b"show\n", b"", 1, line);
+    }
+}

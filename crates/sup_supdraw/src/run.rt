@@ -1,0 +1,85 @@
+//! The program's run, from its words and input to its output and status.
+
+ghost use Rattle.std.specs.Prelude.{◌≡◌, ◌≢◌, [], IfErr, IfOk};
+ghost use Rattle.sup_placement.specs.Weights.{sha256_weight};
+ghost use Rattle.sup_replica.specs.Configs.{default};
+ghost use Rattle.sup_supdraw.specs.Drawing.{DrawsTo, DrawsWith, Refuses, TellsUsage};
+
+use crate::draw::draw;
+use std::alloc::Global;
+use std::io::{self, Read, Write};
+use sup_jobs::{Ended, put_all};
+use sup_placement::Sha256Weigh;
+use sup_replica::Config;
+
+/// The exit status where there are words after the program's name.
+pub const USAGE: u8 = 2;
+
+/// Runs the program, which takes no words, and answers its exit status: 0, or 1 where the input is bad, `USAGE` where there are words, or
+/// they can't be had, and 3 where the device or memory ended it. Members are weighed by SHA-256, and the nodes have the default settings.
+/// Faults of the error writer are passed over.
+pub fn run_with<R: Read, W: Write, E: Write>(
+    alloc: Global,
+    words: io::Result<Vec<String>>,
+    reader: &mut R,
+    writer: &mut W,
+    errors: &mut E,
+) -> u8
+    ensures draws { IfOk words (λ given. given.items ≡ [] → DrawsWith sha256_weight default (R.remaining reader.old) (R.remaining reader.new)
+        (W.contents writer.old) (W.contents writer.new) (E.contents errors.old) (E.contents errors.new) result) }
+    ensures refuses { IfOk words (λ given. given.items ≢ [] → Refuses (E.contents errors.old) (E.contents errors.new) result) }
+    ensures without { IfErr words (λ _. Refuses (E.contents errors.old) (E.contents errors.new) result) }
+{
+    match words {
+        Ok(words) => run(alloc, words.as_slice(), reader, writer, errors),
+        Err(_) => refuse(errors).status,
+    }
+}
+
+// Runs the program with these words.
+fn run<R: Read, W: Write, E: Write>(
+    alloc: Global,
+    words: &[String],
+    reader: &mut R,
+    writer: &mut W,
+    errors: &mut E,
+) -> u8
+    ensures draws { words.now ≡ [] → DrawsWith sha256_weight default (R.remaining reader.old) (R.remaining reader.new)
+        (W.contents writer.old) (W.contents writer.new) (E.contents errors.old) (E.contents errors.new) result }
+    ensures refuses { words.now ≢ [] → Refuses (E.contents errors.old) (E.contents errors.new) result }
+{
+    match words {
+        [] => draw_plain(alloc, reader, writer, errors).status,
+        [_, ..] => refuse(errors).status,
+    }
+}
+
+// Draws with the default settings.
+fn draw_plain<R: Read, W: Write, E: Write>(
+    alloc: Global,
+    reader: &mut R,
+    writer: &mut W,
+    errors: &mut E,
+) -> Ended
+    ensures { DrawsTo sha256_weight default (R.remaining reader.old) (R.remaining reader.new)
+        (W.contents writer.old) (W.contents writer.new) (E.contents errors.old) (E.contents errors.new) result }
+{
+    draw(
+        alloc,
+        &Sha256Weigh,
+        Config::default(),
+        reader,
+        writer,
+        errors,
+    )
+}
+
+// Tells how the program is called.
+fn refuse<E: Write>(errors: &mut E) -> Ended
+    ensures { TellsUsage (E.contents errors.old) (E.contents errors.new) result }
+{
+    Ended {
+        status: USAGE,
+        told: put_all(errors, b"usage: supdraw < SCRIPT > FILE.svg\n"),
+    }
+}

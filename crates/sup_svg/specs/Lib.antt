@@ -1,0 +1,4 @@
+pub mod Escapes
+pub mod Grids
+pub mod Pieces
+pub mod Svg

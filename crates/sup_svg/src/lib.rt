@@ -1,0 +1,13 @@
+//! Pictures of runs as SVG texts.
+#![tactic(auto)]
+
+mod arrows;
+mod bars;
+mod escape;
+mod grid;
+mod lanes;
+mod rows;
+mod style;
+pub mod svg;
+
+pub use svg::svg_of;

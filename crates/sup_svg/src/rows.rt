@@ -1,0 +1,100 @@
+//! The rows: each a line of the script, and its mark.
+
+ghost use Rattle.std.specs.Prelude.{◌≡◌, ◌≤◌, IfOk, string_bytes};
+ghost use Rattle.std.specs.List.{flat_map};
+ghost use Rattle.sup_svg.specs.Pieces.{band_text, dot_text, mark_text, row_text};
+
+use crate::escape::{escaped, first_line};
+use crate::grid::{Grid, y_of};
+use std::alloc::{AllocError, Global};
+use sup_picture::{Mark, Row};
+use sup_specs::NodeName;
+
+/// The rows of these nodes.
+pub fn rows_text(
+    alloc: Global,
+    grid: &Grid,
+    nodes: &[NodeName],
+    rows: &[Row],
+) -> Result<String, AllocError>
+    ensures { IfOk result (λ s. string_bytes s ≡ flat_map (row_text grid.now nodes.now) rows.now) }
+{
+    let mut text = String::new(alloc);
+    for row in rows {
+        let piece = row_text(alloc, grid, nodes, row)?;
+        text.push_str(piece.as_str())?;
+    }
+    Ok(text)
+}
+
+// A row: its line in the margin, and its mark.
+fn row_text(alloc: Global, grid: &Grid, nodes: &[NodeName], row: &Row) -> Result<String, AllocError>
+    ensures { IfOk result (λ s. string_bytes s ≡ row_text grid.now nodes.now row.now) }
+{
+    let y = y_of(row.row);
+    let base = y + 4;
+    let line = escaped(alloc, row.line.as_slice())?;
+    let line = line.as_str();
+    let mark = mark_text(alloc, grid, nodes, row)?;
+    let mark = mark.as_str();
+    format!(in alloc;
+        "<path class='rule' d='M340 {y}H99999'/>\n<text class='line' x='8' y='{base}'>{line}</text>\n{mark}"
+    )
+}
+
+// What a row is marked with.
+fn mark_text(
+    alloc: Global,
+    grid: &Grid,
+    nodes: &[NodeName],
+    row: &Row,
+) -> Result<String, AllocError>
+    ensures { IfOk result (λ s. string_bytes s ≡ mark_text grid.now nodes.now row.now row.now.mark) }
+{
+    match row.mark {
+        Mark::Nowhere => Ok(String::new(alloc)),
+        Mark::Everywhere => band_text(alloc, grid, nodes, row),
+        Mark::Done(node) => dot_text(alloc, grid.x_of(nodes, &node), row, "done", "yes"),
+        Mark::Refused(node) => dot_text(alloc, grid.x_of(nodes, &node), row, "refused", "no"),
+    }
+}
+
+// A dot at a node, beside what was answered; of that the first line is seen.
+fn dot_text(alloc: Global, x: u64, row: &Row, dot: &str, answer: &str) -> Result<String, AllocError>
+    requires { x ≤ 12462 }
+    ensures { IfOk result (λ s. string_bytes s ≡ dot_text x row.now dot.now answer.now) }
+{
+    let y = y_of(row.row);
+    let right = x + 10;
+    let base = y - 5;
+    let all = escaped(alloc, row.said.as_slice())?;
+    let all = all.as_str();
+    let said = escaped(alloc, first_line(row.said.as_slice()))?;
+    let said = said.as_str();
+    format!(in alloc;
+        "<circle class='{dot}' cx='{x}' cy='{y}' r='5'><title>{all}</title></circle>\n<text class='{answer}' x='{right}' y='{base}'>{said}</text>\n"
+    )
+}
+
+// A band over all nodes, with what was answered.
+fn band_text(
+    alloc: Global,
+    grid: &Grid,
+    nodes: &[NodeName],
+    row: &Row,
+) -> Result<String, AllocError>
+    ensures { IfOk result (λ s. string_bytes s ≡ band_text grid.now nodes.now row.now) }
+{
+    let y = y_of(row.row);
+    let top = y - 8;
+    let base = y + 4;
+    let right = grid.width(nodes);
+    let x = 360 + grid.bars.min(112);
+    let all = escaped(alloc, row.said.as_slice())?;
+    let all = all.as_str();
+    let said = escaped(alloc, first_line(row.said.as_slice()))?;
+    let said = said.as_str();
+    format!(in alloc;
+        "<path class='all' d='M340 {top}H{right}v16H340z'><title>{all}</title></path>\n<text x='{x}' y='{base}'>{said}</text>\n"
+    )
+}

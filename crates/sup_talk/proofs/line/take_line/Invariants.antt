@@ -1,0 +1,15 @@
+use Rattle.std.proofs.Common.{◌≡◌, ◌<◌, ◌≤◌, ◌-◌, ℕ, List, length, true, false}
+use Rattle.std.specs.Io.KnownBytes.{Consumes}
+use Rattle.sup_talk.specs.Taking.{IsUnbroken}
+use Rattle.sup_talk.proofs.line.take_line.Given as goal
+
+abbrev pub invariant-loop-reader : goal.invariant-loop-reader
+invariant-loop-reader g l = (bytes : List ℕ)
+    × IsUnbroken bytes
+    × Consumes (g.R.Read.remaining l.fn.reader) (g.R.Read.remaining l.reader) bytes
+    × (length l.line.items ≤ 67108864)
+    × (l.is_long ≡ false → l.line.items ≡ bytes)
+    × (l.is_long ≡ true → 67108864 < length bytes)
+
+abbrev pub decreases-loop-reader : goal.decreases-loop-reader
+decreases-loop-reader g l = 18446744073709551615 - l.questions.asked

@@ -1,0 +1,50 @@
+-- A host: who says lines and is told answers, and what of that is known, and in which order (this project).
+use Rattle.std.specs.Prelude.{◌≡◌, ◌≤◌, ◌<◌, ℕ, Bool, true, List, [], ◌∷◌, ◌++◌, length, take, Option, None, Some, Result, Ok, Err, ⊤}
+use Rattle.std.specs.Io.KnownBytes.{Consumes, Appends, IsAtEnd}
+use Rattle.sup_talk.specs.Taking.{IsUnbroken}
+use Rattle.sup_talk.specs.declared.line.Taken.{Taken}
+use Rattle.sup_talk.specs.declared.line.Taken.TheVariants.{Line, TooLong, End}
+use Rattle.sup_talk.specs.declared.line.LineFault.{LineFault}
+use Rattle.sup_talk.specs.declared.line.LineFault.TheVariants.{Device, OutOfMemory}
+
+-- what happens between a node and its host
+pub data Event : Type 0 where
+  Heard : Option (List ℕ) → Event  -- a line of the host, or that there was one too long
+  Told : List ℕ → Event  -- a text for the host
+
+-- What is known of a host.
+pub record Seen : Type 0 where
+  pub unread : Option (List ℕ)  -- what it says and was not heard yet
+  pub written : Option (List ℕ)  -- what it was told
+  pub past : Option (List Event)  -- what it was heard to say and was told, one after the other
+  pub is_broken : Bool  -- it can't be heard any more, or can't be told
+
+-- a known past goes on with these events
+abbrev pub Passes : Option (List Event) → Option (List Event) → List Event → Type 0
+Passes None after events = ⊤
+Passes (Some past) None events = ⊥
+Passes (Some past) (Some longer) events = longer ≡ past ++ events
+
+-- These bytes were taken from the host, these were told to it, and nothing else; and it was in the order of these events.
+pub record Exchanges (before after : Seen) (taken said : List ℕ) (events : List Event) : Type 0 where
+  pub consumes : Consumes before.unread after.unread taken
+  pub appends : Appends before.written after.written said
+  pub passes : Passes before.past after.past events
+
+-- A line was heard, of so many bytes at most; or a longer one; or the host says no more, but for a line that it didn't end.
+-- A fault took a front of a line.
+abbrev pub Hears : ℕ → Result Taken LineFault → Seen → Seen → Type 0
+Hears most (Ok (Line line)) before after = (length line.items ≤ most) × IsUnbroken line.items × Exchanges before after (line.items ++ (10 ∷ [])) [] (Heard (Some line.items) ∷ [])
+Hears most (Ok TooLong) before after = (line : List ℕ) × (most < length line) × IsUnbroken line × Exchanges before after (line ++ (10 ∷ [])) [] (Heard None ∷ [])
+Hears most (Ok End) before after = (rest : List ℕ) × IsUnbroken rest × Exchanges before after rest [] [] × IsAtEnd after.unread
+Hears most (Err Device) before after = (front : List ℕ) × IsUnbroken front × Exchanges before after front [] [] × (after.is_broken ≡ true)
+Hears most (Err OutOfMemory) before after = (front : List ℕ) × IsUnbroken front × Exchanges before after front [] []
+
+-- The host was told a front of the text, and not all of it.
+abbrev pub IsToldShort : Seen → Seen → List ℕ → Type 0
+IsToldShort before after text = (count : ℕ) × (count < length text) × Exchanges before after [] (take count text) (Told (take count text) ∷ []) × (after.is_broken ≡ true)
+
+-- The host was told the text, or where it failed less than that.
+abbrev pub IsTold : {X E : Type 0} → Result X E → Seen → Seen → List ℕ → Type 0
+IsTold (Ok x) before after text = Exchanges before after [] text (Told text ∷ [])
+IsTold (Err fault) before after text = IsToldShort before after text

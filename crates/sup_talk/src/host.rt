@@ -1,0 +1,33 @@
+//! Who says lines and is told their answers.
+
+ghost use Rattle.sup_talk.specs.Hosts.{Seen, Hears, IsTold};
+
+use crate::line::{LINE_LIMIT, LineFault, Taken};
+use std::alloc::Global;
+use sup_jobs::DeviceFault;
+
+/// Says lines, and is told answers. A contract sees what it has left to say, what it was told, and in which order that was, as far as an
+/// implementation tells it.
+pub trait Host {
+    // What is known of it.
+    ghost seen: { Self → Seen };
+
+    /// Hears its next line.
+    ///
+    /// # Errors
+    ///
+    /// - `LineFault::Device` where it can't be heard any more.
+    /// - `LineFault::OutOfMemory`.
+    ///
+    /// A front of a line may be gone then.
+    fn hear(&mut self, alloc: Global) -> Result<Taken, LineFault>
+        ensures { Hears LINE_LIMIT result (seen self.old) (seen self.new) };
+
+    /// Tells it a text.
+    ///
+    /// # Errors
+    ///
+    /// Where it can't be told any more. It has got a front of the text then, and never all.
+    fn tell(&mut self, text: &[u8]) -> Result<(), DeviceFault>
+        ensures { IsTold result (seen self.old) (seen self.new) text.now };
+}

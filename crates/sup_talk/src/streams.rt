@@ -1,0 +1,68 @@
+//! A host over a reader and a writer.
+
+ghost use Rattle.std.specs.Prelude.{◌≡◌, false, None};
+ghost use Rattle.sup_talk.specs.Hosts.{Seen};
+
+use crate::host::Host;
+use crate::line::{LineFault, Questions, Taken, take_line};
+use std::alloc::Global;
+use std::io::{Read, Write};
+use std::marker::Model;
+use sup_jobs::{DeviceFault, put_all};
+
+/// A host whose lines come from a reader, and whose answers go to a writer.
+#[derive(Drop)]
+pub struct Streams<R: Read + Drop, W: Write + Drop> {
+    reader: R,
+    writer: W,
+    questions: Questions,
+    // The writer failed.
+    is_deaf: bool,
+}
+
+impl<R: Read + Drop, W: Write + Drop> Model for Streams<R, W> {
+    ghost use Rattle.std.specs.Prelude.{◌||◌, None};
+    ghost use Rattle.sup_talk.specs.Hosts.{Seen};
+    ghost use Rattle.sup_talk.specs.Taking.{is_spent};
+
+    ghost Value = { Seen };
+
+    ghost view = { λ s. record { unread = R.remaining s.reader; written = W.contents s.writer; past = None; is_broken = is_spent s.questions || s.is_deaf } };
+}
+
+impl<R: Read + Drop, W: Write + Drop> Streams<R, W> {
+    /// A host whose lines come from this reader, and whose answers go to this writer.
+    pub fn new(reader: R, writer: W) -> Streams<R, W>
+        ensures { result ≡ record { unread = R.remaining reader; written = W.contents writer; past = None; is_broken = false } }
+    {
+        Streams {
+            reader,
+            writer,
+            questions: Questions::new(),
+            is_deaf: false,
+        }
+    }
+
+    /// The writer.
+    pub fn writer(&self) -> &W
+        ensures { W.contents result.now ≡ self.now.written }
+    {
+        &self.writer
+    }
+}
+
+impl<R: Read + Drop, W: Write + Drop> Host for Streams<R, W> {
+    ghost seen = { λ s. s };
+
+    fn hear(&mut self, alloc: Global) -> Result<Taken, LineFault> {
+        take_line(alloc, &mut self.reader, &mut self.questions)
+    }
+
+    fn tell(&mut self, text: &[u8]) -> Result<(), DeviceFault> {
+        let told = put_all(&mut self.writer, text);
+        if told.is_err() {
+            self.is_deaf = true;
+        }
+        told
+    }
+}

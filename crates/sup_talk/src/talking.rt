@@ -1,0 +1,120 @@
+//! A talk: each line of a host is answered before the next is heard.
+
+ghost use Rattle.std.specs.Prelude.{◌≡◌, ℕ, Bool, List, Option, IfOk, option_map};
+ghost use Rattle.sup_talk.specs.Talking.{Replies, Rounds, TalksFor};
+
+use crate::host::Host;
+use crate::line::{LINE_LIMIT, LineFault, Taken};
+use std::alloc::{AllocError, Global};
+use sup_jobs::DeviceFault;
+use thiserror::Error;
+
+/// Why a talk ended before its time.
+#[derive(Clone, Copy, Debug, PartialEq, Eq, Error)]
+pub enum TalkFault {
+    /// The host can't be heard or told any more.
+    #[error("device")]
+    Device,
+    /// Memory was refused.
+    #[error("out of memory")]
+    OutOfMemory,
+}
+
+/// How a talk ended.
+#[derive(Clone, Copy, Debug, PartialEq, Eq)]
+pub enum TalkEnd {
+    /// The host says no more.
+    Ended,
+    /// The answerer is over: it has given its last answer.
+    Over,
+    /// `u64::MAX` lines were answered.
+    Spent,
+}
+
+/// What answers lines.
+pub trait Answerer {
+    // It has given its last answer.
+    ghost over: { Self → Bool };
+
+    // It was in the first state, heard this line, or that there was one too long, said this text, and is in the second.
+    ghost answers: { Self → Option (List ℕ) → List ℕ → Self → Type 0 };
+
+    /// Answers a line, or, where there is none, a line that was too long.
+    ///
+    /// # Errors
+    ///
+    /// Where memory for the text was refused. What the line asks for may be done then.
+    fn answer(&mut self, line: Option<&[u8]>) -> Result<Vec<u8>, AllocError>
+        ensures { IfOk result (λ text. answers self.old (option_map (λ l. l.now) line.entry) text.items self.new) };
+
+    /// Whether it has given its last answer.
+    fn is_over(&self) -> bool
+        ensures { result ≡ over self.now };
+}
+
+/// Answers each line of the host before the next is heard, until the host says no more or the answerer is over. A line that no line feed
+/// ended is none.
+///
+/// # Errors
+///
+/// - `TalkFault::Device` where the host can't be heard or told any more.
+/// - `TalkFault::OutOfMemory`. What the last line asks for may be done then, and its answer isn't told.
+pub fn talk<T: Answerer, H: Host>(
+    alloc: Global,
+    answerer: &mut T,
+    host: &mut H,
+) -> Result<TalkEnd, TalkFault>
+    ensures { TalksFor T.answers T.over LINE_LIMIT answerer.old answerer.new (H.seen host.old) (H.seen host.new) result }
+{
+    let mut lines: u64 = 0;
+    while lines < u64::MAX {
+        if answerer.is_over() {
+            return Ok(TalkEnd::Over);
+        }
+        if !talk_once(alloc, answerer, host)? {
+            return Ok(TalkEnd::Ended);
+        }
+        lines += 1;
+    }
+    Ok(TalkEnd::Spent)
+}
+
+// Hears a line and answers it; false where the host says no more.
+fn talk_once<T: Answerer, H: Host>(
+    alloc: Global,
+    answerer: &mut T,
+    host: &mut H,
+) -> Result<bool, TalkFault>
+    ensures { Rounds T.answers LINE_LIMIT answerer.old answerer.new (H.seen host.old) (H.seen host.new) result }
+{
+    let Some(text) = reply(alloc, answerer, host)? else {
+        return Ok(false);
+    };
+    match host.tell(text.as_slice()) {
+        Ok(()) => Ok(true),
+        Err(DeviceFault) => Err(TalkFault::Device),
+    }
+}
+
+// The answer to the next line, or none where the host says no more.
+fn reply<T: Answerer, H: Host>(
+    alloc: Global,
+    answerer: &mut T,
+    host: &mut H,
+) -> Result<Option<Vec<u8>>, TalkFault>
+    ensures { Replies T.answers LINE_LIMIT answerer.old answerer.new (H.seen host.old) (H.seen host.new) result }
+{
+    match host.hear(alloc) {
+        Ok(Taken::Line(line)) => match answerer.answer(Some(line.as_slice())) {
+            Ok(text) => Ok(Some(text)),
+            Err(_) => Err(TalkFault::OutOfMemory),
+        },
+        Ok(Taken::TooLong) => match answerer.answer(None) {
+            Ok(text) => Ok(Some(text)),
+            Err(_) => Err(TalkFault::OutOfMemory),
+        },
+        Ok(Taken::End) => Ok(None),
+        Err(LineFault::Device) => Err(TalkFault::Device),
+        Err(LineFault::OutOfMemory) => Err(TalkFault::OutOfMemory),
+    }
+}

@@ -1,0 +1,78 @@
+//! One station behind a keeper of the caller's.
+ghost use Rattle.std.specs.Prelude.{◌≡◌, ◌≢◌, Err};
+ghost use Rattle.sup_replica.specs.declared.refusal.Refusal.TheVariants.{KeepFailed};
+
+use std::alloc::Global;
+use std::mem;
+use sup_keeper::{KeepFault, Keeper};
+use sup_placement::Weigh;
+use sup_replica::{Act, Config, Refusal};
+use sup_specs::NodeName;
+use sup_station::Station;
+
+/// Keeps the last image in memory, and the one before it.
+#[derive(Drop)]
+pub struct TwoImages {
+    pub last: Vec<u8>,
+    pub before: Vec<u8>,
+    pub alloc: Global,
+}
+
+impl Keeper for TwoImages {
+    ghost use Rattle.std.specs.Prelude.{false, true};
+
+    ghost kept = { λ k. k.last.items };
+
+    ghost failures = { λ k. 0 };
+
+    ghost failing = { λ k. false };
+
+    ghost sound = { λ k. true };
+
+    fn save(&mut self, bytes: &[u8]) -> Result<(), KeepFault> {
+        let copy = bytes.to_vec(self.alloc)?;
+        self.before = mem::replace(&mut self.last, copy);
+        Ok(())
+    }
+
+    fn load(&mut self) -> Result<Vec<u8>, KeepFault> {
+        let copy = self.last.to_vec(self.alloc)?;
+        Ok(copy)
+    }
+
+    fn failures(&self) -> u64 {
+        0
+    }
+}
+
+/// A station of this name that has carried out the acts, all at moment 0. Its keeper never fails.
+///
+/// # Errors
+///
+/// As the first act that is refused.
+pub fn keep<W: Weigh>(
+    alloc: Global,
+    name: NodeName,
+    acts: &[Act],
+    weigher: &W,
+) -> Result<Station<TwoImages, W>, Refusal>
+    ensures { result ≢ Err KeepFailed }
+{
+    let keeper = TwoImages {
+        last: Vec::new(alloc),
+        before: Vec::new(alloc),
+        alloc,
+    };
+    let mut station = match Station::new(alloc, name, Config::default(), keeper) {
+        Ok(station) => station,
+        Err(refused) => return Err(refused.reason),
+    };
+    for act in acts {
+        let act = act.try_clone(alloc)?;
+        match station.step(act, 0, weigher) {
+            Ok(_) => {}
+            Err(refusal) => return Err(refusal),
+        }
+    }
+    Ok(station)
+}

@@ -1,0 +1,71 @@
+//! Two stations that exchange letters by hand.
+ghost use Rattle.std.specs.Prelude.{◌≡◌, false, true, IfOk};
+ghost use Rattle.sup_station.specs.Stills.{still_of};
+ghost use Rattle.sup_uses.specs.Letters.{IsUpToDate, SentNothing};
+
+use sup_keeper::Keeper;
+use sup_placement::Weigh;
+use sup_replica::{Act, Event, Letter, Refusal};
+use sup_specs::NodeName;
+use sup_station::Station;
+
+/// Brings letters from either station to the other, until neither has anything that the other hasn't acknowledged, but no more than
+/// so many times. Whether it came to that.
+///
+/// # Errors
+///
+/// As the first act that is refused.
+pub fn exchange<K: Keeper, W: Weigh>(
+    left: &mut Station<K, W>,
+    left_name: NodeName,
+    right: &mut Station<K, W>,
+    right_name: NodeName,
+    times: u32,
+    weigher: &W,
+) -> Result<bool, Refusal>
+    ensures left { IfOk result (λ all. all ≡ true → IsUpToDate W.weight_of (still_of K.kept left.new) right_name) }
+    ensures right { IfOk result (λ all. all ≡ true → IsUpToDate W.weight_of (still_of K.kept right.new) left_name) }
+{
+    for _ in 0..times {
+        let there = send(left, right, right_name, weigher)?;
+        let back = send(right, left, left_name, weigher)?;
+        if !there && !back {
+            return Ok(true);
+        }
+    }
+    Ok(false)
+}
+
+// Ships what the receiver hasn't acknowledged, and brings back the acknowledgement. Whether there was anything to ship.
+fn send<K: Keeper, W: Weigh>(
+    from: &mut Station<K, W>,
+    to: &mut Station<K, W>,
+    receiver: NodeName,
+    weigher: &W,
+) -> Result<bool, Refusal>
+    ensures { IfOk result (λ sent. sent ≡ false → SentNothing W.weight_of receiver (still_of K.kept from.old) (still_of K.kept to.old) (still_of K.kept from.new) (still_of K.kept to.new)) }
+{
+    match from.step(Act::Event(Event::Ship(receiver)), 0, weigher) {
+        Ok(done) => {
+            if let Some(acknowledgement) = bring(to, done.out, weigher)? {
+                bring(from, Some(acknowledgement), weigher)?;
+            }
+            Ok(true)
+        }
+        Err(Refusal::UpToDate) => Ok(false),
+        Err(refusal) => Err(refusal),
+    }
+}
+
+// Brings a letter to its receiver, and gives the one that this answers.
+fn bring<K: Keeper, W: Weigh>(
+    to: &mut Station<K, W>,
+    letter: Option<Letter>,
+    weigher: &W,
+) -> Result<Option<Letter>, Refusal> {
+    let Some(letter) = letter else {
+        return Ok(None);
+    };
+    let done = to.step(Act::Event(Event::Deliver(letter.bytes)), 0, weigher)?;
+    Ok(done.out)
+}

@@ -1,0 +1,49 @@
+//! A run of a plan with a runner of the caller's.
+ghost use Rattle.std.specs.Prelude.{IfOk};
+ghost use Rattle.sup_placement.specs.Weights.{flat_weight};
+ghost use Rattle.sup_cluster.specs.Runs.{IsRunOf};
+
+use std::alloc::Global;
+use std::sync::Wait;
+use std::sync::atomic::{AtomicU64, Ordering};
+use std::thread::Threads;
+use sup_cluster::{Quiet, Runner, run};
+use sup_local_sup::Effect;
+use sup_placement::FlatWeigh;
+use sup_plan::{Histories, Plan};
+use sup_posts::RunFault;
+use sup_specs::NodeName;
+
+/// Counts the children that nodes start, in place of starting them.
+#[derive(Drop)]
+pub struct Starts {
+    pub count: AtomicU64,
+}
+
+impl Runner for Starts {
+    fn act(&self, _node: &NodeName, effect: &Effect) -> bool {
+        if matches!(effect, Effect::Start { .. }) {
+            self.count.fetch_add(1, Ordering::SeqCst);
+        }
+        true
+    }
+}
+
+/// What happened at each node of a plan, and how many children were started.
+///
+/// # Errors
+///
+/// As [`run`] tells.
+pub fn run_counted<R: Threads + Wait + Sync>(
+    rt: &R,
+    alloc: Global,
+    plan: &Plan,
+) -> Result<(Histories, u64), RunFault>
+    ensures { IfOk result (λ r. IsRunOf flat_weight plan.now r.0) }
+{
+    let runner = Starts {
+        count: AtomicU64::new(0),
+    };
+    let histories = run(rt, alloc, plan, &runner, &Quiet, &FlatWeigh)?;
+    Ok((histories, runner.count.load(Ordering::SeqCst)))
+}
