@@ -9,10 +9,10 @@ use Rattle.sup_node.specs.Contents.{station_of}
 use Rattle.sup_node_text.specs.Shown.{shown_of, shown_at}
 use Rattle.sup_node_text.specs.Inspected.{node_at}
 
-pub shown_lent : {W : Type 0} {g : _} (lent : Option (Bor (Node W g))) (node : Option (Station State)) → option_map station_of (option_copied lent) ≡ node → shown_at lent ≡ option_map shown_of node
-shown_lent None node e = rw (← e) refl
-shown_lent (Some lent) node e = rw (← e) refl
+pub shown_lent : {W : Type 0} {g : _} (lent : Option (Bor (Node W g))) (there : Option (Station State)) → option_map station_of (option_copied lent) ≡ there → shown_at lent ≡ option_map shown_of there
+shown_lent None there e = rw (← e) refl
+shown_lent (Some lent) there e = rw (← e) refl
 
-pub node_lent : {W : Type 0} {g : _} (lent : Option (Bor (Node W g))) (node : Option (Station State)) → option_map station_of (option_copied lent) ≡ node → node_at lent ≡ node
-node_lent None node e = e
-node_lent (Some lent) node e = e
+pub node_lent : {W : Type 0} {g : _} (lent : Option (Bor (Node W g))) (there : Option (Station State)) → option_map station_of (option_copied lent) ≡ there → node_at lent ≡ there
+node_lent None there e = e
+node_lent (Some lent) there e = e
