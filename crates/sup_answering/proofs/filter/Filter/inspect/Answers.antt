@@ -13,8 +13,8 @@ pub returns : goal.returns
 returns g c =
     let s = c.args.self.now in let said = string_bytes c.in_ok-lines.lines in
     inspected-told g.W.Weigh.weight_of (known s.name (still_of g.K.Keeper.kept s.station) s.peers.items (g.K.ImageKeeper.lost (keeper_of s.station)))
-        c.in_ok-peers.peers.items said c.ended_text.result
-        (rw c.as_slice.ensures.value at c.in_ok-peers.ensures.all, c.in_ok-peers.ensures.sorted)
-        (subst (λ (node : Option (Station State)). IsInspected g.W.Weigh.weight_of s.name node c.in_ok-peers.peers.items said) (node_lent c.node.result _ c.node.ensures)
-            (subst (λ (peers : List Bytes). IsInspected g.W.Weigh.weight_of s.name (node_at c.node.result) peers said) c.as_slice-2.ensures.value c.in_ok-lines.ensures))
-        c.ended_text.ensures
+    c.in_ok-peers.peers.items said c.ended_text.result
+    (rw c.as_slice.ensures.value at c.in_ok-peers.ensures.all, c.in_ok-peers.ensures.sorted)
+    (subst (λ (node : Option (Station State)). IsInspected g.W.Weigh.weight_of s.name node c.in_ok-peers.peers.items said) (node_lent c.node.result _ c.node.ensures)
+    (subst (λ (peers : List Bytes). IsInspected g.W.Weigh.weight_of s.name (node_at c.node.result) peers said) c.as_slice-2.ensures.value c.in_ok-lines.ensures))
+    c.ended_text.ensures
