@@ -1,7 +1,7 @@
 -- A talk of states is one of what a contract sees of them (this project).
-use Rattle.std.proofs.Common.{◌≡◌, ℕ, Bool, List, [], ◌∷◌, Option, Result, Ok, Err, ap, inl, inr}
+use Rattle.std.proofs.Common.{ℕ, Bool, List, [], ◌∷◌, Result, Ok, Err, ap, inl, inr}
 use Rattle.sup_talk.specs.Hosts.{Seen}
-use Rattle.sup_talk.specs.Talking.{Answers, Turn, Follows, Talks, IsCut, EndsSo, TalksFor}
+use Rattle.sup_talk.specs.Talking.{Answers, Turn, Follows, IsCut, EndsSo, TalksFor}
 use Rattle.sup_talk.specs.declared.talking.TalkEnd.{TalkEnd}
 use Rattle.sup_talk.specs.declared.talking.TalkEnd.TheVariants.{Ended, Over, Spent}
 use Rattle.sup_talk.specs.declared.talking.TalkFault.{TalkFault}

@@ -1,1 +1,5 @@
 pub mod Knowing
+pub mod OnePeer
+pub mod Lent
+pub mod Telling
+pub mod Unbegun

@@ -1,23 +1,20 @@
 -- How a node begins, and why it doesn't (this project).
-use Rattle.std.specs.Prelude.{◌≡◌, ◌≢◌, ◌⊎◌, ℕ, Bool, true, false, List, [], Option, Some, None, Result, Ok, Err}
+use Rattle.std.specs.Prelude.{◌≡◌, ◌≢◌, ◌⊎◌, ℕ, Bool, true, false, List, [], Some, None, Ok}
 use Rattle.sup_specs.specs.Values.{Bytes}
 use Rattle.sup_placement.specs.Place.{Weigher}
 use Rattle.sup_wire.specs.declared.image.Image.{Image}
 use Rattle.sup_wire.specs.Drafts.{SaysImage}
 use Rattle.sup_wire.specs.Faults.{IsFault}
-use Rattle.sup_jobs.specs.declared.fault.ImageFault.{ImageFault}
 use Rattle.sup_inspecting.specs.Faults.{text_fault}
 use Rattle.sup_replica.specs.Configs.{Config}
 use Rattle.sup_replica.specs.declared.event.Act.TheVariants.{Restart}
 use Rattle.sup_replica.specs.declared.done.Done.{Done}
 use Rattle.sup_replica.specs.declared.done.Reply.TheVariants.{Boot}
-use Rattle.sup_replica.specs.declared.refusal.Refusal.{Refusal}
 use Rattle.sup_replica.specs.declared.refusal.Refusal.TheVariants.{BadMessage}
 use Rattle.sup_node.specs.Texts.{IsImageReadAs}
 use Rattle.sup_station.specs.Stills.{Still, Goes, Refuses}
 use Rattle.sup_station.specs.Opening.{Opens, IsKeepRefusal}
 use Rattle.sup_told.specs.Told.{told_text}
-use Rattle.sup_answering.specs.Answering.{Known}
 use Rattle.sup_answering.specs.declared.begin.BeginFault.{BeginFault}
 use Rattle.sup_answering.specs.declared.begin.BeginFault.TheVariants.{BadImage, OthersImage, Refused, NoMemory}
 

@@ -1,5 +1,5 @@
 -- Whose acknowledgements a node has heard (this project): a node holds no list of its peers.
-use Rattle.std.specs.Prelude.{◌≡◌, ℕ, Bool, true, false, List, [], ◌∷◌, ◌++◌, Option, Some, None, Result, Ok, Err, if◌then◌else◌}
+use Rattle.std.specs.Prelude.{◌≡◌, Bool, true, false, List, [], ◌∷◌, ◌++◌, Option, Some, None, Result, Ok, Err, if◌then◌else◌}
 use Rattle.std.specs.List.{list_any}
 use Rattle.std.specs.Str.{bytes_eq}
 use Rattle.sup_specs.specs.Values.{Bytes}
@@ -14,16 +14,16 @@ use Rattle.sup_replica.specs.declared.done.Reply.TheVariants.{Acked}
 use Rattle.sup_replica.specs.declared.refusal.Refusal.{Refusal}
 use Rattle.sup_node.specs.Texts.{IsReadAs}
 
-abbrev pub IsAck : Option (Mail State) → Type 0
-IsAck None = ⊥
-IsAck (Some (a_delta from to n whole content)) = ⊥
-IsAck (Some (a_push from to content)) = ⊥
-IsAck (Some (an_ack from to n)) = Unit {0}
+-- who acknowledges by mail, if it is that
+abbrev pub sender_in : Option (Mail State) → Option Bytes
+sender_in None = None
+sender_in (Some (a_delta from to n whole content)) = None
+sender_in (Some (a_push from to content)) = None
+sender_in (Some (an_ack from to n)) = Some from
 
 -- who acknowledges by these bytes: none where they are read as no acknowledgement
 abbrev pub IsSender : Bytes → Option Bytes → Type 0
-IsSender bytes None = (mail : Option (Mail State)) × IsReadAs bytes mail × ¬ IsAck mail
-IsSender bytes (Some peer) = (to : Bytes) × (n : ℕ) × IsReadAs bytes (Some (an_ack peer to n))
+IsSender bytes peer = (mail : Option (Mail State)) × IsReadAs bytes mail × (peer ≡ sender_in mail)
 
 -- who acknowledges by an act
 abbrev pub Acknowledges : Act → Option Bytes → Type 0

@@ -1,5 +1,5 @@
 -- How a node serves its host (this project).
-use Rattle.std.specs.Prelude.{◌≡◌, ◌⊎◌, ℕ, List, [], ◌∷◌, Result, Ok, Err}
+use Rattle.std.specs.Prelude.{◌≡◌, ◌⊎◌, ℕ, List, [], ◌∷◌, Result, Err}
 use Rattle.sup_placement.specs.Place.{Weigher}
 use Rattle.sup_talk.specs.Hosts.{Seen, Told, Exchanges, IsToldShort}
 use Rattle.sup_talk.specs.Talking.{TalksFor}

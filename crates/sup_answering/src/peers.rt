@@ -1,8 +1,9 @@
 //! Whose acknowledgements were heard.
 
-ghost use Rattle.std.specs.Prelude.{◌≡◌, IfOk, IsPermutation, IsSorted};
+ghost use Rattle.std.specs.Prelude.{◌≡◌, Some, IfOk, IsPermutation, IsSorted};
 ghost use Rattle.sup_specs.specs.Values.{text_cmp};
-ghost use Rattle.sup_answering.specs.Heard.{Acknowledges, IsSender, is_acked_at};
+ghost use Rattle.sup_node.specs.Texts.{mail_of};
+ghost use Rattle.sup_answering.specs.Heard.{Acknowledges, IsSender, is_acked_at, sender_in};
 
 use std::alloc::{AllocError, Global};
 use sup_replica::{Act, Done, Event, Refusal, Reply};
@@ -37,11 +38,20 @@ fn sender_of(alloc: Global, bytes: &[u8]) -> Result<Option<NodeName>, AllocError
     ensures { IfOk result (λ peer. IsSender bytes.now peer) }
 {
     match decode(alloc, bytes) {
-        Ok(Message::Ack { from, .. }) => Ok(Some(from)),
-        Ok(Message::Push { .. }) => Ok(None),
-        Ok(Message::Delta { .. }) => Ok(None),
+        Ok(message) => Ok(sender_in(&message)),
         Err(WireFault::OutOfMemory) => Err(AllocError),
         Err(_) => Ok(None),
+    }
+}
+
+// Who acknowledges by a message.
+fn sender_in(message: &Message) -> Option<NodeName>
+    ensures { result ≡ sender_in (Some (mail_of message.now)) }
+{
+    match message {
+        Message::Ack { from, .. } => Some(*from),
+        Message::Push { .. } => None,
+        Message::Delta { .. } => None,
     }
 }
 

@@ -3,7 +3,7 @@
 ghost use Rattle.std.specs.Prelude.{◌≡◌};
 ghost use Rattle.sup_command_line.specs.Weighings.{weight_of};
 ghost use Rattle.sup_jobs.specs.Tells.{Tells};
-ghost use Rattle.sup_supd.specs.Ends.{IsToldAs, RunsTo, end_told, fault_told};
+ghost use Rattle.sup_supd.specs.Ends.{IsToldAs, RunsTo, end_told, fault_told, refusal_told};
 
 use std::alloc::Global;
 use std::io::Write;
@@ -91,10 +91,19 @@ fn refuse<E: Write>(fault: BeginFault, errors: &mut E) -> Ended
     match fault {
         BeginFault::BadImage(fault) => finish(errors, Err(Fault::BadImage(fault))),
         BeginFault::OthersImage => bad_image(errors, b"bad image OtherNode\n"),
-        BeginFault::Refused(Refusal::CountSpent) => bad_image(errors, b"bad image CountSpent\n"),
-        BeginFault::Refused(Refusal::OutOfMemory) => finish(errors, Err(Fault::OutOfMemory)),
-        BeginFault::Refused(_) => finish(errors, Err(Fault::Device)),
+        BeginFault::Refused(refusal) => refuse_by(refusal, errors),
         BeginFault::NoMemory => finish(errors, Err(Fault::OutOfMemory)),
+    }
+}
+
+// Tells what was refused at the begin.
+fn refuse_by<E: Write>(refusal: Refusal, errors: &mut E) -> Ended
+    ensures { IsToldAs (refusal_told refusal) (E.contents errors.old) (E.contents errors.new) result }
+{
+    match refusal {
+        Refusal::CountSpent => bad_image(errors, b"bad image CountSpent\n"),
+        Refusal::OutOfMemory => finish(errors, Err(Fault::OutOfMemory)),
+        _ => finish(errors, Err(Fault::Device)),
     }
 }
 

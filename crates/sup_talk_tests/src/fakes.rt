@@ -102,7 +102,7 @@ impl Answerer for Echo {
     fn answer(&mut self, line: Option<&[u8]>) -> Result<Vec<u8>, AllocError> {
         match line {
             Some(line) => {
-                if line == b"end" {
+                if line == b"end".as_slice() {
                     self.is_over = true;
                 }
                 let mut text = if line.len() < 100 {

@@ -1,0 +1,9 @@
+use Rattle.std.proofs.Common.{◌≡◌, ℕ, List, ◌∙◌, ap, subst, IfOk}
+use Rattle.sup_node_text.specs.Shown.{where_text}
+use Rattle.sup_told.specs.Told.{ended_text}
+use Rattle.sup_answering.proofs.Lent.{shown_lent}
+use Rattle.sup_answering.proofs.filter.Filter.lead.Goals as goal
+
+pub returns : goal.returns
+returns g c = subst (λ (said : List ℕ). IfOk c.ended_text.result (λ text. text.items ≡ ended_text said))
+    (c.in_ok-lines.ensures ∙ ap (λ shown. where_text g.W.Weigh.weight_of c.args.self.now.name shown c.args.sought.now) (shown_lent c.node.result _ c.node.ensures)) c.ended_text.ensures

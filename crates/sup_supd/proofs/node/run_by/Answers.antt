@@ -1,0 +1,24 @@
+use Rattle.std.proofs.Common.{refl, inl, inr}
+use Rattle.sup_station.specs.Stills.{keeper_of, still_of}
+use Rattle.sup_answering.specs.Answering.{known}
+use Rattle.sup_supd.proofs.node.run_by.Goals as goal
+
+pub returns-in-Ok : goal.returns-in-Ok
+returns-in-Ok g c =
+    let begun = c.in-Ok.begun.filter in let left = c.serve.new.filter in
+    inr (
+      c.serve.result,
+      record {
+        first = c.in-Ok.begun.first.items;
+        begun = known begun.name (still_of g.K.Keeper.kept begun.station) begun.peers.items (g.K.ImageKeeper.lost (keeper_of begun.station));
+        left = known left.name (still_of g.K.Keeper.kept left.station) left.peers.items (g.K.ImageKeeper.lost (keeper_of left.station));
+        named = c.in-Ok.ensures.name;
+        alone = c.in-Ok.ensures.peers;
+        begins = c.in-Ok.ensures.begins;
+        serves = rw c.as_slice.ensures.value at c.serve.ensures;
+      },
+      c.end_with.ensures,
+    )
+
+pub returns-in-Err : goal.returns-in-Err
+returns-in-Err g c = inl (c.in-Err.fault, c.in-Err.ensures.fault, refl, c.refuse.ensures)
