@@ -29,10 +29,8 @@ pub fn play_lines<G: Weigh>(
     requires { All IsDry lines.now }
     ensures { OnOk result (LinesGo G.weight_of (captions_of captions.now) (sites_of world.old) (noted_of log.old) lines.now (sites_of world.new) (noted_of log.new)) }
 {
-    let mut rest = lines;
-    while let [line, later @ ..] = rest {
+    for line in lines {
         play_line(alloc, world, log, captions, line)?;
-        rest = later;
     }
     Ok(())
 }

@@ -1,5 +1,5 @@
 -- The text of a picture (this project's picture format): a piece for each node, gap, bar, arrow and row.
-use Rattle.std.specs.Prelude.{ℕ, List, [], ◌∷◌, ◌++◌, length, codes}
+use Rattle.std.specs.Prelude.{ℕ, List, ◌++◌, length, codes}
 use Rattle.std.specs.List.{flat_map}
 use Rattle.sup_picture.specs.declared.picture.Picture.{Picture}
 use Rattle.sup_svg.specs.Grids.{grid_of}

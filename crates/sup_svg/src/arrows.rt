@@ -2,11 +2,11 @@
 
 ghost use Rattle.std.specs.Prelude.{◌≡◌, ◌≤◌, IfOk, string_bytes};
 ghost use Rattle.std.specs.List.{flat_map};
-ghost use Rattle.sup_svg.specs.Pieces.{arrow_text, came_text, lost_text, lost_x, start_y, way_class};
+ghost use Rattle.sup_svg.specs.Pieces.{arrow_text, came_text, line_text, lost_text, lost_x, path_text, start_y, title_text, way_class};
 
 use crate::grid::{Grid, y_of};
 use std::alloc::{AllocError, Global};
-use sup_picture::{Arrow, End, Way};
+use sup_picture::{Arrow, End, Message, Way};
 use sup_specs::NodeName;
 
 /// The arrows between these nodes.
@@ -54,13 +54,15 @@ fn came_text(
 ) -> Result<String, AllocError>
     ensures { IfOk result (λ s. string_bytes s ≡ came_text arrow.now from to row way) }
 {
-    let class = way_class(way);
     let top = start_y(arrow.left, row);
-    let bottom = y_of(row);
-    let sender = arrow.message.from.as_str();
-    let number = arrow.message.number;
-    format!(in alloc;
-        "<path class='{class}' d='M{from} {top}L{to} {bottom}'><title>{sender} {number}</title></path>\n"
+    path_text(
+        alloc,
+        way_class(way),
+        from,
+        top,
+        to,
+        y_of(row),
+        &arrow.message,
     )
 }
 
@@ -71,12 +73,48 @@ fn lost_text(alloc: Global, arrow: &Arrow, from: u64, to: u64) -> Result<String,
 {
     let top = start_y(arrow.left, 0);
     let end = lost_x(from, to);
-    let bottom = top + 20;
-    let sender = arrow.message.from.as_str();
-    let number = arrow.message.number;
-    format!(in alloc;
-        "<path class='lost' d='M{from} {top}L{end} {bottom}'><title>{sender} {number}</title></path>\n"
-    )
+    path_text(alloc, "lost", from, top, end, top + 20, &arrow.message)
+}
+
+// An arrow in a style of this class, with its message's name.
+fn path_text(
+    alloc: Global,
+    class: &str,
+    from: u64,
+    top: u64,
+    to: u64,
+    bottom: u64,
+    message: &Message,
+) -> Result<String, AllocError>
+    ensures { IfOk result (λ s. string_bytes s ≡ path_text class.now from top to bottom message.now) }
+{
+    let mut text = line_text(alloc, class, from, top, to, bottom)?;
+    let title = title_text(alloc, message)?;
+    text.push_str(title.as_str())?;
+    Ok(text)
+}
+
+// The line of an arrow.
+fn line_text(
+    alloc: Global,
+    class: &str,
+    from: u64,
+    top: u64,
+    to: u64,
+    bottom: u64,
+) -> Result<String, AllocError>
+    ensures { IfOk result (λ s. string_bytes s ≡ line_text class.now from top to bottom) }
+{
+    format!(in alloc; "<path class='{class}' d='M{from} {top}L{to} {bottom}'>")
+}
+
+// The name of a message, which ends its arrow.
+fn title_text(alloc: Global, message: &Message) -> Result<String, AllocError>
+    ensures { IfOk result (λ s. string_bytes s ≡ title_text message.now) }
+{
+    let sender = message.from.as_str();
+    let number = message.number;
+    format!(in alloc; "<title>{sender} {number}</title></path>\n")
 }
 
 // Where a lost message ends on its way: before the next node.

@@ -2,7 +2,7 @@
 
 ghost use Rattle.std.specs.Prelude.{◌≡◌, IfOk, string_bytes};
 ghost use Rattle.std.specs.List.{flat_map};
-ghost use Rattle.sup_svg.specs.Pieces.{bar_text};
+ghost use Rattle.sup_svg.specs.Pieces.{bar_text, box_text, run_text};
 
 use crate::escape::escaped;
 use crate::grid::{Grid, bar_x, slot_of, y_of};
@@ -44,11 +44,30 @@ fn bar_text(
     let x = bar_x(grid.x_of(nodes, &bar.node), slot);
     let top = y_of(bar.began);
     let height = y_of(bar.ended.unwrap_or(rows)).saturating_sub(top);
+    let mut text = box_text(alloc, x, top, height, slot)?;
+    let run = run_text(alloc, bar)?;
+    text.push_str(run.as_str())?;
+    Ok(text)
+}
+
+// The bar alone.
+fn box_text(alloc: Global, x: u64, top: u64, height: u64, slot: u64) -> Result<String, AllocError>
+    ensures { IfOk result (λ s. string_bytes s ≡ box_text x top height slot) }
+{
+    format!(in alloc;
+        "<svg x='{x}' y='{top}' width='12' height='{height}'><path class='bar c{slot}' d='M0 0H12V{height}H0z'/>"
+    )
+}
+
+// What stands along a bar.
+fn run_text(alloc: Global, bar: &Bar) -> Result<String, AllocError>
+    ensures { IfOk result (λ s. string_bytes s ≡ run_text bar.now) }
+{
     let child = escaped(alloc, bar.child.as_str().as_bytes())?;
     let child = child.as_str();
     let boot = bar.boot;
     let k = bar.k;
     format!(in alloc;
-        "<svg x='{x}' y='{top}' width='12' height='{height}'><path class='bar c{slot}' d='M0 0H12V{height}H0z'/><text class='child' x='3' y='-3' transform='rotate(90)'>{child} {boot}.{k}</text></svg>\n"
+        "<text class='child' x='3' y='-3' transform='rotate(90)'>{child} {boot}.{k}</text></svg>\n"
     )
 }

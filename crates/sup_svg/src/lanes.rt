@@ -2,7 +2,7 @@
 
 ghost use Rattle.std.specs.Prelude.{◌≡◌, IfOk, string_bytes};
 ghost use Rattle.std.specs.List.{flat_map};
-ghost use Rattle.sup_svg.specs.Pieces.{gap_text, lane_text};
+ghost use Rattle.sup_svg.specs.Pieces.{gap_text, lane_text, upright_text};
 
 use crate::grid::{Grid, y_of};
 use std::alloc::{AllocError, Global};
@@ -62,7 +62,7 @@ pub fn gaps_text(
     Ok(text)
 }
 
-// A gap in the line of a node.
+// A gap in the line of a node: the line is taken away, and another drawn there.
 fn gap_text(
     alloc: Global,
     grid: &Grid,
@@ -75,7 +75,21 @@ fn gap_text(
     let x = grid.x_of(nodes, &gap.node);
     let top = y_of(gap.down);
     let bottom = y_of(gap.up.unwrap_or(rows));
-    format!(in alloc;
-        "<path class='gap' d='M{x} {top}V{bottom}'/>\n<path class='down' d='M{x} {top}V{bottom}'/>\n"
-    )
+    let mut text = upright_text(alloc, "gap", x, top, bottom)?;
+    let down = upright_text(alloc, "down", x, top, bottom)?;
+    text.push_str(down.as_str())?;
+    Ok(text)
+}
+
+// An upright line in a style of this class.
+fn upright_text(
+    alloc: Global,
+    class: &str,
+    x: u64,
+    top: u64,
+    bottom: u64,
+) -> Result<String, AllocError>
+    ensures { IfOk result (λ s. string_bytes s ≡ upright_text class.now x top bottom) }
+{
+    format!(in alloc; "<path class='{class}' d='M{x} {top}V{bottom}'/>\n")
 }

@@ -2,7 +2,7 @@
 
 ghost use Rattle.std.specs.Prelude.{◌≡◌, ◌≤◌, IfOk, string_bytes};
 ghost use Rattle.std.specs.List.{flat_map};
-ghost use Rattle.sup_svg.specs.Pieces.{band_text, dot_text, mark_text, row_text};
+ghost use Rattle.sup_svg.specs.Pieces.{band_text, circle_text, dot_text, label_text, mark_text, row_text, stripe_text, told_text};
 
 use crate::escape::{escaped, first_line};
 use crate::grid::{Grid, y_of};
@@ -64,16 +64,32 @@ fn dot_text(alloc: Global, x: u64, row: &Row, dot: &str, answer: &str) -> Result
     requires { x ≤ 12462 }
     ensures { IfOk result (λ s. string_bytes s ≡ dot_text x row.now dot.now answer.now) }
 {
+    let mut text = circle_text(alloc, x, row, dot)?;
+    let label = label_text(alloc, x + 10, row, answer)?;
+    text.push_str(label.as_str())?;
+    Ok(text)
+}
+
+// The dot of a row.
+fn circle_text(alloc: Global, x: u64, row: &Row, dot: &str) -> Result<String, AllocError>
+    ensures { IfOk result (λ s. string_bytes s ≡ circle_text x row.now dot.now) }
+{
     let y = y_of(row.row);
-    let right = x + 10;
-    let base = y - 5;
-    let all = escaped(alloc, row.said.as_slice())?;
-    let all = all.as_str();
-    let said = escaped(alloc, first_line(row.said.as_slice()))?;
+    let said = escaped(alloc, row.said.as_slice())?;
     let said = said.as_str();
     format!(in alloc;
-        "<circle class='{dot}' cx='{x}' cy='{y}' r='5'><title>{all}</title></circle>\n<text class='{answer}' x='{right}' y='{base}'>{said}</text>\n"
+        "<circle class='{dot}' cx='{x}' cy='{y}' r='5'><title>{said}</title></circle>\n"
     )
+}
+
+// The first line of what was answered in a row.
+fn label_text(alloc: Global, x: u64, row: &Row, answer: &str) -> Result<String, AllocError>
+    ensures { IfOk result (λ s. string_bytes s ≡ label_text x row.now answer.now) }
+{
+    let y = y_of(row.row) - 5;
+    let said = escaped(alloc, first_line(row.said.as_slice()))?;
+    let said = said.as_str();
+    format!(in alloc; "<text class='{answer}' x='{x}' y='{y}'>{said}</text>\n")
 }
 
 // A band over all nodes, with what was answered.
@@ -85,16 +101,30 @@ fn band_text(
 ) -> Result<String, AllocError>
     ensures { IfOk result (λ s. string_bytes s ≡ band_text grid.now nodes.now row.now) }
 {
-    let y = y_of(row.row);
-    let top = y - 8;
-    let base = y + 4;
-    let right = grid.width(nodes);
-    let x = 360 + grid.bars.min(112);
-    let all = escaped(alloc, row.said.as_slice())?;
-    let all = all.as_str();
-    let said = escaped(alloc, first_line(row.said.as_slice()))?;
+    let mut text = stripe_text(alloc, grid.width(nodes), row)?;
+    let told = told_text(alloc, 360 + grid.bars.min(112), row)?;
+    text.push_str(told.as_str())?;
+    Ok(text)
+}
+
+// The band of a row, as wide as the picture.
+fn stripe_text(alloc: Global, width: u64, row: &Row) -> Result<String, AllocError>
+    ensures { IfOk result (λ s. string_bytes s ≡ stripe_text width row.now) }
+{
+    let top = y_of(row.row) - 8;
+    let said = escaped(alloc, row.said.as_slice())?;
     let said = said.as_str();
     format!(in alloc;
-        "<path class='all' d='M340 {top}H{right}v16H340z'><title>{all}</title></path>\n<text x='{x}' y='{base}'>{said}</text>\n"
+        "<path class='all' d='M340 {top}H{width}v16H340z'><title>{said}</title></path>\n"
     )
+}
+
+// The first line of what was answered, on a band.
+fn told_text(alloc: Global, x: u64, row: &Row) -> Result<String, AllocError>
+    ensures { IfOk result (λ s. string_bytes s ≡ told_text x row.now) }
+{
+    let y = y_of(row.row) + 4;
+    let said = escaped(alloc, first_line(row.said.as_slice()))?;
+    let said = said.as_str();
+    format!(in alloc; "<text x='{x}' y='{y}'>{said}</text>\n")
 }

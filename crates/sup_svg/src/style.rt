@@ -32,7 +32,7 @@ path{fill:none}
 @media(prefers-color-scheme:dark){text{fill:#ddd;stroke:#15181c}.no{fill:#f0796b}.back{fill:#15181c}.gap{stroke:#15181c}.done{fill:#ddd}.refused{fill:#15181c}}
 </style>
 <defs>
-<clipPath id='margin'><path d='M0 0H330V99999999H0z'/></clipPath>
+<clipPath id='margin'><path d='M0 0H330V8000000H0z'/></clipPath>
 <marker id='full' viewBox='0 0 10 10' refX='15' refY='5' markerWidth='10' markerHeight='10' markerUnits='userSpaceOnUse' orient='auto'><path class='full' d='M0 0L10 5L0 10z'/></marker>
 <marker id='thin' viewBox='0 0 10 10' refX='15' refY='5' markerWidth='8' markerHeight='8' markerUnits='userSpaceOnUse' orient='auto'><path class='thin' d='M0 1L10 5L0 9z'/></marker>
 <marker id='cross' viewBox='-5 -5 10 10' markerWidth='10' markerHeight='10' markerUnits='userSpaceOnUse'><path class='cross' d='M-4 -4L4 4M-4 4L4 -4'/></marker>

@@ -1,7 +1,7 @@
 //! A whole picture.
 
 ghost use Rattle.std.specs.Prelude.{◌≡◌, IfOk, string_bytes};
-ghost use Rattle.sup_svg.specs.Pieces.{front_text};
+ghost use Rattle.sup_svg.specs.Pieces.{back_text, front_text, root_text};
 ghost use Rattle.sup_svg.specs.Svg.{svg_text};
 
 use crate::arrows::arrows_text;
@@ -52,8 +52,25 @@ fn front_text(
 {
     let width = grid.width(nodes);
     let height = y_of(rows) + 20;
-    let style = STYLE;
+    let mut text = root_text(alloc, width, height)?;
+    text.push_str(STYLE)?;
+    let back = back_text(alloc, width, height)?;
+    text.push_str(back.as_str())?;
+    Ok(text)
+}
+
+// The root of the text, with its size.
+fn root_text(alloc: Global, width: u64, height: u64) -> Result<String, AllocError>
+    ensures { IfOk result (λ s. string_bytes s ≡ root_text width height) }
+{
     format!(in alloc;
-        "<svg xmlns='http://www.w3.org/2000/svg' viewBox='0 0 {width} {height}' width='{width}' height='{height}'>\n{style}<path class='back' d='M0 0H{width}V{height}H0z'/>\n"
+        "<svg xmlns='http://www.w3.org/2000/svg' viewBox='0 0 {width} {height}' width='{width}' height='{height}'>\n"
     )
+}
+
+// The background.
+fn back_text(alloc: Global, width: u64, height: u64) -> Result<String, AllocError>
+    ensures { IfOk result (λ s. string_bytes s ≡ back_text width height) }
+{
+    format!(in alloc; "<path class='back' d='M0 0H{width}V{height}H0z'/>\n")
 }

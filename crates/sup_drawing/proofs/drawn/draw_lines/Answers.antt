@@ -1,4 +1,4 @@
-use Rattle.std.proofs.Common.{◌≡◌}
+use Rattle.std.proofs.Common.{◌∙◌}
 use Rattle.sup_noting.specs.Noted.{noted_of}
 use Rattle.sup_world.specs.Seen.{sites_of}
 use Rattle.sup_drawing.proofs.drawn.draw_lines.Goals as goal
@@ -9,10 +9,10 @@ returns g c = record {
   opens = c.in_ok-world.ensures.shows;
   after = sites_of c.play_lines.new.world;
   noted = noted_of c.play_lines.new.log;
-  goes = rw c.empty_log.ensures at c.in_ok-play_lines.ensures;
+  goes = rw c.empty_log-log.ensures at c.in_ok-play_lines.ensures;
   picture = c.in_ok-picture.picture;
   pictures = record {
-    nodes = cc;
+    nodes = c.in_ok-picture.ensures.nodes ∙ c.in_ok-nodes.ensures.items_if_clones_equal (λ x y same. same);
     rows = c.in_ok-picture.ensures.rows;
     arrows = c.in_ok-picture.ensures.arrows;
     bars = c.in_ok-picture.ensures.bars;
