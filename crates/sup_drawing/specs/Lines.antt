@@ -1,5 +1,5 @@
 -- What the lines of a script leave in a log (this project): the world makes their steps, and the log has what each was answered.
-use Rattle.std.specs.Prelude.{◌≡◌, ℕ, Bool, true, false, List, [], ◌∷◌, length, map, slice_get, unwrap_or, Option, Result, Ok, Err}
+use Rattle.std.specs.Prelude.{◌≡◌, ℕ, false, List, [], ◌∷◌, length, map, slice_get, unwrap_or, Result, Ok, Err}
 use Rattle.std.specs.List.{AllZip}
 use Rattle.std.specs.Option.{option_map}
 use Rattle.sup_placement.specs.Place.{Weigher}

@@ -1,8 +1,8 @@
 //! The program `supdraw` but for its `main`: from its input to its output and status.
 #![tactic(auto)]
 
-mod draw;
 mod run;
+mod script;
 
-pub use draw::draw;
 pub use run::{USAGE, run_with};
+pub use script::draw;

@@ -5,7 +5,7 @@ ghost use Rattle.sup_placement.specs.Weights.{sha256_weight};
 ghost use Rattle.sup_replica.specs.Configs.{default};
 ghost use Rattle.sup_supdraw.specs.Drawing.{DrawsTo, DrawsWith, Refuses, TellsUsage};
 
-use crate::draw::draw;
+use crate::script::draw;
 use std::alloc::Global;
 use std::io::{self, Read, Write};
 use sup_jobs::{Ended, put_all};

@@ -1,7 +1,7 @@
 //! A script is read, played and drawn.
 
-ghost use Rattle.std.specs.Prelude.{◌≡◌, ◌≤◌, ◌+◌, drop, length, Err, IfSome};
-ghost use Rattle.sup_jobs.specs.Ends.{Asks, EndsAt, TakesAtMost, TakesFor};
+ghost use Rattle.std.specs.Prelude.{◌≡◌, ◌≤◌, drop, length, Err, IfSome};
+ghost use Rattle.sup_jobs.specs.Ends.{Asks, EndsAt, TakesFor};
 ghost use Rattle.sup_drawing.specs.Lines.{captions_of};
 ghost use Rattle.sup_supdraw.specs.Drawing.{DrawsTo, drawing};
 

@@ -1,0 +1,5 @@
+use Rattle.std.proofs.Common.{refl}
+use Rattle.sup_supdraw.proofs.run.run_with.Goals as goal
+
+pub returns-in-Err-clause-without : goal.returns-in-Err-clause-without
+returns-in-Err-clause-without g c = rw c.in-Err.is (c.refuse.result, refl, c.refuse.ensures)
