@@ -1,5 +1,5 @@
 -- How a node's run ends (this project).
-use Rattle.std.specs.Prelude.{◌≡◌, ◌⊎◌, ℕ, Bool, true, List, [], ◌++◌, codes, Option, Result, Ok, Err}
+use Rattle.std.specs.Prelude.{◌≡◌, ◌⊎◌, ℕ, Bool, List, [], ◌++◌, codes, Option, Result, Ok, Err}
 use Rattle.sup_specs.specs.Values.{Bytes}
 use Rattle.sup_placement.specs.Place.{Weigher}
 use Rattle.sup_jobs.specs.Faults.{image_fault_name, fault_text}

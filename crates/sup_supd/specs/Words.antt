@@ -1,5 +1,6 @@
 -- What the words after the program's name set (this project's command line).
-use Rattle.std.specs.Prelude.{ℕ, Bool, true, false, ◌&&◌, ◌||◌, is_none, List, [], ◌∷◌, Option, Some, None, unwrap_or, if◌then◌else◌, codes}
+use Rattle.std.specs.Prelude.{ℕ, Bool, true, false, ◌&&◌, ◌||◌, is_none, List, [], ◌∷◌, Option, Some, None, if◌then◌else◌, codes}
+use Rattle.std.specs.Option.{option_map_or}
 use Rattle.std.specs.Str.{bytes_eq}
 use Rattle.sup_specs.specs.Values.{Bytes}
 use Rattle.sup_replica.specs.Configs.{Config, config_of}
@@ -36,25 +37,29 @@ are_options [] = true
 are_options (key ∷ value ∷ words) = is_option key && is_none (value_for key words) && are_options words
 are_options (key ∷ []) = false
 
--- an option's value, or what it is by default
-abbrev pub value_or : Word → Word → List Word → Word
-value_or name default words = unwrap_or (value_for name words) default
-
 unfoldable pub weighing_at : Word → Option Weighing
 weighing_at word = if bytes_eq word (codes "sha256") then Some Sha256 else (if bytes_eq word (codes "flat") then Some Flat else None)
 
+-- sha256 by default
+abbrev pub weighing_in : List Word → Option Weighing
+weighing_in words = option_map_or weighing_at (value_for (codes "--weigh") words) (Some Sha256)
+
+-- an option's number, to a greatest one, or what it is by default
+unfoldable pub number_in : Word → ℕ → ℕ → List Word → Option ℕ
+number_in name greatest default words = option_map_or (number_of greatest) (value_for name words) (Some default)
+
 unfoldable pub config_in : List Word → Option Config
 config_in words = do
-  intensity ← number_of 1000 (value_or (codes "--intensity") (codes "1") words)
-  period ← number_of 1000000 (value_or (codes "--period") (codes "5") words)
-  buffer ← number_of 1024 (value_or (codes "--buffer") (codes "64") words)
+  intensity ← number_in (codes "--intensity") 1000 1 words
+  period ← number_in (codes "--period") 1000000 5 words
+  buffer ← number_in (codes "--buffer") 1024 64 words
   config_of intensity period buffer
 
 unfoldable pub set_in : Word → List Word → Option Setting
 set_in name words = do
   node ← node_name_of name
   image ← value_for (codes "--image") words
-  weighing ← weighing_at (value_or (codes "--weigh") (codes "sha256") words)
+  weighing ← weighing_in words
   config ← config_in words
   Some (record { name = node; image = image; weighing = weighing; config = config })
 

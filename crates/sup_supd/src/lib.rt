@@ -2,9 +2,9 @@
 #![tactic(auto)]
 
 pub mod node;
-pub mod run;
+pub mod program;
 pub mod settings;
 
 pub use node::run_node;
-pub use run::run;
+pub use program::run;
 pub use settings::{Settings, read_settings};

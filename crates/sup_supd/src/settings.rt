@@ -1,8 +1,8 @@
 //! What the words after the program's name set.
 
-ghost use Rattle.std.specs.Prelude.{◌≡◌, IfNone, IfSome, None, Some, option_map};
+ghost use Rattle.std.specs.Prelude.{◌≡◌, ◌≤◌, IfNone, IfSome, None, Some, option_map};
 ghost use Rattle.sup_lines.specs.Words.{texts};
-ghost use Rattle.sup_supd.specs.Words.{are_options, config_in, is_option, set_in, set_of, settings_of, value_for, value_or, weighing_at};
+ghost use Rattle.sup_supd.specs.Words.{are_options, config_in, is_option, number_in, set_in, set_of, settings_of, value_for, weighing_at, weighing_in};
 
 use sup_command_line::Weighing;
 use sup_lines::{read_node_name, read_number};
@@ -40,7 +40,7 @@ fn read_options<'a>(name: &str, options: &[&'a str]) -> Option<Settings<'a>>
 {
     let name = read_node_name(name).ok()?;
     let image = value_for("--image", options)?;
-    let weighing = weighing_at(value_or("--weigh", "sha256", options))?;
+    let weighing = weighing_in(options)?;
     let config = config_in(options)?;
     Some(Settings {
         name,
@@ -90,12 +90,12 @@ fn value_for<'a>(name: &str, words: &[&'a str]) -> Option<&'a str>
     }
 }
 
-fn value_or<'a>(name: &str, default: &'a str, words: &[&'a str]) -> &'a str
-    ensures { result.now ≡ value_or name.now default.now (texts words.now) }
+fn weighing_in(words: &[&str]) -> Option<Weighing>
+    ensures { result ≡ weighing_in (texts words.now) }
 {
-    match value_for(name, words) {
-        Some(value) => value,
-        None => default,
+    match value_for("--weigh", words) {
+        Some(word) => weighing_at(word),
+        None => Some(Weighing::Sha256),
     }
 }
 
@@ -114,8 +114,21 @@ fn weighing_at(word: &str) -> Option<Weighing>
 fn config_in(words: &[&str]) -> Option<Config>
     ensures { result ≡ config_in (texts words.now) }
 {
-    let intensity = read_number(value_or("--intensity", "1", words), 1000).ok()?;
-    let period = read_number(value_or("--period", "5", words), 1_000_000).ok()?;
-    let buffer = read_number(value_or("--buffer", "64", words), 1024).ok()?;
+    let intensity = number_in("--intensity", 1000, 1, words)?;
+    let period = number_in("--period", 1_000_000, 5, words)?;
+    let buffer = number_in("--buffer", 1024, 64, words)?;
     Config::new(intensity as u16, period as u32, buffer as u16)
+}
+
+// An option's number, or what it is by default.
+#[tactic(auto, unfolding(crate::specs::Words::number_in))]
+fn number_in(name: &str, greatest: u64, default: u64, words: &[&str]) -> Option<u64>
+    requires { default ≤ greatest }
+    ensures value { result ≡ number_in name.now greatest default (texts words.now) }
+    ensures bound { IfSome result (λ number. number ≤ greatest) }
+{
+    match value_for(name, words) {
+        Some(word) => read_number(word, greatest).ok(),
+        None => Some(default),
+    }
 }

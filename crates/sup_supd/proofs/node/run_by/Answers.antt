@@ -5,9 +5,9 @@ use Rattle.sup_supd.proofs.node.run_by.Goals as goal
 
 pub returns-in-Ok : goal.returns-in-Ok
 returns-in-Ok g c =
-    let begun = c.in-Ok.begun.filter in let left = c.serve.new.filter in
+    let begun = c.in-Ok.begun.filter in let left = c.serve-end.new.filter in
     inr (
-      c.serve.result,
+      c.serve-end.result,
       record {
         first = c.in-Ok.begun.first.items;
         begun = known begun.name (still_of g.K.Keeper.kept begun.station) begun.peers.items (g.K.ImageKeeper.lost (keeper_of begun.station));
@@ -15,7 +15,7 @@ returns-in-Ok g c =
         named = c.in-Ok.ensures.name;
         alone = c.in-Ok.ensures.peers;
         begins = c.in-Ok.ensures.begins;
-        serves = rw c.as_slice.ensures.value at c.serve.ensures;
+        serves = rw c.as_slice.ensures.value at c.serve-end.ensures;
       },
       c.end_with.ensures,
     )
