@@ -1,32 +1,58 @@
 //! Words, and what they set.
 
+use std::process::Abort;
 use sup_command_line::Weighing;
 use sup_replica::Config;
 use sup_supd::read_settings;
 
+fn expect(
+    rt: &(impl Abort + AllocGlobal),
+    words: &[&str],
+    name: &str,
+    image: &str,
+    weighing: Weighing,
+    config: Option<Config>,
+) {
+    match read_settings(words) {
+        Some(settings) => {
+            assert!(rt; settings.name.as_str() == name && settings.image == image);
+            assert!(rt; settings.weighing == weighing);
+            assert!(rt; Some(settings.config) == config);
+        }
+        None => rt.panic("settings"),
+    }
+}
+
 #[test]
 fn options_stand_in_any_order_and_have_defaults(rt: HostRuntime) {
-    let settings = read_settings(&["a", "--image", "x"]).expect(&rt, "settings");
-    assert!(rt; settings.name.as_str() == "a" && settings.image == "x");
-    assert!(rt; settings.weighing == Weighing::Sha256);
-    assert!(rt; Some(settings.config) == Config::new(1, 5, 64));
-    let settings = read_settings(&[
+    expect(
+        &rt,
+        &["a", "--image", "x"],
+        "a",
+        "x",
+        Weighing::Sha256,
+        Config::new(1, 5, 64),
+    );
+    expect(
+        &rt,
+        &[
+            "b-1",
+            "--buffer",
+            "8",
+            "--period",
+            "60",
+            "--image",
+            "/x/y",
+            "--intensity",
+            "0",
+            "--weigh",
+            "flat",
+        ],
         "b-1",
-        "--buffer",
-        "8",
-        "--period",
-        "60",
-        "--image",
         "/x/y",
-        "--intensity",
-        "0",
-        "--weigh",
-        "flat",
-    ])
-    .expect(&rt, "settings");
-    assert!(rt; settings.name.as_str() == "b-1" && settings.image == "/x/y");
-    assert!(rt; settings.weighing == Weighing::Flat);
-    assert!(rt; Some(settings.config) == Config::new(0, 60, 8));
+        Weighing::Flat,
+        Config::new(0, 60, 8),
+    );
 }
 
 #[test]
