@@ -69,7 +69,9 @@ fn a_save_that_failed_behind_it_loses_the_keeper_and_leaves_the_old_or_the_new_b
         assert_eq!(rt; keeper.failures(), 2);
         for is_ahead in [false, true] {
             let left = left_by(&rt, keeper.disk(), is_ahead);
-            assert!(rt; left.as_slice() == b"one".as_slice() || left.as_slice() == b"two".as_slice());
+            assert!(rt;
+                left.as_slice() == b"one".as_slice() || left.as_slice() == b"two".as_slice()
+            );
         }
     }
 }
