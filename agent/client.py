@@ -1,0 +1,80 @@
+"""What asks an agent: one connection for each line."""
+import json
+import socket
+
+import seals
+
+NOT_DONE = ("refused ", "bad line", "no node", "not asked")  # how answers begin of lines that did nothing
+
+
+class NoAnswer(Exception):
+    """The agent can't be reached, or doesn't answer as one with the secret would: the reason."""
+
+
+def ask(address, secret, line, patience=10):
+    """The lines that the agent at an address (host and port) answers. NoAnswer, also where it takes longer than `patience` seconds."""
+    if not (line.isascii() and line.isprintable()):
+        raise NoAnswer("a line is of visible ASCII and spaces")
+    try:
+        with socket.create_connection(address, timeout=patience) as link, link.makefile("rb") as lines:
+            hello = next_line(lines).split(" ")
+            if len(hello) != 3 or hello[0] != "hello":
+                raise NoAnswer("no agent is there")
+            session = seals.fresh()
+            link.sendall(seals.Seal(secret, seals.CLIENT, session, hello[1], hello[2]).line("ask " + line).encode("ascii") + b"\n")
+            return answer_of(lines, seals.Guard(secret, seals.CLIENT, session))
+    except OSError as fault:
+        raise NoAnswer(f"no answer: {fault}") from None
+
+
+def answer_of(lines, guard):
+    told = []
+    while True:
+        try:
+            _, _, text = guard.open(next_line(lines).encode("ascii"))
+        except seals.Refused as refusal:
+            raise NoAnswer(f"an answer without the right seal: {refusal}") from None
+        word, _, rest = text.partition(" ")
+        if word == "end":
+            return told
+        told.append(rest)
+
+
+def next_line(lines):
+    line = lines.readline()
+    if not line.endswith(b"\n"):
+        raise NoAnswer("the agent ended the connection: has it the same secret?")
+    return line.decode("ascii", "replace").rstrip("\n")
+
+
+def status(address, secret):
+    """What the agent knows of machines and children. NoAnswer as for `ask`."""
+    try:
+        return json.loads("".join(ask(address, secret, "status")))
+    except ValueError:
+        raise NoAnswer("no status came") from None
+
+
+def moment(heard):
+    return "never" if heard is None else f"{heard} s ago"
+
+
+def tables(status):
+    """The status as lines for people."""
+    machines = [["machine", "member", "last contact", "label"]]
+    for machine in status["machines"]:
+        heard = "here" if machine["name"] == status["name"] else moment(machine["heard"])
+        machines.append([machine["name"], machine["member"], heard, machine["label"]])
+    rows = [["child", "place", "runs on", "run", "process", "restarts", "last exit", "kind", "arg"]]
+    for child in status["children"]:
+        lead, end = [child["id"], child["place"] or "unplaced"], [child["kind"], child["arg"]]
+        rows += [lead + list(map(str, run)) + end for run in child["runs"]] or [lead + ["nowhere", "", "", "", ""] + end]
+    refused = ", ".join(f"{count} {why}" for why, count in status["refused"].items()) or "none"
+    names = [["name", "dot", "child"]] + [name.split(" ", 2) for name in status["names"]]
+    parts = [table(machines), table(rows)] + ([table(names)] if status["names"] else [])
+    return [f"agent {status['name']}: its node {status['node']}, boot {status['boot']}; refused lines: {refused}"] + [line for part in parts for line in ["", *part]]
+
+
+def table(rows):
+    widths = [max(len(row[i]) for row in rows) for i in range(len(rows[0]))]
+    return ["  ".join(cell.ljust(width) for cell, width in zip(row, widths)).rstrip() for row in rows]

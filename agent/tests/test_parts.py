@@ -1,0 +1,286 @@
+"""Parts of an agent by themselves: sealed lines, answers of a node, kinds, claims."""
+import argparse
+import json
+import os
+import random
+import sys
+import tempfile
+import unittest
+
+sys.path.insert(0, os.path.dirname(os.path.dirname(os.path.abspath(__file__))))
+
+import children
+import claims
+import client
+import links
+import members
+import node
+import seals
+
+SECRET = b"a secret of this test alone"
+
+
+class Seals(unittest.TestCase):
+    def test_a_line_is_opened_once_and_by_its_receiver_alone(self):
+        seal = seals.Seal(SECRET, "a", "0" * 32, "b", "1" * 32)
+        first, second = seal.line("letter x").encode(), seal.line("runs {}").encode()
+        guard = seals.Guard(SECRET, "b", "1" * 32)
+        self.assertEqual(guard.open(first), ("a", "0" * 32, "letter x"))
+        self.assertEqual(guard.open(second), ("a", "0" * 32, "runs {}"))
+        for line in (first, second):
+            with self.assertRaises(seals.Refused):
+                guard.open(line)
+        for receiver, challenge, secret in (("c", "1" * 32, SECRET), ("b", "2" * 32, SECRET), ("b", "1" * 32, SECRET + b"x"), ("b", "1" * 32, None)):
+            with self.assertRaises(seals.Refused):
+                seals.Guard(secret, receiver, challenge).open(first)
+
+    def test_no_byte_of_a_line_can_be_changed(self):
+        line = seals.Seal(SECRET, "a", "0" * 32, "b", "1" * 32).line("letter x").encode()
+        for place in range(len(line)):
+            for byte in (b" ", b"1", b"a", b"~", b"\x00", b"\xff"):
+                changed = line[:place] + byte + line[place + 1:]
+                if changed != line:
+                    with self.assertRaises(seals.Refused):
+                        seals.Guard(SECRET, "b", "1" * 32).open(changed)
+
+    def test_words_are_kept_apart(self):
+        """A text that begins with a count is no other line's seal: sessions and counts have no spaces."""
+        line = seals.Seal(SECRET, "a", "0" * 32, "b", "1" * 32).line("1 x").encode()
+        sender, session, count, seal, _ = line.decode().split(" ", 4)
+        with self.assertRaises(seals.Refused):
+            seals.Guard(SECRET, "b", "1" * 32).open(f"{sender} {session} {count} {seal} x".encode())
+
+    def test_a_line_that_was_lost_is_missed_by_nobody(self):
+        seal, guard = seals.Seal(SECRET, "a", "0" * 32, "b", "1" * 32), seals.Guard(SECRET, "b", "1" * 32)
+        lines = [seal.line(f"letter {number}").encode() for number in range(10)]
+        self.assertEqual([guard.open(lines[number])[2] for number in (0, 4, 9)], ["letter 0", "letter 4", "letter 9"])
+        with self.assertRaises(seals.Refused):
+            guard.open(lines[5])
+
+    def test_a_secret_is_its_owners_alone_and_not_short(self):
+        with tempfile.NamedTemporaryFile() as file:
+            for mode, secret, good in ((0o600, SECRET, True), (0o640, SECRET, False), (0o604, SECRET, False), (0o600, b"short", False)):
+                os.chmod(file.name, mode)
+                with open(file.name, "wb") as out:
+                    out.write(secret + b"\n")
+                if good:
+                    self.assertEqual(seals.read_secret(file.name), SECRET)
+                else:
+                    self.assertRaises(seals.BadSecret, seals.read_secret, file.name)
+        self.assertRaises(seals.BadSecret, seals.read_secret, file.name)
+
+
+class Answers(unittest.TestCase):
+    def test_orders_and_letters_are_read_in_their_order(self):
+        answer = node.Answer(["ok absorbed", "  stop web 1.2", "  start web 1.3 http transient brutal_kill arg=", "  start q 1.4 w permanent 5000 arg=a=b", '  send b {"v":2}'])
+        self.assertEqual(answer.orders, [("stop", "web", "1.2", None), ("start", "web", "1.3", {"kind": "http", "restart": "transient", "shutdown": "brutal_kill", "arg": ""}),
+                                         ("start", "q", "1.4", {"kind": "w", "restart": "permanent", "shutdown": "5000", "arg": "a=b"})])
+        self.assertEqual(answer.letters, [("b", '{"v":2}')])
+
+    def test_what_is_shown_holds_no_orders(self):
+        self.assertEqual(node.Answer(["node a boot 1", "child stop (a,1) start permanent 5000 arg=send on a"]).orders, [])
+
+    def test_an_answer_without_a_line_is_one(self):
+        with tempfile.TemporaryDirectory() as folder:
+            program = os.path.join(folder, "program")
+            with open(program, "w") as file:
+                file.write("#!/bin/sh\nprintf 'ok boot 1\\n\\n'\nwhile read -r line; do case $line in none) echo;; *) printf '%s\\n\\n' \"$line\";; esac; done\n")
+            os.chmod(program, 0o755)
+            filter = node.Node([program], 10)
+            while not filter.has_begun():
+                pass
+            self.assertEqual(filter.first.reply, "ok boot 1")
+            self.assertEqual([filter.ask(line).lines for line in ("x", "none", "y", "z" * 300000)], [["x"], [], ["y"], ["z" * 300000]])
+            filter.close()
+            self.assertRaises(node.NodeGone, node.Node, [program + "x"], 10)
+
+
+class Kinds(unittest.TestCase):
+    def test_a_file_that_changes_counts_once_it_is_good(self):
+        with tempfile.NamedTemporaryFile("w") as file:
+            def put(text, moment):
+                with open(file.name, "w") as out:
+                    out.write(text)
+                os.utime(file.name, (moment, moment))
+            put('{"sleep": ["sleep", "{arg}", "{id}-{arg}"]}', 1)
+            kinds = children.Kinds(file.name)
+            spec = {"kind": "sleep", "arg": "5"}
+            self.assertEqual(kinds.of("web", spec), ["sleep", "5", "web-5"])
+            self.assertEqual(kinds.of("{arg}", {"kind": "sleep", "arg": "{id}\\1"}), ["sleep", "{id}\\1", "{arg}-{id}\\1"])
+            put("{", 2)
+            self.assertEqual(kinds.of("web", spec)[0], "sleep")
+            put('{"sleep": "sleep"}', 3)
+            self.assertEqual(kinds.of("web", spec)[0], "sleep")
+            put('{"other": ["x"]}', 4)
+            self.assertRaises(OSError, kinds.of, "web", spec)
+            for bad in ("{", "[]", '{"x": []}', '{"x": [1]}'):
+                put(bad, 5)
+                self.assertRaises(ValueError, children.Kinds, file.name)
+
+
+class Addresses(unittest.TestCase):
+    def test_an_address_has_a_host_and_a_port(self):
+        self.assertEqual(links.address_of("127.0.0.1:7001"), ("127.0.0.1", 7001))
+        self.assertEqual(links.address_of("[::1]:7001"), ("::1", 7001))
+        for bad in ("127.0.0.1", "a:", "a:x", "a:0", "a:65536", ""):
+            self.assertRaises(ValueError, links.address_of, bad)
+
+
+class OfClaims:
+    """A machine of a run of claims: whether it wants the one child, runs it, and has still to end it."""
+
+    def __init__(self, name):
+        self.claims, self.name = claims.Claims(name, seals.fresh()), name
+        self.wants = self.runs = False
+        self.told = set(), set()
+
+    def turn(self, others):
+        """What the loop of an agent does, with lines to all others where there is something to tell."""
+        waits = self.wants and not self.runs
+        self.claims.claim({"x"} if waits and "x" not in self.told[0] else ())
+        if waits and ("x" in self.told[0] or self.claims.may_begin("x", others)):
+            self.runs = True
+        self.claims.claim(set(self.claims.claimed) if not self.runs else ())
+        return self.tell(others)
+
+    def tell(self, others):
+        self.told = {"x"} if self.runs else set(), set(self.claims.claimed)
+        self.claims.next_line()
+        return {to: self.claims.line(to, {"x": ["1.1", 1, 0, ""]} if self.runs else {}) for to in others}
+
+
+class Claims(unittest.TestCase):
+    def play(self, chance, losses):
+        """A run of 600 events at three machines that want a child at will. How often it ran, and the most at once."""
+        machines = {name: OfClaims(name) for name in "abc"}
+        wires = {(one, other): [] for one in "abc" for other in "abc" if one != other}
+        began, most = 0, 0
+        for _ in range(600):
+            machine = machines[chance.choice("abc")]
+            event = chance.random()
+            if event < 0.06:
+                machine.wants = not machine.wants
+            elif event < 0.09:
+                machines[machine.name] = machine = OfClaims(machine.name)  # its agent was killed and is back, held until all have told
+                for other in "abc":
+                    if other != machine.name:
+                        wires[other, machine.name] = []
+            elif event < 0.25 and machine.runs and not machine.wants:
+                machine.runs = False  # what was told to end has ended
+            elif event < 0.7:
+                self.hear(machines, wires, chance)
+                continue
+            before = machine.runs
+            for to, line in machine.turn([name for name in "abc" if name != machine.name]).items():
+                if chance.random() >= losses:
+                    wires[machine.name, to].append(line)
+            began += machine.runs and not before
+            most = max(most, sum(one.runs for one in machines.values()))
+        return began, most
+
+    def hear(self, machines, wires, chance):
+        full = [ends for ends, lines in wires.items() if lines]
+        if full:
+            sender, to = chance.choice(full)
+            machines[to].claims.hear(sender, wires[sender, to].pop(0), 0)
+
+    def test_no_two_of_three_machines_run_a_child_at_once_in_random_runs(self):
+        chance, began = random.Random(5), 0
+        for number in range(100):
+            runs, most = self.play(chance, 0.3 * (number % 2))
+            self.assertLessEqual(most, 1)
+            began += runs
+        self.assertGreater(began, 150)
+
+    def test_the_lesser_name_begins_first_and_the_other_waits_for_its_end(self):
+        a, b = OfClaims("a"), OfClaims("b")
+        a.wants = b.wants = True
+        for _ in range(3):
+            to_b, to_a = a.turn(["b"])["b"], b.turn(["a"])["a"]
+            a.claims.hear("b", to_a, 0)
+            b.claims.hear("a", to_b, 0)
+        self.assertEqual((a.runs, b.runs), (True, False))
+        a.wants = a.runs = False
+        for _ in range(3):
+            b.claims.hear("a", a.turn(["b"])["b"], 0)
+            a.claims.hear("b", b.turn(["a"])["a"], 0)
+        self.assertEqual((a.runs, b.runs), (False, True))
+
+    def test_who_is_alone_begins_at_once(self):
+        a = OfClaims("a")
+        a.wants = True
+        a.turn([])
+        self.assertTrue(a.runs)
+
+    def test_lines_of_no_form_are_passed_over(self):
+        one = claims.Claims("a", "s")
+        for line in ("", "{}", "[]", "1", '"x"', '{"session":1,"n":1,"heard":["",0],"runs":{},"claims":[]}', '{"session":"x","n":1,"heard":["",0],"runs":{"x":[1]},"claims":[]}',
+                     '{"session":"x","n":1,"heard":5,"runs":{},"claims":[]}', "[" * 100000):
+            self.assertFalse(one.hear("b", line, 0))
+        self.assertEqual(one.told, {})
+
+
+class OfMembers(unittest.TestCase):
+    def machine(self, least=1):
+        options = argparse.Namespace(silent=3, every=0.5, least=least, label="x")
+        machine = members.Members("a", options, lambda name: name != "stranger", 100)
+        machine.know({"a", "b", "c", "stranger"}, {"b", "c", "d"})
+        return machine
+
+    def test_who_was_silent_for_long_enough_is_taken_out_and_no_stranger(self):
+        machine = self.machine()
+        self.assertEqual(machine.others, {"b", "c", "d"})
+        machine.hear("b", 101)
+        everybody = {"a", "b", "c", "stranger"}
+        told = {now: machine.lines(everybody, now, True) for now in (101, 103.9, 104, 104.1)}
+        self.assertEqual(told, {101: [], 103.9: [], 104: ["leave b", "leave c"], 104.1: ["leave b", "leave c"]})
+        machine.hear("b", 104.2)
+        self.assertEqual(machine.lines(everybody, 104.3, True), ["leave c"])
+
+    def test_who_comes_back_as_a_member_unheard_is_given_its_time_again(self):
+        machine = self.machine()
+        self.assertEqual(machine.lines({"a", "c"}, 110, True), [])
+        self.assertEqual(machine.lines({"a", "c"}, 113, True), ["leave c"])
+        self.assertEqual(machine.lines({"a"}, 113.5, True), [])
+        self.assertEqual(machine.lines({"a", "c"}, 120, True), [])
+        self.assertEqual(machine.lines({"a", "c"}, 123, True), ["leave c"])
+
+    def test_who_was_held_judges_nobody_by_what_it_missed(self):
+        machine = self.machine()
+        machine.hear("b", 101)
+        machine.judge_from = 200
+        self.assertEqual(machine.lines({"a", "b"}, 202.9, True), [])
+        self.assertEqual(machine.lines({"a", "b"}, 203, True), ["leave b"])
+
+    def test_who_is_no_member_joins_where_it_may(self):
+        self.assertEqual(self.machine().lines({"b"}, 100, True), ["join label=x"])
+        self.assertEqual(self.machine().lines({"b"}, 100, False), [])
+
+    def test_the_lonely_one_leaves_before_the_others_take_it_out(self):
+        machine = self.machine(least=2)
+        self.assertEqual(machine.lines({"a", "b", "c"}, 110, True), ["leave a"])
+        self.assertEqual(machine.lines({"a", "b", "c"}, 110, False), [])
+        self.assertEqual(machine.lines({"b", "c"}, 110, True), [])
+        machine.hear("b", 110)
+        machine.hear("c", 110)
+        machine.hear("b", 114)
+        self.assertEqual(machine.lines({"a", "b", "c"}, 114.4, True), [])
+        self.assertEqual(machine.lines({"a", "b", "c"}, 114.5, True), ["leave c"])
+
+
+class Tables(unittest.TestCase):
+    def test_a_status_is_told_in_columns(self):
+        status = {"name": "a", "boot": "2", "node": "runs", "refused": {"wrong seal": 3}, "names": ["www (a,3) web on a"],
+                  "machines": [{"name": "a", "member": "open", "label": "x", "heard": 0}, {"name": "b", "member": "out", "label": "", "heard": None}],
+                  "children": [{"id": "web", "kind": "http", "restart": "permanent", "shutdown": "5000", "arg": "80", "place": "a", "runs": [["a", "1.2", 17, 1, "signal 9"]]},
+                               {"id": "q", "kind": "w", "restart": "permanent", "shutdown": "5000", "arg": "", "place": None, "runs": []}]}
+        self.assertEqual(client.tables(json.loads(json.dumps(status))), [
+            "agent a: its node runs, boot 2; refused lines: 3 wrong seal", "",
+            "machine  member  last contact  label", "a        open    here          x", "b        out     never", "",
+            "child  place     runs on  run  process  restarts  last exit  kind  arg", "web    a         a        1.2  17       1         signal 9   http  80",
+            "q      unplaced  nowhere                                     w", "",
+            "name  dot    child", "www   (a,3)  web on a"])
+
+
+if __name__ == "__main__":
+    unittest.main()
