@@ -4,8 +4,6 @@ import socket
 
 import seals
 
-NOT_DONE = ("refused ", "bad line", "no node", "not asked")  # how answers begin of lines that did nothing
-
 
 class NoAnswer(Exception):
     """The agent can't be reached, or doesn't answer as one with the secret would: the reason."""
@@ -65,14 +63,17 @@ def tables(status):
     for machine in status["machines"]:
         heard = "here" if machine["name"] == status["name"] else moment(machine["heard"])
         machines.append([machine["name"], machine["member"], heard, machine["label"]])
-    rows = [["child", "place", "runs on", "run", "process", "restarts", "last exit", "kind", "arg"]]
+    several = status["groups"] > 1
+    rows = [["child", "place", "runs on", "run", "process", "restarts", "last exit", "kind", "arg"] + ["group"] * several]
     for child in status["children"]:
-        lead, end = [child["id"], child["place"] or "unplaced"], [child["kind"], child["arg"]]
+        lead, end = [child["id"], child["place"] or "unplaced"], [child["kind"], child["arg"]] + [str(child["group"])] * several
         rows += [lead + list(map(str, run)) + end for run in child["runs"]] or [lead + ["nowhere", "", "", "", ""] + end]
     refused = ", ".join(f"{count} {why}" for why, count in status["refused"].items()) or "none"
     names = [["name", "dot", "child"]] + [name.split(" ", 2) for name in status["names"]]
-    parts = [table(machines), table(rows)] + ([table(names)] if status["names"] else [])
-    return [f"agent {status['name']}: its node {status['node']}, boot {status['boot']}; refused lines: {refused}"] + [line for part in parts for line in ["", *part]]
+    ending = [["deleted, and running still"]] + [[f"{ident} on {name}"] for ident, name in status["ending"]]
+    parts = [table(machines), table(rows)] + [table(more) for more in (names, ending) if len(more) > 1]
+    lead = f"agent {status['name']}: its node{'s' * several}: {status['node']}, boot {status['boot']}; refused lines: {refused}"
+    return [lead] + [line for part in parts for line in ["", *part]]
 
 
 def table(rows):

@@ -4,6 +4,7 @@ Whoever accepts a connection says `hello NAME CHALLENGE` first; all that comes o
 brought one right line may hold few bytes and a few seconds, so that strangers cost little. Nothing here waits: the loop's selector tells what
 can be read and written.
 """
+import resource
 import selectors
 import socket
 
@@ -13,7 +14,7 @@ from clock import seconds
 LONGEST = 64 << 20    # bytes of a line
 OF_STRANGERS = 4096   # bytes of a line, as long as no right one came
 MOST_HELD = 128 << 20  # bytes of lines that have not come whole, of all connections
-MOST_CALLERS = 400    # connections that were accepted
+MOST_CALLERS = 400    # connections that were accepted, or half as many as the files that a process may have open
 STRANGERS_TIME = 5    # seconds until the first right line
 MOST_UNSENT = 4 << 20  # bytes to a peer, behind which no further line is taken
 CHUNK = 1 << 18
@@ -25,6 +26,10 @@ def address_of(text):
     if not colon or not port.isdecimal() or not 0 < int(port) < 65536:
         raise ValueError(f"{text}: not of the form HOST:PORT")
     return host.strip("[]"), int(port)
+
+
+def family_of(address):
+    return socket.AF_INET6 if ":" in address[0] else socket.AF_INET
 
 
 class Wire:
@@ -107,6 +112,7 @@ class Caller:
         self.server, self.host, self.since, self.known = server, host, seconds(), False
         self.guard = seals.Guard(server.secret, server.name, seals.fresh())
         self.wire = Wire(server.loop, link, self.heard, self.lost, OF_STRANGERS)
+        server.callers.add(self)
         self.wire.send(f"hello {server.name} {self.guard.challenge}")
 
     def heard(self, line):
@@ -138,13 +144,13 @@ class Server:
     def __init__(self, loop, address, name, secret, take, refuse):
         """OSError where the address can't be had."""
         self.loop, self.name, self.secret, self.take, self.refuse = loop, name, secret, take, refuse
-        self.callers = set()
-        self.socket = socket.create_server(address, family=socket.AF_INET6 if ":" in address[0] else socket.AF_INET, backlog=128)
+        self.callers, self.most = set(), min(MOST_CALLERS, resource.getrlimit(resource.RLIMIT_NOFILE)[0] // 2)
+        self.socket = socket.create_server(address, family=family_of(address), backlog=128)
         self.socket.setblocking(False)
         loop.register(self.socket, selectors.EVENT_READ, self.accept)
 
     def accept(self, _):
-        for _ in range(MOST_CALLERS):
+        for _ in range(self.most // 2):
             try:
                 link, address = self.socket.accept()
             except OSError:
@@ -152,12 +158,12 @@ class Server:
             link.setsockopt(socket.IPPROTO_TCP, socket.TCP_NODELAY, 1)
             link.setsockopt(socket.SOL_SOCKET, socket.SO_KEEPALIVE, 1)
             link.setsockopt(socket.IPPROTO_TCP, socket.TCP_KEEPIDLE, 60)
-            self.callers.add(Caller(self, link, address[0]))
+            Caller(self, link, address[0])
         self.have_fewer()
 
     def have_fewer(self):
         """Closes what is too many: connections of strangers first, and of these the oldest."""
-        more = len(self.callers) - MOST_CALLERS
+        more = len(self.callers) - self.most
         if more > 0:
             for caller in sorted(self.callers, key=lambda caller: (caller.known, caller.since))[:more]:
                 caller.wire.close("too many connections")
@@ -191,17 +197,16 @@ class Peer:
             self.wire.close()
 
     def connect(self):
-        """Begins a connection. A host that is named by a word is looked up, which may wait; addresses in numbers don't."""
+        """Begins a connection, to an address in numbers, since a look-up may wait."""
         try:
-            family, kind, protocol, _, address = socket.getaddrinfo(*self.address, type=socket.SOCK_STREAM)[0]
-            link = socket.socket(family, kind, protocol)
+            link = socket.socket(family_of(self.address), socket.SOCK_STREAM)
         except OSError:
             return
         link.setblocking(False)
         link.setsockopt(socket.IPPROTO_TCP, socket.TCP_NODELAY, 1)
         link.setsockopt(socket.IPPROTO_TCP, socket.TCP_USER_TIMEOUT, int(self.patience * 1000))
         try:
-            link.connect(address)
+            link.connect(self.address)
         except BlockingIOError:
             pass
         except OSError:

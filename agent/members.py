@@ -1,4 +1,4 @@
-"""Who is a member, as one machine judges: it joins where it sees enough others, leaves where it sees too few, and takes out who is silent."""
+"""Who is a member of a group, as one machine judges: it joins where it sees enough others, leaves where it sees too few, and takes out who is silent."""
 
 
 class Members:

@@ -1,15 +1,14 @@
-"""The node: the proved program `supd`, which answers each line by some lines and an empty one, over two pipes."""
+"""A node: the proved program `supd`, which answers each line by some lines and an empty one, over two pipes."""
 import os
 import re
 import select
 import subprocess
 
-from children import die_with_parent
+import processes
 from clock import seconds
 
 ORDER = re.compile(r"  (?:start (?P<start>\S+) (?P<run>\S+) (?P<kind>\S+) (?P<restart>\S+) (?P<shutdown>\S+) arg=(?P<arg>\S*)"
                    r"|stop (?P<stop>\S+) (?P<of>\S+)|send (?P<to>\S+) (?P<text>.*))")
-
 
 FIRST_ANSWER = 60  # seconds in which a node begins: it reads its whole image
 
@@ -43,9 +42,9 @@ class Node:
         """Begins the program that these words name, which has `patience` seconds for each answer but the first. NodeGone where there is no such program."""
         self.patience, self.heard, self.first, self.begun_at = patience, bytearray(), None, seconds()
         try:
-            self.process = subprocess.Popen(words, stdin=subprocess.PIPE, stdout=subprocess.PIPE, preexec_fn=die_with_parent(os.getpid()))
+            self.process = processes.begin(words, stdin=subprocess.PIPE, stdout=subprocess.PIPE)
         except OSError as fault:
-            raise NodeGone(f"{words[0]}: {fault.strerror}") from None
+            raise NodeGone(fault.strerror) from None
         for pipe in (self.process.stdin, self.process.stdout):
             os.set_blocking(pipe.fileno(), False)
         self.output = self.process.stdout.fileno()

@@ -12,6 +12,7 @@ import sys
 import urllib.parse
 
 import client
+import groups
 
 MOST_OF_A_FORM = 8192  # bytes
 LONGEST_WAIT = 5       # seconds for an answer of the agent
@@ -62,16 +63,17 @@ class View:
     def machine(self, status, one):
         here = one["name"] == status["name"]
         heard = '<span class=good>here</span>' if here else text(client.moment(one["heard"]))
-        drain = self.button("drain", one["name"], "drain") if one["member"] == "open" else self.button("leave", one["name"], "undrain") if one["member"] == "draining" else ""
+        drain = self.button("drain", one["name"], "drain") if "open" in one["member"] else self.button("leave", one["name"], "undrain") if "draining" in one["member"] else ""
         return [f'<code>{text(one["name"])}</code>', text(one["member"]), heard, text(one["label"]), drain]
 
-    def child(self, one):
+    def child(self, status, one):
         runs = one["runs"] or [["", "", "", "", ""]]
         at = ["<br>".join(f"<code>{text(run[i])}</code>" for run in runs) for i in range(5)]
         at[0] = at[0] if one["runs"] else '<span class=bad>nowhere</span>'
         spec = f'<code>{text(one["kind"])}</code> <code>{text(one["arg"])}</code> <span class=quiet>{text(one["restart"])} {text(one["shutdown"])}</span>'
         place = f'<code>{text(one["place"])}</code>' if one["place"] else '<span class=bad>unplaced</span>'
-        return [f'<code>{text(one["id"])}</code>', place, *at, spec, self.button("delete", one["id"], "delete")]
+        group = f' <span class=quiet>group {one["group"]}</span>' if status["groups"] > 1 else ""
+        return [f'<code>{text(one["id"])}</code>{group}', place, *at, spec, self.button("delete", one["id"], "delete")]
 
     def tables(self):
         try:
@@ -80,10 +82,10 @@ class View:
             return f"<p class=bad>{text(none)}</p>"
         refused = ", ".join(f"{count} {why}" for why, count in status["refused"].items()) or "none"
         return "".join([
-            f'<p>Agent <code>{text(status["name"])}</code>, its node {text(status["node"])}, boot {text(status["boot"])}. Refused lines: {text(refused)}.</p>',
+            f'<p>Agent <code>{text(status["name"])}</code>, its node{"s" * (status["groups"] > 1)}: {text(status["node"])}, boot {text(status["boot"])}. Refused lines: {text(refused)}.</p>',
             "<h2>Machines</h2>", table(["machine", "member", "last contact", "label", ""], [self.machine(status, one) for one in status["machines"]]),
             "<h2>Children</h2>", table(["child", "place", "runs on", "run", "process", "restarts", "last exit", "kind, arg, restart, shutdown", ""],
-                                       [self.child(one) for one in status["children"]]),
+                                       [self.child(status, one) for one in status["children"]]),
         ])
 
     def start_form(self):
@@ -108,7 +110,8 @@ class View:
         options = [f"{key}={form[key]}" for key in ("kind", "arg", "restart", "shutdown") if form.get(key)] if verb == "start" else []
         line = " ".join([verb, what, *options])
         try:
-            return f"{line}: {client.ask(self.address, self.secret, line, LONGEST_WAIT)[0]}"
+            told = client.ask(self.address, self.secret, line, LONGEST_WAIT)
+            return f"{line}: {', '.join(dict.fromkeys(groups.first_lines(told)))}"
         except client.NoAnswer as none:
             return f"{line}: {none}"
 

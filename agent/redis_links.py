@@ -1,11 +1,12 @@
 """Letters over channels of a Redis server, by Debian's `python3-redis`: machines need not know one another's addresses, nor names.
 
-Each machine listens at `GROUP:to:NAME` and at `GROUP:all`. To all it says `hello NAME TOKEN`, sealed; a token is made anew by each agent, and
+Each machine listens at `CLUSTER:to:NAME` and at `CLUSTER:all`. To all it says `hello NAME TOKEN`, sealed; a token is made anew by each agent, and
 is the challenge under which lines to it are sealed, and the session of its own. A token is taken from a hello of a machine that wasn't heard of
 yet, or from a line that came sealed under one's own token and so was made since this agent began. A hello with another token may be old, and
 is answered once under that token: its machine, if it lives, answers by such a line.
 
-Two threads move lines, and the loop is woken by a pipe. What can't be sent is dropped, as the network may do.
+Two threads move lines, and the loop is woken by a pipe. What can't be sent is dropped, as the network may do. Each second this machine hears
+its own hello, if it is heard at all; so a connection over which nothing comes for some seconds is dead, and begun anew.
 """
 import os
 import queue
@@ -15,16 +16,18 @@ import time
 
 import seals
 
-MOST_WAITING = 200  # lines that wait to leave
+DEAD = 5  # seconds of silence of a connection
+MOST_WAITING = 4000  # lines that wait to leave
+BUSY = 100  # lines that wait to leave, behind which no letters are asked for
 MOST_COME = 10_000  # lines that have come and wait to be opened; what comes beside them is lost
 ALL = "all"
 
 
 class RedisLinks:
-    def __init__(self, loop, url, group, me, secret, take, refuse, log):
+    def __init__(self, loop, url, cluster, me, secret, take, refuse, log):
         """`take(sender, text)` is called with each right line, `refuse(where, why)` for each other one. ImportError without python3-redis."""
         import redis
-        self.redis, self.url, self.group, self.me, self.secret = redis, url, group, me, secret
+        self.redis, self.url, self.cluster, self.me, self.secret = redis, url, cluster, me, secret
         self.take, self.refuse, self.log = take, refuse, log
         self.token = seals.fresh()
         self.guard = seals.Guard(secret, me, self.token)
@@ -39,7 +42,7 @@ class RedisLinks:
             threading.Thread(target=work, daemon=True).start()
 
     def client(self):
-        return self.redis.Redis.from_url(self.url, socket_connect_timeout=2, socket_keepalive=True)
+        return self.redis.Redis.from_url(self.url, socket_connect_timeout=2, socket_timeout=DEAD)
 
     # -- the two threads
 
@@ -47,11 +50,11 @@ class RedisLinks:
         while self.is_open:
             try:
                 channels = self.client().pubsub(ignore_subscribe_messages=True)
-                channels.subscribe(f"{self.group}:to:{self.me}", f"{self.group}:{ALL}")
+                channels.subscribe(f"{self.cluster}:to:{self.me}", f"{self.cluster}:{ALL}")
                 self.bring(None, "subscribed")
                 for message in channels.listen():
                     self.bring(message["channel"].endswith(b":" + ALL.encode()), message["data"])
-            except (self.redis.RedisError, OSError) as fault:
+            except Exception as fault:  # whatever the library raises, this thread goes on
                 self.bring(None, str(fault))
                 time.sleep(0.5)
 
@@ -69,7 +72,7 @@ class RedisLinks:
             channel, line = self.leave.get()
             try:
                 client.publish(channel, line)
-            except (self.redis.RedisError, OSError):
+            except Exception:
                 time.sleep(0.1)
 
     # -- the loop's side
@@ -119,7 +122,7 @@ class RedisLinks:
 
     def put(self, name, line):
         try:
-            self.leave.put_nowait((f"{self.group}:to:{name}" if name else f"{self.group}:{ALL}", line))
+            self.leave.put_nowait((f"{self.cluster}:to:{name}" if name else f"{self.cluster}:{ALL}", line))
         except queue.Full:
             pass
 
@@ -133,7 +136,7 @@ class RedisLinks:
         return True
 
     def is_ready(self, name):
-        return name in self.seals and self.leave.qsize() < MOST_WAITING // 2
+        return name in self.seals and self.leave.qsize() < BUSY
 
     def send(self, name, text):
         if name in self.seals:

@@ -18,7 +18,7 @@ TESTS = os.path.dirname(os.path.abspath(__file__))
 AGENT = os.path.join(os.path.dirname(TESTS), "agent.py")
 sys.path.insert(0, os.path.dirname(TESTS))
 
-import children
+import processes
 import client
 
 SUPD = os.environ["SUPD"]  # the node's program; agent/test.sh names it
@@ -85,7 +85,7 @@ class Watcher(threading.Thread):
 
     def __init__(self, folder):
         super().__init__(daemon=True)
-        self.mark, self.looks, self.sightings, self.goes_on = f"{children.MARK}={folder}/".encode(), [], {}, True
+        self.mark, self.looks, self.sightings, self.goes_on = f"{processes.MARK}={folder}/".encode(), [], {}, True
         self.start()
 
     def run(self):
@@ -102,7 +102,7 @@ class Watcher(threading.Thread):
             if self.sightings.get(name, 0) > 20:  # not ours, since long
                 continue
             self.sightings[name] = self.sightings.get(name, 0) + 1
-            words = children.environment(name)
+            words = processes.environment(name)
             if any(word.startswith(self.mark) for word in words):
                 self.sightings[name] = 0
                 of = dict(word.decode().split("=", 1) for word in words if word.startswith(b"SEBRAKT_"))
@@ -266,7 +266,7 @@ class Machines:
             end_process(agent)
         self.watcher.stop()
         for name in self.names:
-            children.end_marked(self.path(name + ".image"))
+            processes.end_marked(self.path(name + ".image"))
         if os.environ.get("KEEP"):
             print("kept:", self.folder)
         else:

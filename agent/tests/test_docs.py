@@ -9,7 +9,7 @@ import unittest
 
 from machines import SUPD, Watcher, begin, end_process, free_ports, until
 
-import children
+import processes
 
 TOP = os.path.dirname(os.path.dirname(os.path.dirname(os.path.abspath(__file__))))
 IDS = ["w1", "w2", "w3"]
@@ -76,7 +76,7 @@ class Docs(unittest.TestCase):
         until(10, lambda: not self.watcher.now()[1], "all has ended")
         print(f"    the page's commands: on c {away:.1f} s after the kill, home {home:.1f} s after the return", flush=True)
         for name in "abc":
-            children.end_marked(os.path.join(self.folder, name + ".image"))
+            processes.end_marked(os.path.join(self.folder, name + ".image"))
 
 
 if __name__ == "__main__":

@@ -92,7 +92,7 @@ class Hostile(unittest.TestCase):
         self.assertEqual(self.refused(), {"wrong seal": 2, "said before": 1})
 
     def test_a_machine_of_no_peer_and_lines_of_hosts_are_refused(self):
-        for sender, text in (("c", 'letter {"v":2}'), ("a", "runs {}"), ("b", "ask delete w1"), (seals.CLIENT, "letter x")):
+        for sender, text in (("c", 'letter 0/1 {"v":2}'), ("a", "runs 0/1 {}"), ("b", "ask delete w1"), (seals.CLIENT, "letter x")):
             link, lines, challenge = self.connect()
             link.sendall(seals.Seal(SECRET, sender, seals.fresh(), "a", challenge).line(text).encode() + b"\n")
             self.assertTrue(self.ends(lines))
@@ -102,7 +102,7 @@ class Hostile(unittest.TestCase):
     def test_runs_and_letters_of_no_form_change_nothing(self):
         link, lines, challenge = self.connect()
         seal = seals.Seal(SECRET, "b", seals.fresh(), "a", challenge)
-        for text in ("runs", "runs []", 'runs {"w1":1}', "runs " + "[" * 3000, 'letter {"from":"b"}', "letter", "letter " + "[" * 100000, "hello"):
+        for text in ("runs 0/1", "runs 0/1 []", 'runs 0/1 {"w1":1}', "runs 0/1 " + "[" * 3000, 'letter 0/1 {"from":"b"}', "letter 0/1", "letter 0/1 " + "[" * 100000, "hello"):
             link.sendall(seal.line(text).encode() + b"\n")
         time.sleep(0.5)
 

@@ -12,6 +12,7 @@ sys.path.insert(0, os.path.dirname(os.path.dirname(os.path.abspath(__file__))))
 import children
 import claims
 import client
+import kinds
 import links
 import members
 import node
@@ -103,19 +104,19 @@ class Kinds(unittest.TestCase):
                     out.write(text)
                 os.utime(file.name, (moment, moment))
             put('{"sleep": ["sleep", "{arg}", "{id}-{arg}"]}', 1)
-            kinds = children.Kinds(file.name)
+            of_kinds = kinds.Kinds(file.name)
             spec = {"kind": "sleep", "arg": "5"}
-            self.assertEqual(kinds.of("web", spec), ["sleep", "5", "web-5"])
-            self.assertEqual(kinds.of("{arg}", {"kind": "sleep", "arg": "{id}\\1"}), ["sleep", "{id}\\1", "{arg}-{id}\\1"])
+            self.assertEqual(of_kinds.of("web", spec), ["sleep", "5", "web-5"])
+            self.assertEqual(of_kinds.of("{arg}", {"kind": "sleep", "arg": "{id}\\1"}), ["sleep", "{id}\\1", "{arg}-{id}\\1"])
             put("{", 2)
-            self.assertEqual(kinds.of("web", spec)[0], "sleep")
+            self.assertEqual(of_kinds.of("web", spec)[0], "sleep")
             put('{"sleep": "sleep"}', 3)
-            self.assertEqual(kinds.of("web", spec)[0], "sleep")
+            self.assertEqual(of_kinds.of("web", spec)[0], "sleep")
             put('{"other": ["x"]}', 4)
-            self.assertRaises(OSError, kinds.of, "web", spec)
+            self.assertRaises(OSError, of_kinds.of, "web", spec)
             for bad in ("{", "[]", '{"x": []}', '{"x": [1]}'):
                 put(bad, 5)
-                self.assertRaises(ValueError, children.Kinds, file.name)
+                self.assertRaises(ValueError, kinds.Kinds, file.name)
 
 
 class Addresses(unittest.TestCase):
@@ -270,16 +271,16 @@ class OfMembers(unittest.TestCase):
 
 class Tables(unittest.TestCase):
     def test_a_status_is_told_in_columns(self):
-        status = {"name": "a", "boot": "2", "node": "runs", "refused": {"wrong seal": 3}, "names": ["www (a,3) web on a"],
+        status = {"name": "a", "groups": 1, "boot": "2", "node": "runs", "refused": {"wrong seal": 3}, "names": ["www (a,3) web on a"], "ending": [["old", "b"]],
                   "machines": [{"name": "a", "member": "open", "label": "x", "heard": 0}, {"name": "b", "member": "out", "label": "", "heard": None}],
-                  "children": [{"id": "web", "kind": "http", "restart": "permanent", "shutdown": "5000", "arg": "80", "place": "a", "runs": [["a", "1.2", 17, 1, "signal 9"]]},
-                               {"id": "q", "kind": "w", "restart": "permanent", "shutdown": "5000", "arg": "", "place": None, "runs": []}]}
+                  "children": [{"id": "web", "group": 0, "kind": "http", "restart": "permanent", "shutdown": "5000", "arg": "80", "place": "a", "runs": [["a", "1.2", 17, 1, "signal 9"]]},
+                               {"id": "q", "group": 0, "kind": "w", "restart": "permanent", "shutdown": "5000", "arg": "", "place": None, "runs": []}]}
         self.assertEqual(client.tables(json.loads(json.dumps(status))), [
-            "agent a: its node runs, boot 2; refused lines: 3 wrong seal", "",
+            "agent a: its node: runs, boot 2; refused lines: 3 wrong seal", "",
             "machine  member  last contact  label", "a        open    here          x", "b        out     never", "",
             "child  place     runs on  run  process  restarts  last exit  kind  arg", "web    a         a        1.2  17       1         signal 9   http  80",
             "q      unplaced  nowhere                                     w", "",
-            "name  dot    child", "www   (a,3)  web on a"])
+            "name  dot    child", "www   (a,3)  web on a", "", "deleted, and running still", "old on b"])
 
 
 if __name__ == "__main__":
