@@ -10,6 +10,9 @@ import subprocess
 import processes
 from clock import seconds
 
+GONE_WITHIN = 5  # seconds in which killed processes end, if they ever do
+LINGER = 0.02    # seconds between two looks at them, where no signal tells of their end
+
 
 def reason_of(status):
     return "normal" if status == 0 else "failed" if status in processes.NOT_BEGUN else "crash"
@@ -20,7 +23,7 @@ class Run:
 
     def __init__(self, ident, number, spec, process):
         self.id, self.number, self.spec, self.process = ident, number, spec, process
-        self.kill_at = None
+        self.kill_at = self.given_up_at = None
 
     def signal(self, number):
         """Signals the whole process group. Its number stays this run's until its process is reaped."""
@@ -39,10 +42,17 @@ class Run:
         self.kill_at = None if shutdown == "infinity" else now + int(shutdown) / 1000
 
     def has_ended(self):
-        """Whether its first process has; then the rest of its process group is killed, and it is reaped."""
-        if self.process.returncode is None and os.waitid(os.P_PID, self.process.pid, os.WEXITED | os.WNOHANG | os.WNOWAIT) is not None:
+        """Whether its first process has, and with it its whole process group, which is killed then."""
+        if self.process.returncode is None:
+            if os.waitid(os.P_PID, self.process.pid, os.WEXITED | os.WNOHANG | os.WNOWAIT) is None:
+                return False
             self.signal(signal.SIGKILL)
             self.process.wait()
+            self.given_up_at = seconds() + GONE_WITHIN
+        return not processes.has_any(self.process.pid) or seconds() > self.given_up_at
+
+    def lingers(self):
+        """Whether its first process has ended, and others of its process group were there still."""
         return self.process.returncode is not None
 
 
@@ -52,6 +62,7 @@ class Children:
     def __init__(self, name, kinds, mark, log):
         self.name, self.kinds, self.mark, self.log = name, kinds, mark, log
         self.running, self.ending, self.waiting = {}, [], {}  # id to run; runs; id to (number, spec)
+        self.lingers = False  # whether what was killed hasn't ended yet
         self.restarts, self.last = {}, {}  # of each id since this agent began: how often it was begun again, how its last run ended
 
     def busy(self):
@@ -130,16 +141,18 @@ class Children:
             del self.running[run.id]
             self.last[run.id] = f"status {status}" if status >= 0 else f"signal {-status}"
             self.log("ended", run.id, run.number, self.last[run.id])
+        self.lingers = any(run.lingers() for run in [*self.running.values(), *self.ending])
         return [(run.id, run.number, reason_of(run.process.returncode)) for run in ends]
 
     def kill_late(self):
-        """Kills what was told to end and whose shutdown has passed. When the next one passes, None where none does."""
+        """Kills what was told to end and whose shutdown has passed. When there is to be looked again, None where a signal tells."""
         now = seconds()
         for run in self.ending:
             if run.kill_at is not None and run.kill_at <= now:
                 run.kill_at = None
                 run.signal(signal.SIGKILL)
-        return min((run.kill_at for run in self.ending if run.kill_at is not None), default=None)
+        moments = [run.kill_at for run in self.ending if run.kill_at is not None] + [now + LINGER] * self.lingers
+        return min(moments, default=None)
 
     def told(self):
         """What others are told: of each id with a process its run's number, its process, how often it was begun again, its last end."""

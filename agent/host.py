@@ -35,6 +35,7 @@ class Agent:
         self.leave_at, self.some_ended = None, True
         self.groups = [group.Group(number, supd, of_kinds, self) for number in range(options.groups)]
         self.wake_by_signals()
+        processes.take_orphans()
 
     def links_of(self, secret):
         if self.o.via is None:
@@ -127,21 +128,19 @@ class Agent:
         next_moment = min(one.next_moment() for one in self.groups)
         for key, events in self.loop.select(max(0, next_moment - seconds())):
             key.data(events)
-        now = seconds()
+        now, some_ended = seconds(), self.some_ended or any(one.children.lingers for one in self.groups)
         self.notice_a_hold(now)
-        self.tell_ends()
-        self.do_inbox()
-        for one in self.groups:
-            one.turn(now)
-        self.links.tick(now)
-        self.server.tick(now)
-
-    def tell_ends(self):
-        if self.some_ended:
+        if some_ended:
             self.some_ended = False
             for one in self.groups:
                 one.tell_ends(one.children.ended())
+        self.do_inbox()
+        for one in self.groups:
+            one.turn(now)
+        if some_ended:
             processes.reap_orphans()
+        self.links.tick(now)
+        self.server.tick(now)
 
     def notice_a_hold(self, now):
         """Where this machine didn't listen for long, the others' silence says nothing, and they may have taken over what waits here."""

@@ -2,7 +2,7 @@
 
 The kernel ends a process with its agent, asked by util-linux's `setpriv`, which then becomes the program; where there is no `setpriv`, by the
 agent itself between fork and exec, which takes longer. What such a process has begun isn't ended by that, but it carries the mark that stands
-in the environment of each.
+in the environment of each. It is left to the agent when the process ends, so that the agent hears of its end, too.
 """
 import ctypes
 import os
@@ -11,7 +11,7 @@ import signal
 import subprocess
 import weakref
 
-PR_SET_PDEATHSIG = 1
+PR_SET_PDEATHSIG, PR_SET_CHILD_SUBREAPER = 1, 36
 LIBRARY = ctypes.CDLL(None)
 MARK = "SEBRAKT_AGENT"
 SETPRIV = shutil.which("setpriv")
@@ -73,14 +73,42 @@ def end_if(process, word):
         os.close(handle)
 
 
+def take_orphans():
+    """Has the kernel leave to this process what its children have begun, once those have ended."""
+    LIBRARY.prctl(PR_SET_CHILD_SUBREAPER, 1)
+
+
+def has_any(group):
+    """Whether there is a process in a process group. Those that were left to this one and have ended are reaped."""
+    try:
+        while os.waitid(os.P_PGID, group, os.WEXITED | os.WNOHANG) is not None:
+            pass
+    except ChildProcessError:
+        pass
+    try:
+        os.killpg(group, 0)
+    except ProcessLookupError:
+        return False
+    except PermissionError:
+        pass
+    return True
+
+
 def reap_orphans():
-    """Takes note of the ends of processes that others began and left to this one, as all are left to the first process of a container."""
-    own = {process.pid for process in begun if process.returncode is None}
-    while True:
-        try:
-            ended = os.waitid(os.P_ALL, 0, os.WEXITED | os.WNOHANG | os.WNOWAIT)
-        except ChildProcessError:
-            return
-        if ended is None or ended.si_pid in own:
-            return
-        os.waitpid(ended.si_pid, 0)
+    """Reaps what was left to this process and has ended, whatever its process group."""
+    own = {process.pid for process in begun}
+    for process in children_here():
+        if process not in own:
+            try:
+                os.waitid(os.P_PID, process, os.WEXITED | os.WNOHANG)
+            except ChildProcessError:
+                pass
+
+
+def children_here():
+    """The processes whose parent is this one; none where the kernel doesn't list them."""
+    try:
+        with open(f"/proc/self/task/{os.getpid()}/children") as file:
+            return [int(word) for word in file.read().split()]
+    except OSError:
+        return []

@@ -1,10 +1,15 @@
-"""Parts of an agent by themselves: sealed lines, answers of a node, kinds, claims."""
+"""Parts of an agent by themselves: sealed lines, answers of a node, kinds, processes, groups, claims, members."""
 import argparse
 import json
 import os
 import random
+import shutil
+import signal
+import socket
+import subprocess
 import sys
 import tempfile
+import time
 import unittest
 
 sys.path.insert(0, os.path.dirname(os.path.dirname(os.path.abspath(__file__))))
@@ -12,10 +17,13 @@ sys.path.insert(0, os.path.dirname(os.path.dirname(os.path.abspath(__file__))))
 import children
 import claims
 import client
+import groups
 import kinds
 import links
+import log
 import members
 import node
+import processes
 import seals
 
 SECRET = b"a secret of this test alone"
@@ -114,9 +122,182 @@ class Kinds(unittest.TestCase):
             self.assertEqual(of_kinds.of("web", spec)[0], "sleep")
             put('{"other": ["x"]}', 4)
             self.assertRaises(OSError, of_kinds.of, "web", spec)
+            put("[" * 100000, 5)
+            self.assertRaises(OSError, of_kinds.of, "web", spec)
+            self.assertEqual(of_kinds.of("web", {"kind": "other", "arg": ""}), ["x"])
             for bad in ("{", "[]", '{"x": []}', '{"x": [1]}'):
                 put(bad, 5)
                 self.assertRaises(ValueError, kinds.Kinds, file.name)
+
+
+class OfLogs(unittest.TestCase):
+    def test_a_log_that_cannot_be_written_holds_nothing_up(self):
+        reader, full = os.pipe()
+        with open("/dev/full", "wb") as disk:
+            for output in (disk.fileno(), full):
+                told = log.Log("a", output)
+                for number in range(5000):  # more than a pipe holds
+                    told("a line", number)
+            os.set_blocking(reader, False)
+            heard = os.read(reader, 1 << 20).decode().splitlines()
+            self.assertTrue(all(line.endswith(f" a a line {number}") for number, line in enumerate(heard)))
+            os.close(reader)
+            log.Log("a", full)("nobody reads this")
+            os.close(full)
+            log.Log("a", full)("nor this")
+
+    def test_a_line_is_short_and_tells_its_group(self):
+        reader, output = os.pipe()
+        log.Log("a", output).of("3/8")("asked", "x" * 100000)
+        os.close(output)
+        with open(reader) as lines:
+            line = lines.read()
+        self.assertRegex(line, r"^\S+ a group 3/8 asked x+\n$")
+        self.assertLess(len(line), 4096)
+
+
+class OfProcesses(unittest.TestCase):
+    def test_what_a_child_has_open_is_its_own(self):
+        """Files, sockets and pipes of the agent and of whoever began it don't come to its children."""
+        kept = [os.open("/dev/null", os.O_RDONLY), *os.pipe(), socket.socket().detach()]
+        os.set_inheritable(kept[0], True)
+        process = processes.begin(["ls", "/proc/self/fd"], stdin=subprocess.DEVNULL, stdout=subprocess.PIPE)
+        self.assertEqual(process.communicate()[0].split(), [b"0", b"1", b"2", b"3"])  # 3 is what ls reads
+        for one in kept:
+            os.close(one)
+
+    def test_signals_of_a_child_are_as_the_system_has_them(self):
+        process = processes.begin(["cat", "/proc/self/status"], stdout=subprocess.PIPE)
+        status = dict(line.split(":\t") for line in process.communicate()[0].decode().splitlines() if line.startswith("Sig"))
+        self.assertEqual([int(status[what], 16) for what in ("SigBlk", "SigIgn")], [0, 0])
+
+    def test_who_begins_nothing_is_told(self):
+        self.assertRaises(OSError, processes.begin, ["/nonexistent"])
+
+    def test_what_was_left_is_found_by_its_mark_alone(self):
+        marked = subprocess.Popen(["sleep", "100"], env={processes.MARK: "/x/a.image"})
+        other = subprocess.Popen(["sleep", "100"], env={processes.MARK: "/x/a.image.0-of-2", "X": processes.MARK + "=/x/a.image"})
+        self.addCleanup(lambda: [(one.kill(), one.wait()) for one in (marked, other)])
+        time.sleep(0.2)
+        self.assertEqual(processes.end_marked("/x/a.image"), 1)
+        self.assertEqual(marked.wait(5), -signal.SIGKILL)
+        self.assertIsNone(other.poll())
+
+    def test_an_orphan_is_reaped_and_what_was_begun_here_is_not(self):
+        processes.take_orphans()
+        orphan = int(subprocess.run(["sh", "-c", "setsid sleep 0.2 >/dev/null & echo $!"], stdout=subprocess.PIPE).stdout)
+        own = processes.begin(["sh", "-c", "exit 7"])
+        deadline = time.monotonic() + 10
+        while os.path.exists(f"/proc/{orphan}") and time.monotonic() < deadline:
+            processes.reap_orphans()
+            time.sleep(0.01)
+        self.assertFalse(os.path.exists(f"/proc/{orphan}"))
+        self.assertEqual(own.wait(), 7)
+
+
+class OfChildren(unittest.TestCase):
+    def setUp(self):
+        processes.take_orphans()
+        self.folder = tempfile.mkdtemp()
+        self.addCleanup(shutil.rmtree, self.folder)
+        with open(os.path.join(self.folder, "kinds.json"), "w") as file:
+            json.dump({"sleep": ["sleep", "{arg}"], "nested": ["sh", "-c", "sleep 1000 & echo $! > {arg}; wait"]}, file)
+        self.children = children.Children("a", kinds.Kinds(os.path.join(self.folder, "kinds.json")), self.folder, lambda *words: None)
+        self.addCleanup(processes.end_marked, self.folder)
+
+    def start(self, ident, kind, arg, number="1.1"):
+        self.children.do([("start", ident, number, {"kind": kind, "arg": arg, "restart": "permanent", "shutdown": "5000"})])
+        self.assertEqual(self.children.begin([ident]), [])
+
+    def ends(self):
+        """The next ends that nobody ordered."""
+        for _ in range(500):
+            ends = self.children.ended()
+            if ends:
+                return ends
+            time.sleep(0.01)
+
+    def test_a_run_has_ended_once_its_whole_process_group_has(self):
+        """A process that was killed runs on until the system gets to it; another machine waits for that."""
+        beside = os.path.join(self.folder, "beside")
+        self.start("x", "nested", beside)
+        deadline = time.monotonic() + 10
+        while not (os.path.exists(beside) and open(beside).read()) and time.monotonic() < deadline:
+            time.sleep(0.01)
+        other = int(open(beside).read())
+        run = self.children.running["x"]
+        os.kill(run.process.pid, signal.SIGKILL)
+        self.assertEqual(self.ends(), [("x", "1.1", "crash")])
+        self.assertFalse(os.path.exists(f"/proc/{other}"))
+
+    def test_what_was_of_children_that_are_elsewhere_is_forgotten(self):
+        self.start("x", "sleep", "0")
+        self.children.restarts["x"] = self.children.restarts["y"] = 1
+        self.assertEqual(self.ends(), [("x", "1.1", "normal")])
+        self.start("x", "sleep", "100", "1.2")
+        self.children.forget()
+        self.assertEqual((self.children.restarts, self.children.last), ({"x": 1}, {"x": "status 0"}))
+        self.children.do([("stop", "x", "1.2", None)])
+        while self.children.busy():
+            self.children.ended()
+        self.children.forget()
+        self.assertEqual((self.children.restarts, self.children.last), ({}, {}))
+
+
+class OfGroup:
+    """A group of a test: it has some names, and notes what it is asked."""
+
+    def __init__(self, number, count, names=()):
+        self.tag, self.names, self.asked = groups.tag_of(number, count), names, []
+
+    def answer(self, line):
+        words = line.split(" ")
+        if words[0] == "where" and len(words) == 2:
+            return [f"{words[1]} x on a" if words[1] in self.names else f"{words[1]} unknown"]
+        self.asked.append(line)
+        return ["refused 7 NotMember"] if words == ["leave", "nobody"] else ["ok"]
+
+
+class Groups(unittest.TestCase):
+    def test_a_childs_group_is_its_ids_sha_256_over_their_count(self):
+        for ident in ("web", "w1", "!", "~" * 128, "a,b"):
+            told = subprocess.run(["sha256sum"], input=ident.encode(), stdout=subprocess.PIPE, check=True).stdout.decode()
+            for count in (1, 2, 3, 8, 64):
+                self.assertEqual(groups.group_of(ident, count), int(told.split()[0], 16) % count)
+
+    def test_each_count_has_its_own_images(self):
+        images = [groups.image_of("a.image", number, count) for count in range(1, 10) for number in range(count)]
+        self.assertEqual(images[:3], ["a.image", "a.image.0-of-2", "a.image.1-of-2"])
+        self.assertEqual(len(set(images)), len(images))
+
+    def test_a_line_goes_to_the_groups_that_it_concerns(self):
+        some = [OfGroup(number, 3, names) for number, names in enumerate(([], ["www"], []))]
+        own = groups.group_of("web", 3)
+        for line in ("start web kind=http", "replace web", "delete web", "register mail web"):
+            self.assertEqual(groups.answer(some, line), ["ok"])
+            self.assertEqual([line in group.asked for group in some], [number == own for number in range(3)])
+        self.assertEqual(groups.answer(some, "unregister www"), ["ok"])
+        self.assertEqual([group.asked[-1:] == ["unregister www"] for group in some], [False, True, False])
+        self.assertEqual(groups.answer(some, "drain b"), ["group 0/3", "ok", "group 1/3", "ok", "group 2/3", "ok"])
+        self.assertEqual(groups.answer(some, "start"), ["bad line"])
+        for line in ("exit web 1.1 crash", "deliver x", "ship b", ""):
+            self.assertTrue(groups.answer(some, line)[0].startswith("not asked"))
+
+    def test_a_name_stands_in_one_group(self):
+        elsewhere = next(f"w{number}" for number in range(100) if groups.group_of(f"w{number}", 3) != 1)
+        here = next(f"w{number}" for number in range(100) if groups.group_of(f"w{number}", 3) == 1)
+        some = [OfGroup(number, 3, names) for number, names in enumerate(([], ["www"], []))]
+        self.assertEqual(groups.answer(some, "register www " + elsewhere), ["refused 8 NameTaken"])
+        self.assertEqual(groups.answer(some, "register www " + here), ["ok"])
+
+    def test_a_line_is_done_where_each_group_has_done_it(self):
+        some = [OfGroup(0, 2), OfGroup(1, 2)]
+        self.assertTrue(groups.is_done(groups.answer(some, "leave b")))
+        self.assertFalse(groups.is_done(groups.answer(some, "leave nobody")))
+        self.assertFalse(groups.is_done(groups.answer(some[:1], "leave nobody")))
+        self.assertFalse(groups.is_done(["group 0/2", "ok (a,1)", "group 1/2", "no node"]))
+        self.assertTrue(groups.is_done(groups.answer(some[:1], "leave b")))
+        self.assertTrue(groups.is_done([]))
 
 
 class Addresses(unittest.TestCase):
