@@ -20,6 +20,7 @@ sys.path.insert(0, os.path.dirname(TESTS))
 
 import processes
 import client
+import groups
 
 SUPD = os.environ["SUPD"]  # the node's program; agent/test.sh names it
 KINDS = {"sleep": ["sleep", "{arg}"], "none": ["/nonexistent"], "nested": ["sh", "-c", "sleep 100000 & wait"],
@@ -174,7 +175,10 @@ class Machines:
     def begin_all(self):
         self.begin(*self.names)
         for name in self.names:
-            until(60, lambda: self.members(name) == self.names, f"{name} knows all members")
+            until(60, lambda: self.members(name) == self.names * self.count(), f"{name} knows all members")
+
+    def count(self):
+        return int(self.options[self.options.index("--groups") + 1]) if "--groups" in self.options else 1
 
     def log(self, name):
         with open(self.path(name + ".log")) as file:
@@ -239,12 +243,13 @@ class Machines:
         self.agents[name].kill()
         self.agents[name].wait()
 
-    def node(self, name):
-        """The process of a machine's node, None where it has none now."""
+    def node(self, name, group=None):
+        """The process of a machine's node, of one group where there are more; None where it has none now."""
+        image = self.path(name + ".image") + ("" if group is None else "." + group)
         agent = self.agents[name].pid
         for other in os.listdir("/proc"):
             try:
-                if other.isdecimal() and parent(other) == agent and self.path(name + ".image") in command(other):
+                if other.isdecimal() and parent(other) == agent and image in command(other):
                     return int(other)
             except (OSError, IndexError):
                 pass
@@ -266,7 +271,8 @@ class Machines:
             end_process(agent)
         self.watcher.stop()
         for name in self.names:
-            processes.end_marked(self.path(name + ".image"))
+            for number in range(self.count()):
+                processes.end_marked(groups.image_of(self.path(name + ".image"), number, self.count()))
         if os.environ.get("KEEP"):
             print("kept:", self.folder)
         else:
