@@ -39,6 +39,7 @@ class Run:
             self.signal(signal.SIGKILL)
             return
         self.signal(signal.SIGTERM)
+        self.signal(signal.SIGCONT)  # one that is stopped hears it then
         self.kill_at = None if shutdown == "infinity" else now + int(shutdown) / 1000
 
     def has_ended(self):

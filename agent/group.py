@@ -27,7 +27,7 @@ class Group:
         self.members, self.rejoin_at = members.Members(self.name, self.o, self.links.knows, seconds()), 0
         self.claims = claims.Claims(self.name, host.session)
         self.ship_at, self.tell_at, self.told, self.behind = 0, 0, ({}, set()), set()
-        self.is_drained, self.left_at = False, None
+        self.is_drained, self.left_at, self.noted = False, None, None
 
     # -- the node
 
@@ -47,7 +47,9 @@ class Group:
         words = line.split(" ", 2)
         if words[0] in LOOKS:
             return
-        self.log("asked", line, "->", reply)
+        if (line, reply) != self.noted:  # a full disk has the agent say the same again and again
+            self.log("asked", line, "->", reply)
+        self.noted = line, reply
         if reply.startswith("ok"):
             self.ship_at = 0
         if reply.startswith("ok gave up"):

@@ -157,7 +157,8 @@ class Server:
                 break
             link.setsockopt(socket.IPPROTO_TCP, socket.TCP_NODELAY, 1)
             link.setsockopt(socket.SOL_SOCKET, socket.SO_KEEPALIVE, 1)
-            link.setsockopt(socket.IPPROTO_TCP, socket.TCP_KEEPIDLE, 60)
+            for option, value in (socket.TCP_KEEPIDLE, 60), (socket.TCP_KEEPINTVL, 10), (socket.TCP_KEEPCNT, 6):
+                link.setsockopt(socket.IPPROTO_TCP, option, value)
             Caller(self, link, address[0])
         self.have_fewer()
 

@@ -5,6 +5,7 @@ All that a test ends it has started itself: agents, nodes and servers by their p
 import atexit
 import json
 import os
+import random
 import shutil
 import signal
 import socket
@@ -24,6 +25,7 @@ import groups
 
 SUPD = os.environ["SUPD"]  # the node's program; agent/test.sh names it
 KINDS = {"sleep": ["sleep", "{arg}"], "none": ["/nonexistent"], "nested": ["sh", "-c", "sleep 100000 & wait"],
+         "leaves": ["sh", "-c", "setsid sleep 0.1 & exec sleep 100000"],
          "stubborn": ["sh", "-c", "trap '' TERM; while :; do sleep 0.1; done"]}
 PACE = float(os.environ.get("PACE", "1"))  # how many times as long all waits and bounds are
 SECRET = b"a secret of this test alone"
@@ -306,3 +308,40 @@ class Redis:
     def end(self):
         self.stop()
         shutil.rmtree(self.folder, ignore_errors=True)
+
+
+class Proxy:
+    """Brings lines from one machine to another, or drops them: each line with some chance, or all while it is cut."""
+
+    def __init__(self, to, port):
+        self.to, self.port, self.loss, self.cut, self.chance = to, port, 0, False, random.Random(to)
+        self.links, self.silent = set(), set()
+        self.server = socket.create_server(("127.0.0.1", port))
+        threading.Thread(target=self.accept, daemon=True).start()
+
+    def accept(self):
+        while True:
+            try:
+                link, _ = self.server.accept()
+                other = socket.create_connection(("127.0.0.1", self.to), 2)
+            except OSError:
+                if self.server.fileno() < 0:
+                    return
+                link.close()
+                continue
+            self.links.add(link)
+            for come, leave in ((link, other), (other, link)):
+                threading.Thread(target=self.pump, args=(link, come, leave), daemon=True).start()
+
+    def forget(self):
+        """From now on brings nothing over the connections that there are; new ones are as ever."""
+        self.silent = set(self.links)
+
+    def pump(self, link, come, leave):
+        with come, leave, come.makefile("rb") as lines:
+            try:
+                for line in lines:
+                    if not self.cut and link not in self.silent and (line.startswith(b"hello ") or self.chance.random() >= self.loss):
+                        leave.sendall(line)
+            except OSError:
+                pass

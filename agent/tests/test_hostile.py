@@ -4,12 +4,13 @@ import resource
 import shutil
 import signal
 import socket
+import struct
 import subprocess
 import threading
 import time
 import unittest
 
-from machines import SECRET, Machines, Redis, until
+from machines import PACE, SECRET, Machines, Proxy, Redis, free_ports, until
 
 import client
 import seals
@@ -153,6 +154,33 @@ class Hostile(unittest.TestCase):
         self.worst = f"longest of {len(asked)} answers among 1,000 connections {max(asked):.3f} s"
         self.assertGreaterEqual(self.refused()["too many connections"], 500)
 
+    def test_connections_that_are_gone_before_a_word_cost_nothing(self):
+        before = len(os.listdir(f"/proc/{self.machines.agents['a'].pid}/fd"))
+        for _ in range(1200):
+            link = socket.create_connection(self.address, 5)
+            link.setsockopt(socket.SOL_SOCKET, socket.SO_LINGER, struct.pack("ii", 1, 0))
+            link.close()  # by a reset
+        idle = [self.connect() for _ in range(10)]
+        time.sleep(6 * PACE)  # strangers have 5 seconds
+        self.assertTrue(all(self.ends(lines) for _, lines, _ in idle))
+        self.assertEqual(self.refused(), {"said nothing": 10})
+        self.assertLess(len(os.listdir(f"/proc/{self.machines.agents['a'].pid}/fd")), before + 5)
+
+    def test_who_may_open_few_files_takes_few_connections(self):
+        """Where accept fails for want of files the loop would turn without end."""
+        self.machines.kill("a")
+        limits = resource.getrlimit(resource.RLIMIT_NOFILE)
+        resource.setrlimit(resource.RLIMIT_NOFILE, (100, limits[1]))
+        self.machines.begin("a")
+        resource.setrlimit(resource.RLIMIT_NOFILE, limits)
+        until(20, lambda: self.machines.each_once(["w1", "w2"]) and self.machines.members("a") == ["a", "b"] and self.machines.tables_equal(), "it is back")
+        self.tables, self.runs, self.boots[0] = self.machines.tables("a"), self.machines.watcher.now()[1], "node a boot 2"
+        idle = [socket.create_connection(self.address, 5) for _ in range(300)]
+        self.addCleanup(lambda: [link.close() for link in idle])
+        time.sleep(0.5)
+        self.assertEqual(self.machines.ask("a", "members"), self.machines.ask("b", "members"))
+        self.assertLess(len(os.listdir(f"/proc/{self.machines.agents['a'].pid}/fd")), 100)
+
     def test_a_node_that_no_longer_answers_is_begun_anew_and_no_child_notices(self):
         machines = self.machines
         machines.options = ["--patience", "1", "--silent", "8"]
@@ -227,6 +255,20 @@ class HostileRedis(unittest.TestCase):
                 pass  # the server has ended
         threading.Thread(target=listen, daemon=True).start()
         return heard
+
+    def test_a_connection_to_redis_that_went_silent_is_begun_anew(self):
+        """As where the server's machine lost its power: nothing ends the connection, and nothing comes."""
+        server = Redis()
+        self.addCleanup(server.end)
+        proxy = Proxy(server.port, free_ports(1)[0])
+        self.addCleanup(proxy.server.close)
+        machines = Machines(["a", "b"], redis=f"redis://127.0.0.1:{proxy.port}")
+        self.addCleanup(machines.end)
+        machines.begin_all()
+        proxy.forget()
+        until(10, lambda: machines.members("a") == ["a"] and machines.members("b") == ["b"], "each is alone")
+        back = until(30, lambda: machines.members("a") == ["a", "b"] == machines.members("b"), "they meet over other connections")
+        print(f"    connections to Redis that went silent: others bring all {back:.2f} s after the machines were alone", flush=True)
 
     def test_a_redis_server_that_goes_away_and_comes_back_is_used_again(self):
         server = Redis()

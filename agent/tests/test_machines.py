@@ -5,11 +5,12 @@ import shutil
 import signal
 import socket
 import subprocess
-import threading
 import time
 import unittest
 
-from machines import PACE, SUPD, Machines, Redis, free_ports, until
+from machines import PACE, SUPD, Machines, Proxy, Redis, begin, free_ports, until
+
+import processes
 
 STORM = float(os.environ.get("STORM", "30"))
 MANY = ["--intensity", "1000", "--period", "1"]  # a test kills more often than a window of restarts lets pass
@@ -193,7 +194,6 @@ class Moves(OfMachines):
         tell("a node stays away", silence=silence, two_at_once=machines.both(began, IDS))
         self.assertLess(machines.both(began, IDS), 0.001)
 
-
     def test_a_second_agent_on_one_image_ends_and_no_child_notices(self):
         machines = self.machines(names=["a"])
         machines.begin_all()
@@ -231,6 +231,117 @@ class Moves(OfMachines):
         until(10, lambda: machines.members("a") == ["a"], "it is back")
 
 
+class Faults(OfMachines):
+    """What real machines do to an agent."""
+
+    def alone(self, **options):
+        machines = self.machines(names=["a"], **options)
+        machines.begin_all()
+        machines.start("a", IDS)
+        until(10, lambda: machines.each_once(IDS), "all run")
+        return machines
+
+    def test_a_log_on_a_full_disk_ends_nothing(self):
+        machines = self.machines(names=["a"])
+        with open("/dev/full", "w") as full:
+            machines.agents["a"] = begin(machines.words("a"), stderr=full)
+        until(60, lambda: machines.members("a") == ["a"], "it is a member")
+        machines.start("a", IDS)
+        until(10, lambda: machines.each_once(IDS), "all run")
+        os.kill(machines.process("w1"), signal.SIGKILL)
+        until(10, lambda: machines.each_once(IDS), "all run again")
+
+    def test_a_log_that_nobody_reads_holds_nothing_up(self):
+        machines = self.machines(names=["a"])
+        machines.agents["a"] = begin(machines.words("a"), stderr=subprocess.PIPE)
+        self.addCleanup(machines.agents["a"].stderr.close)
+        until(60, lambda: machines.members("a") == ["a"], "it is a member")
+        for number in range(1000):
+            machines.ask("a", f"delete {'x' * 100}{number}")
+        machines.start("a", IDS)
+        until(10, lambda: machines.each_once(IDS), "all run")
+
+    def test_a_folder_that_cannot_be_written_keeps_what_runs_and_refuses_the_rest(self):
+        machines = self.machines(names=["a"])
+        folder = machines.path("of-a")
+        os.mkdir(folder)
+        words = machines.words("a")
+        words[words.index("--image") + 1] = os.path.join(folder, "image")
+        machines.words = lambda _: words
+        self.addCleanup(processes.end_marked, os.path.join(folder, "image"))
+        machines.begin_all()
+        machines.start("a", IDS)
+        until(10, lambda: machines.each_once(IDS), "all run")
+        os.rename(folder, folder + "-away")
+        self.assertEqual(machines.ask("a", "start more kind=sleep arg=100"), ["refused 16 KeepFailed"])
+        self.assertEqual(machines.ask("a", "delete w1"), ["refused 16 KeepFailed"])
+        os.kill(machines.process("w1"), signal.SIGKILL)  # a restart changes no image
+        until(10, lambda: machines.each_once(IDS), "all run")
+        os.rename(folder + "-away", folder)
+        self.assertTrue(machines.ask("a", "start more kind=sleep arg=100000")[0].startswith("ok"))
+        until(10, lambda: machines.each_once(IDS + ["more"]), "all run, and one more")
+
+    def test_who_is_to_stop_while_its_node_is_away_leaves_once_that_is_back(self):
+        machines = self.machines(names=["a", "b"])
+        machines.begin_all()
+        machines.start("a", IDS)
+        until(10, lambda: machines.each_once(IDS), "all run")
+        machines.kill_node("b")
+        machines.agents["b"].terminate()
+        self.assertEqual(machines.agents["b"].wait(30), 0)
+        self.assertEqual(machines.members("a"), ["a"])
+        self.assertNotIn("asked leave b", machines.log("a"))
+        self.assertEqual(machines.log("b").count("asked leave b -> ok"), 1)
+
+    def test_a_terminal_that_closes_or_interrupts_stops_the_machine_as_a_stop_does(self):
+        for number in (signal.SIGHUP, signal.SIGINT):
+            machines = self.alone()
+            machines.agents["a"].send_signal(number)
+            self.assertEqual(machines.agents["a"].wait(20), 0)
+            self.assertIn("asked leave a -> ok", machines.log("a"))
+            self.assertTrue(machines.log("a").endswith(" a left\n"))
+            until(5, lambda: not machines.watcher.now()[1], "nothing runs")
+
+    def test_an_interrupt_of_the_terminal_reaches_the_agent_alone(self):
+        machines = self.alone()
+        self.assertEqual({os.getpgid(machines.node("a")), *(os.getpgid(machines.process(ident)) for ident in IDS)},
+                         {machines.node("a"), *(machines.process(ident) for ident in IDS)})
+
+    def test_who_ignores_hangups_is_not_stopped_by_one(self):
+        machines = self.machines(names=["a"])
+        machines.agents["a"] = begin(["nohup", *machines.words("a")], stdin=subprocess.DEVNULL, stdout=subprocess.DEVNULL, stderr=subprocess.DEVNULL)
+        until(60, lambda: machines.members("a") == ["a"], "it is a member")
+        machines.agents["a"].send_signal(signal.SIGHUP)
+        time.sleep(0.5)
+        self.assertEqual(machines.members("a"), ["a"])
+
+    def test_no_ended_process_stays(self):
+        machines = self.alone()
+        machines.start("a", ["leaves"], kind="leaves")
+        until(10, lambda: machines.each_once(IDS), "all run")
+        for ident in IDS:
+            os.kill(machines.process(ident), signal.SIGKILL)
+        machines.kill_node("a")
+        until(10, lambda: machines.each_once(IDS) and "boot 2" in machines.ask("a", "show")[0], "all run again")
+        until(10, lambda: "Z" not in states(machines.agents["a"].pid), "all that ended is reaped")
+        self.assertGreaterEqual(len(states(machines.agents["a"].pid)), 7)
+
+
+def states(parent):
+    """The states of a process's children, as the kernel has them."""
+    with open(f"/proc/{parent}/task/{parent}/children") as file:
+        children = file.read().split()
+    return [state for state in map(state_of, children) if state]
+
+
+def state_of(process):
+    try:
+        with open(f"/proc/{process}/stat") as file:
+            return file.read().rsplit(")", 1)[1].split()[0]
+    except OSError:
+        return None
+
+
 class Holds(OfMachines):
     def test_a_held_agent_runs_its_children_beside_the_others_until_it_goes_on(self):
         machines = self.begun()
@@ -246,37 +357,6 @@ class Holds(OfMachines):
              two_at_once_from_a_second_after=machines.both(resumed + PACE, IDS))
         self.assertLess(machines.both(resumed + PACE, IDS), 0.001)
         self.assertNotIn("is silent", machines.log("b"))
-
-
-class Proxy:
-    """Brings lines from one machine to another, or drops them: each line with some chance, or all while it is cut."""
-
-    def __init__(self, to, port):
-        self.to, self.loss, self.cut, self.chance = to, 0, False, random.Random(to)
-        self.server = socket.create_server(("127.0.0.1", port))
-        threading.Thread(target=self.accept, daemon=True).start()
-
-    def accept(self):
-        while True:
-            try:
-                link, _ = self.server.accept()
-                other = socket.create_connection(("127.0.0.1", self.to), 2)
-            except OSError:
-                if self.server.fileno() < 0:
-                    return
-                link.close()
-                continue
-            for come, leave in ((link, other), (other, link)):
-                threading.Thread(target=self.pump, args=(come, leave), daemon=True).start()
-
-    def pump(self, come, leave):
-        with come, leave, come.makefile("rb") as lines:
-            try:
-                for line in lines:
-                    if not self.cut and (line.startswith(b"hello ") or self.chance.random() >= self.loss):
-                        leave.sendall(line)
-            except OSError:
-                pass
 
 
 class Partitions(OfMachines):

@@ -14,6 +14,7 @@ import unittest
 
 sys.path.insert(0, os.path.dirname(os.path.dirname(os.path.abspath(__file__))))
 
+import agent
 import children
 import claims
 import client
@@ -230,6 +231,16 @@ class OfChildren(unittest.TestCase):
         self.assertEqual(self.ends(), [("x", "1.1", "crash")])
         self.assertFalse(os.path.exists(f"/proc/{other}"))
 
+    def test_a_stopped_process_hears_that_it_is_to_end(self):
+        self.start("x", "sleep", "1000")
+        os.kill(self.children.running["x"].process.pid, signal.SIGSTOP)
+        began = time.monotonic()
+        self.children.do([("stop", "x", "1.1", None)])
+        while self.children.busy() and time.monotonic() - began < 4:
+            self.children.ended()
+            time.sleep(0.01)
+        self.assertEqual(self.children.busy(), set())
+
     def test_what_was_of_children_that_are_elsewhere_is_forgotten(self):
         self.start("x", "sleep", "0")
         self.children.restarts["x"] = self.children.restarts["y"] = 1
@@ -301,6 +312,12 @@ class Groups(unittest.TestCase):
 
 
 class Addresses(unittest.TestCase):
+    def test_an_agents_addresses_are_in_numbers(self):
+        """A name would be looked up, for seconds where its server is away."""
+        self.assertEqual(agent.address_in_numbers("localhost:7001"), ("127.0.0.1", 7001))
+        self.assertEqual(agent.peer("b=[fd00::1]:7001"), ("b", ("fd00::1", 7001)))
+        self.assertRaises(argparse.ArgumentTypeError, agent.address_in_numbers, "b.example:7001")
+
     def test_an_address_has_a_host_and_a_port(self):
         self.assertEqual(links.address_of("127.0.0.1:7001"), ("127.0.0.1", 7001))
         self.assertEqual(links.address_of("[::1]:7001"), ("::1", 7001))
