@@ -1,9 +1,10 @@
 #!/usr/bin/env bash
-# Tests the agent with the proved `supd` and real processes: parts by themselves, machines through kills, holds, partitions, drains and
-# returns over TCP and over Redis, strangers at its port, times beside other supervisors, the page, the commands of agent/README.md. What isn't
-# on this machine (redis-server and python3-redis, runit, s6, supervisor, libfaketime, chromium) is told as skipped. Bounded in time: 17
-# minutes at most; a run takes about seven. It ends only what it started.
-# usage: agent/test.sh [--supd PROGRAM] [parts | machines | hostile | times | page | docs]..
+# Tests the agent with the proved `supd` and real processes: parts by themselves, machines through kills, holds, partitions, drains, returns and
+# faults over TCP and over Redis, several groups, strangers at its port, times beside other supervisors, the page, the commands of
+# agent/README.md. What isn't on this machine (redis-server and python3-redis, runit, s6, supervisor, libfaketime, chromium) is told as
+# skipped. Bounded in time: 23 minutes at most; a run takes about nine. It ends only what it started.
+# usage: agent/test.sh [--supd PROGRAM] [parts | machines | groups | hostile | times | page | docs]..
+#   --supd agent/tests/by_rules.py is a stand-in, where `supd` isn't built
 #   PACE=N makes all waits and bounds N times as long, for a machine with little time for this
 #   STORM=SECONDS of kills (30)   SCREENSHOT=FILE of the page   KEEP=1 leaves the folders of machines
 set -u
@@ -38,12 +39,13 @@ tests() {
 }
 
 failed=
-for name in "${@:-parts machines hostile times page docs}"; do
+for name in "${@:-parts machines groups hostile times page docs}"; do
   for one in $name; do
     case $one in
       parts) tests parts 60 ;;
-      machines) tests machines 420 ;;
-      hostile) tests hostile 180 ;;
+      machines) tests machines 540 ;;
+      groups) tests groups 180 ;;
+      hostile) tests hostile 240 ;;
       times) tests times 90 ;;
       page) tests page 150 ;;
       docs) tests docs 90 ;;

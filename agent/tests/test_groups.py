@@ -12,6 +12,7 @@ from machines import AGENT, PACE, SUPD, Machines, free_ports, until
 import client
 import groups
 import move
+import page
 
 MANY = ["--intensity", "1000", "--period", "1"]
 IDS = [f"w{number}" for number in range(1, 13)]
@@ -104,6 +105,17 @@ class OfGroups(unittest.TestCase):
         told = subprocess.run([sys.executable, AGENT, "status", f"127.0.0.1:{machines.ports['a']}", "--secret", machines.path("secret")], stdout=subprocess.PIPE, text=True).stdout
         for ident in IDS:
             self.assertRegex(told, rf"(?m)^{ident} .* {groups.group_of(ident, 3)}$")
+
+    def test_the_page_shows_and_drains_all_groups_as_one(self):
+        machines = self.begun(names=["a", "b"])
+        view = page.View(("127.0.0.1", machines.ports["a"]), machines.secret, "key")
+        shown = view.tables()
+        for ident in IDS:
+            self.assertRegex(shown, rf"<code>{ident}</code> <span class=quiet>group {groups.group_of(ident, 3)}</span></td><td><code>[ab]")
+        self.assertEqual(shown.count("<code>b</code></td><td>open</td>"), 1)
+        self.assertRegex(view.do({"verb": "drain", "id": "b"}), r"^drain b: ok \(a,\d+\) removed \(b,1\)(, ok \(a,\d+\) removed \(b,1\))*$")
+        until(10, lambda: "b</code></td><td>draining</td>" in view.tables(), "it is draining in each group")
+        self.assertEqual(view.do({"verb": "drain", "id": "nobody"}), "drain nobody: refused 7 NotMember")
 
     def test_machines_of_another_count_are_strangers(self):
         machines = self.machines(names=["a", "b"])
