@@ -6,10 +6,12 @@ process group, and by SIGKILL once its shutdown has passed. Where a run's first 
 import os
 import signal
 import subprocess
+import types
 
 import processes
 from clock import seconds
 
+NO_PROCESS = types.SimpleNamespace(pid=0, returncode=0)
 GONE_WITHIN = 5  # seconds in which killed processes end, if they ever do
 LINGER = 0.02    # seconds between two looks at them, where no signal tells of their end
 
@@ -57,12 +59,32 @@ class Run:
         return self.process.returncode is not None
 
 
+class Note:
+    """A run of a kind without a program: it has no process, and ends when it is told to."""
+
+    def __init__(self, ident, number, spec):
+        self.id, self.number, self.spec, self.process, self.kill_at, self.is_over = ident, number, spec, NO_PROCESS, None, False
+
+    def end(self, now):
+        self.is_over = True
+
+    def signal(self, number):
+        self.is_over = True
+
+    def has_ended(self):
+        return self.is_over
+
+    def lingers(self):
+        return self.is_over
+
+
 class Children:
     """The runs of one group: those that run, those that were told to end, and those that wait for their begin."""
 
     def __init__(self, name, kinds, mark, log):
         self.name, self.kinds, self.mark, self.log = name, kinds, mark, log
         self.running, self.ending, self.waiting = {}, [], {}  # id to run; runs; id to (number, spec)
+        self.changes = 0  # how often what is told has changed
         self.lingers = False  # whether what was killed hasn't ended yet
         self.restarts, self.last = {}, {}  # of each id since this agent began: how often it was begun again, how its last run ended
 
@@ -84,10 +106,12 @@ class Children:
         self.log("stop", run.id, run.number, run.process.pid)
         run.end(seconds())
         self.ending.append(run)
+        self.changes += 1
+        self.lingers = self.lingers or run.lingers()
 
     def adopt(self, orders):
         """Takes the orders of a node that was begun anew: what runs under the same specification goes on under its new number, all else ends."""
-        before, self.running, self.waiting = self.running, {}, {}
+        before, self.running, self.waiting, self.changes = self.running, {}, {}, self.changes + 1
         starts = {ident: (number, spec) for verb, ident, number, spec in orders if verb == "start"}
         for ident, run in before.items():
             number, spec = starts.get(ident, (None, None))
@@ -118,10 +142,11 @@ class Children:
     def begin(self, idents):
         """Begins these, which wait and have no process here. The ends (id, number, reason) of what couldn't be begun."""
         faults = []
+        self.changes += len(idents)
         for ident in idents:
             number, spec = self.waiting.pop(ident)
             try:
-                self.running[ident] = Run(ident, number, spec, self.process_of(ident, number, spec))
+                self.running[ident] = self.run_of(ident, number, spec)
                 self.log("start", ident, number, self.running[ident].process.pid)
             except (OSError, ValueError, subprocess.SubprocessError) as fault:
                 self.log("no start", ident, number, fault)
@@ -129,14 +154,18 @@ class Children:
                 faults.append((ident, number, "failed"))
         return faults
 
-    def process_of(self, ident, number, spec):
+    def run_of(self, ident, number, spec):
+        words = self.kinds.of(ident, spec)
+        if not words:
+            return Note(ident, number, spec)
         environment = dict(os.environ, SEBRAKT_ID=ident, SEBRAKT_RUN=number, SEBRAKT_NODE=self.name, **{processes.MARK: self.mark})
-        return processes.begin(self.kinds.of(ident, spec), stdin=subprocess.DEVNULL, env=environment)
+        return Run(ident, number, spec, processes.begin(words, stdin=subprocess.DEVNULL, env=environment))
 
     def ended(self):
         """The ends (id, number, reason) that nobody ordered, since the last call."""
-        self.ending = [run for run in self.ending if not run.has_ended()]
+        ending, self.ending = self.ending, [run for run in self.ending if not run.has_ended()]
         ends = [run for run in self.running.values() if run.has_ended()]
+        self.changes += len(ending) - len(self.ending) + len(ends)
         for run in ends:
             status = run.process.returncode
             del self.running[run.id]

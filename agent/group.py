@@ -26,7 +26,8 @@ class Group:
         self.children = children.Children(self.name, kinds, os.path.abspath(self.image), self.log)
         self.members, self.rejoin_at = members.Members(self.name, self.o, self.links.knows, seconds()), 0
         self.claims = claims.Claims(self.name, host.session)
-        self.ship_at, self.tell_at, self.told, self.behind = 0, 0, ({}, set()), set()
+        self.told, self.told_state = {}, None  # the runs that others were told, and of which state of children and claims that was
+        self.ship_at, self.tell_at, self.behind = 0, 0, set()
         self.is_drained, self.left_at, self.noted = False, None, None
 
     # -- the node
@@ -117,10 +118,13 @@ class Group:
 
     def begin(self, now):
         """Begins what waits and has no process here any more, and that other machines in sight let begin, or take for running here still."""
-        idle = [ident for ident in self.children.waiting if ident not in self.children.busy()] if self.children.waiting and not self.is_held(now) else []
-        self.claims.claim(ident for ident in idle if ident not in self.told[0])
+        if not self.children.waiting and not self.claims.claimed:
+            return
+        busy = self.children.busy()
+        idle = [] if self.is_held(now) else [ident for ident in self.children.waiting if ident not in busy]
+        self.claims.claim(ident for ident in idle if ident not in self.told)
         seen = self.members.in_sight(now)
-        free = [ident for ident in idle if ident in self.told[0] or self.claims.may_begin(ident, seen)]
+        free = [ident for ident in idle if ident in self.told or self.claims.may_begin(ident, seen)]
         self.tell_ends(self.children.begin(free))
         self.claims.claim(ident for ident in self.claims.claimed if ident in self.children.waiting)
 
@@ -132,14 +136,14 @@ class Group:
 
     def tell_runs(self, now):
         """Tells the others what runs here, at once where that has changed. A machine whose node is lost falls silent once nothing runs."""
-        told = self.children.told(), set(self.claims.claimed)
-        if told == self.told and now < self.tell_at:
+        state = self.children.changes, set(self.claims.claimed)
+        if state == self.told_state and now < self.tell_at:
             return
-        self.told, self.tell_at = told, now + self.o.every
+        self.told, self.told_state, self.tell_at = self.children.told(), state, now + self.o.every
         self.claims.next_line()
-        if not self.is_lost(now) or told[0]:
+        if not self.is_lost(now) or self.told:
             for name in self.links.names():
-                self.links.send(name, f"runs {self.tag} {self.claims.line(name, told[0])}")
+                self.links.send(name, f"runs {self.tag} {self.claims.line(name, self.told)}")
 
     def keep_members(self, now):
         answer = self.ask("members")

@@ -1,4 +1,7 @@
-"""The programs of kinds, from a file of JSON: `{"KIND": ["program", "word", ..]}`; in words `{id}` and `{arg}` stand for the child's."""
+"""The programs of kinds, from a file of JSON: `{"KIND": ["program", "word", ..]}`; in words `{id}` and `{arg}` stand for the child's.
+
+A kind with no words at all has no processes: its children are only noted, so that many can be tried.
+"""
 import json
 import os
 import re
@@ -33,4 +36,4 @@ class Kinds:
 
 
 def is_program(words):
-    return isinstance(words, list) and bool(words) and all(isinstance(word, str) for word in words)
+    return isinstance(words, list) and all(isinstance(word, str) for word in words)

@@ -126,7 +126,7 @@ class Kinds(unittest.TestCase):
             put("[" * 100000, 5)
             self.assertRaises(OSError, of_kinds.of, "web", spec)
             self.assertEqual(of_kinds.of("web", {"kind": "other", "arg": ""}), ["x"])
-            for bad in ("{", "[]", '{"x": []}', '{"x": [1]}'):
+            for bad in ("{", "[]", '{"x": {}}', '{"x": [1]}'):
                 put(bad, 5)
                 self.assertRaises(ValueError, kinds.Kinds, file.name)
 
@@ -202,7 +202,7 @@ class OfChildren(unittest.TestCase):
         self.folder = tempfile.mkdtemp()
         self.addCleanup(shutil.rmtree, self.folder)
         with open(os.path.join(self.folder, "kinds.json"), "w") as file:
-            json.dump({"sleep": ["sleep", "{arg}"], "nested": ["sh", "-c", "sleep 1000 & echo $! > {arg}; wait"]}, file)
+            json.dump({"sleep": ["sleep", "{arg}"], "noted": [], "nested": ["sh", "-c", "sleep 1000 & echo $! > {arg}; wait"]}, file)
         self.children = children.Children("a", kinds.Kinds(os.path.join(self.folder, "kinds.json")), self.folder, lambda *words: None)
         self.addCleanup(processes.end_marked, self.folder)
 
@@ -230,6 +230,36 @@ class OfChildren(unittest.TestCase):
         os.kill(run.process.pid, signal.SIGKILL)
         self.assertEqual(self.ends(), [("x", "1.1", "crash")])
         self.assertFalse(os.path.exists(f"/proc/{other}"))
+
+    def test_what_is_noted_has_no_process_and_ends_when_it_is_told_to(self):
+        self.start("x", "noted", "")
+        self.assertEqual(self.children.ended(), [])
+        self.assertEqual((self.children.told(), self.children.lingers), ({"x": ["1.1", 0, 0, ""]}, False))
+        self.children.do([("stop", "x", "1.1", None)])
+        self.assertTrue(self.children.lingers)
+        self.assertEqual((self.children.ended(), self.children.busy(), self.children.lingers), ([], set(), False))
+
+    def test_what_is_told_changes_only_where_changes_are_counted(self):
+        told = [(self.children.changes, self.children.told())]
+
+        def look():
+            told.append((self.children.changes, self.children.told()))
+        self.start("x", "sleep", "0")
+        look()
+        self.ends()
+        look()
+        self.start("x", "sleep", "100", "1.2")
+        look()
+        self.children.adopt([("start", "x", "2.1", self.children.running["x"].spec)])
+        look()
+        self.children.do([("stop", "x", "2.1", None)])
+        look()
+        while self.children.busy():
+            self.children.ended()
+        look()
+        self.assertEqual(len(set(map(repr, told))), len(told))
+        for before, after in zip(told, told[1:]):
+            self.assertLess(before[0], after[0])
 
     def test_a_stopped_process_hears_that_it_is_to_end(self):
         self.start("x", "sleep", "1000")
