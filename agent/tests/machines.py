@@ -78,6 +78,11 @@ def parent(process):
         return int(file.read().rsplit(")", 1)[1].split()[1])
 
 
+def children_of(process):
+    with open(f"/proc/{process}/task/{process}/children") as file:
+        return file.read().split()
+
+
 def command(process):
     with open(f"/proc/{process}/cmdline") as file:
         return file.read().split("\0")
@@ -315,7 +320,7 @@ class Proxy:
 
     def __init__(self, to, port):
         self.to, self.port, self.loss, self.cut, self.chance = to, port, 0, False, random.Random(to)
-        self.links, self.silent = set(), set()
+        self.links, self.silent, self.brought = set(), set(), 0
         self.server = socket.create_server(("127.0.0.1", port))
         threading.Thread(target=self.accept, daemon=True).start()
 
@@ -341,6 +346,7 @@ class Proxy:
         with come, leave, come.makefile("rb") as lines:
             try:
                 for line in lines:
+                    self.brought += len(line)
                     if not self.cut and link not in self.silent and (line.startswith(b"hello ") or self.chance.random() >= self.loss):
                         leave.sendall(line)
             except OSError:

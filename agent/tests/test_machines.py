@@ -8,7 +8,7 @@ import subprocess
 import time
 import unittest
 
-from machines import PACE, SUPD, Machines, Proxy, Redis, begin, free_ports, until
+from machines import PACE, SUPD, Machines, Proxy, Redis, begin, children_of, free_ports, until
 
 import processes
 
@@ -329,9 +329,7 @@ class Faults(OfMachines):
 
 def states(parent):
     """The states of a process's children, as the kernel has them."""
-    with open(f"/proc/{parent}/task/{parent}/children") as file:
-        children = file.read().split()
-    return [state for state in map(state_of, children) if state]
+    return [state for state in map(state_of, children_of(parent)) if state]
 
 
 def state_of(process):
