@@ -318,7 +318,7 @@ class Faults(OfMachines):
     def test_no_ended_process_stays(self):
         machines = self.alone()
         machines.start("a", ["leaves"], kind="leaves")
-        until(10, lambda: machines.each_once(IDS), "all run")
+        until(10, lambda: machines.each_once(["leaves"]), "what it has begun has ended")
         for ident in IDS:
             os.kill(machines.process(ident), signal.SIGKILL)
         machines.kill_node("a")

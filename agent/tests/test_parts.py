@@ -3,9 +3,11 @@ import argparse
 import json
 import os
 import random
+import selectors
 import shutil
 import signal
 import socket
+import struct
 import subprocess
 import sys
 import tempfile
@@ -26,6 +28,7 @@ import members
 import node
 import processes
 import seals
+from clock import seconds
 
 SECRET = b"a secret of this test alone"
 
@@ -353,6 +356,25 @@ class Addresses(unittest.TestCase):
         self.assertEqual(links.address_of("[::1]:7001"), ("::1", 7001))
         for bad in ("127.0.0.1", "a:", "a:x", "a:0", "a:65536", ""):
             self.assertRaises(ValueError, links.address_of, bad)
+
+
+class Servers(unittest.TestCase):
+    def test_connections_that_are_gone_before_a_word_leave_nothing(self):
+        loop, refused = selectors.DefaultSelector(), []
+        server = links.Server(loop, ("127.0.0.1", 0), "a", SECRET, None, lambda host, why: refused.append(why))
+        self.addCleanup(server.close)
+        for _ in range(50):
+            link = socket.create_connection(server.socket.getsockname())
+            link.setsockopt(socket.SOL_SOCKET, socket.SO_LINGER, struct.pack("ii", 1, 0))
+            link.close()  # by a reset
+        idle = socket.create_connection(server.socket.getsockname())
+        self.addCleanup(idle.close)
+        for _ in range(100):
+            for key, events in loop.select(0.01):
+                key.data(events)
+        self.assertEqual((len(server.callers), len(loop.get_map()), refused), (1, 2, []))
+        server.tick(seconds() + 6)
+        self.assertEqual((server.callers, len(loop.get_map()), refused), (set(), 1, ["said nothing"]))
 
 
 class OfClaims:
