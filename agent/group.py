@@ -18,13 +18,13 @@ LAST_WORDS = 2  # seconds at most in which the others hear that this machine has
 class Group:
     def __init__(self, number, supd, kinds, host):
         """`supd` begins the words of the node. `host` has the machine's name, options, log, links and loop, and tells when it was held."""
-        self.host, self.name, self.o, self.links, self.count = host, host.name, host.o, host.links, host.o.groups
+        self.host, self.name, self.options, self.links, self.count = host, host.name, host.options, host.links, host.options.groups
         self.number, self.tag = number, groups.tag_of(number, self.count)
         self.log = host.log if self.count == 1 else host.log.of(self.tag)
-        self.image = groups.image_of(self.o.image, number, self.count)
-        self.node = kept_node.KeptNode([supd, self.name, "--image", self.image, *self.o.settings], self.o.patience, host.loop, self.log)
+        self.image = groups.image_of(self.options.image, number, self.count)
+        self.node = kept_node.KeptNode([supd, self.name, "--image", self.image, *self.options.settings], self.options.patience, host.loop, self.log)
         self.children = children.Children(self.name, kinds, os.path.abspath(self.image), self.log)
-        self.members, self.rejoin_at = members.Members(self.name, self.o, self.links.knows, seconds()), 0
+        self.members, self.rejoin_at = members.Members(self.name, self.options, self.links.knows, seconds()), 0
         self.claims = claims.Claims(self.name, host.session)
         self.told, self.told_state = {}, None  # the runs that others were told, and of which state of children and claims that was
         self.ship_at, self.tell_at, self.behind = 0, 0, set()
@@ -54,7 +54,7 @@ class Group:
         if reply.startswith("ok"):
             self.ship_at = 0
         if reply.startswith("ok gave up"):
-            self.rejoin_at = seconds() + self.o.rejoin
+            self.rejoin_at = seconds() + self.options.rejoin
         elif reply == "ok restarted":
             self.children.restarts[words[1]] = self.children.restarts.get(words[1], 0) + 1
 
@@ -76,7 +76,7 @@ class Group:
             self.children.stop_all()
 
     def is_lost(self, now):
-        return self.node.is_lost(now, self.o.silent)
+        return self.node.is_lost(now, self.options.silent)
 
     # -- what other machines say
 
@@ -96,7 +96,7 @@ class Group:
 
     def next_moment(self):
         """When the loop has to turn again, at the latest."""
-        held_until = self.host.held_from + self.o.grace
+        held_until = self.host.held_from + self.options.grace
         moments = [self.ship_at, self.tell_at, self.children.kill_late()]
         moments += [held_until] if self.children.waiting and seconds() < held_until else []
         moments += [self.node.begin_at] if self.node.is_waited_for() else []
@@ -105,13 +105,13 @@ class Group:
     def was_held(self, now):
         """Takes it that this machine didn't listen until now: it judges nobody by that time."""
         self.members.judge_from = now
-        self.ship_at = now + min(0.2, self.o.every)
+        self.ship_at = now + min(0.2, self.options.every)
 
     def is_held(self, now):
         """Whether nothing may begin yet: until every other machine has told what it runs, at most for the grace."""
         if self.members.others is None or self.host.has_not_listened():
             return True
-        return now < self.host.held_from + self.o.grace and any(self.told_at(name) < self.host.held_from for name in self.members.others)
+        return now < self.host.held_from + self.options.grace and any(self.told_at(name) < self.host.held_from for name in self.members.others)
 
     def told_at(self, name):
         return self.claims.told[name].moment if name in self.claims.told else 0
@@ -139,7 +139,7 @@ class Group:
         state = self.children.changes, set(self.claims.claimed)
         if state == self.told_state and now < self.tell_at:
             return
-        self.told, self.told_state, self.tell_at = self.children.told(), state, now + self.o.every
+        self.told, self.told_state, self.tell_at = self.children.told(), state, now + self.options.every
         self.claims.next_line()
         if not self.is_lost(now) or self.told:
             for name in self.links.names():
@@ -157,7 +157,7 @@ class Group:
         """Sends each machine what it hasn't acknowledged."""
         if now < self.ship_at:
             return
-        self.ship_at = now + self.o.every
+        self.ship_at = now + self.options.every
         self.keep_members(now)
         answers = {name: self.ask("ship " + name) for name in self.links.names() if self.links.is_ready(name)}
         self.behind = {name for name, answer in answers.items() if answer is not None and answer.reply.startswith("ok")}
@@ -168,7 +168,7 @@ class Group:
         """Drains, ends what runs, and leaves, as far as that can be done now. Whether all is done and the others have heard it, or had the time."""
         if self.left_at is not None:
             return now - self.left_at > LAST_WORDS or not self.behind & self.members.in_sight(now)
-        late = now - self.host.leave_at > self.o.leave_time
+        late = now - self.host.leave_at > self.options.leave_time
         self.is_drained = self.is_drained or self.ask("drain " + self.name) is not None
         self.children.stop_all()
         if late:

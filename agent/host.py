@@ -25,7 +25,7 @@ TOLD_EACH = 5  # seconds at least between two lines of the log about refused lin
 class Agent:
     def __init__(self, options, secret, supd):
         """OSError or ValueError where the file of kinds is none or the address can't be had; ImportError without the Redis library."""
-        self.o, self.name, self.log, self.session = options, options.name, log.Log(options.name), seals.fresh()
+        self.options, self.name, self.log, self.session = options, options.name, log.Log(options.name), seals.fresh()
         self.loop, self.inbox = selectors.DefaultSelector(), collections.deque()
         self.refused, self.refused_told = collections.Counter(), 0
         of_kinds = kinds.Kinds(options.kinds)
@@ -38,10 +38,10 @@ class Agent:
         processes.take_orphans()
 
     def links_of(self, secret):
-        if self.o.via is None:
-            return links.TcpLinks(self.loop, self.o.peers, self.name, self.session, secret, self.o.silent, self.log)
+        if self.options.via is None:
+            return links.TcpLinks(self.loop, self.options.peers, self.name, self.session, secret, self.options.silent, self.log)
         import redis_links
-        return redis_links.RedisLinks(self.loop, self.o.via, self.o.cluster, self.name, secret, self.take, self.refuse, self.log)
+        return redis_links.RedisLinks(self.loop, self.options.via, self.options.cluster, self.name, secret, self.take, self.refuse, self.log)
 
     def end_leftovers(self, mark):
         """Ends what an agent that was killed has left running. Only who has a node does: the image's lock says that no other agent lives."""
@@ -152,7 +152,7 @@ class Agent:
                 one.was_held(now)
 
     def is_long(self, held):
-        return held > max(self.o.silent / 2, 2 * self.o.every)
+        return held > max(self.options.silent / 2, 2 * self.options.every)
 
     def has_not_listened(self):
         """Whether it didn't listen until now for so long that the others may have taken over."""
