@@ -45,10 +45,10 @@ def next_line(lines):
     return line.decode("ascii", "replace").rstrip("\n")
 
 
-def status(address, secret):
+def status(address, secret, patience=10):
     """What the agent knows of machines and children. NoAnswer as for `ask`."""
     try:
-        return json.loads("".join(ask(address, secret, "status")))
+        return json.loads("".join(ask(address, secret, "status", patience)))
     except ValueError:
         raise NoAnswer("no status came") from None
 

@@ -12,6 +12,7 @@ import members
 from clock import seconds
 
 LOOKS = {"show", "inspect", "where", "members", "image", "ship", "deliver"}
+TOLD_A_SECOND = 1 << 20  # bytes: so many are told of what runs here where that changes again and again
 LAST_WORDS = 2  # seconds at most in which the others hear that this machine has left
 
 
@@ -27,7 +28,7 @@ class Group:
         self.members, self.rejoin_at = members.Members(self.name, self.options, self.links.knows, seconds()), 0
         self.claims = claims.Claims(self.name, host.session)
         self.told, self.told_state = {}, None  # the runs that others were told, and of which state of children and claims that was
-        self.ship_at, self.tell_at, self.behind = 0, 0, set()
+        self.ship_at, self.tell_at, self.quiet_until, self.behind = 0, 0, 0, set()
         self.is_drained, self.left_at, self.noted = False, None, None
 
     # -- the node
@@ -84,7 +85,7 @@ class Group:
         if word == "letter":
             self.ask("deliver " + text)
         elif self.claims.hear(sender, text, seconds()):
-            self.tell_at = 0
+            self.tell_soon()
 
     # -- turns
 
@@ -134,16 +135,24 @@ class Group:
         if ends:
             self.children.forget()
 
+    def tell_soon(self):
+        """Has what runs here told at once, or, where that is long, once as much time has passed as it is worth."""
+        self.tell_at = min(self.tell_at, self.quiet_until)
+
     def tell_runs(self, now):
-        """Tells the others what runs here, at once where that has changed. A machine whose node is lost falls silent once nothing runs."""
+        """Tells the others what runs here, where that has changed or time has passed. A machine whose node is lost falls silent once nothing runs."""
         state = self.children.changes, set(self.claims.claimed)
-        if state == self.told_state and now < self.tell_at:
+        if state != self.told_state:
+            self.tell_soon()
+        if now < self.tell_at:
             return
         self.told, self.told_state, self.tell_at = self.children.told(), state, now + self.options.every
         self.claims.next_line()
         if not self.is_lost(now) or self.told:
-            for name in self.links.names():
-                self.links.send(name, f"runs {self.tag} {self.claims.line(name, self.told)}")
+            lines = {name: f"runs {self.tag} {self.claims.line(name, self.told)}" for name in self.links.names()}
+            self.quiet_until = now + sum(map(len, lines.values())) / TOLD_A_SECOND
+            for name, line in lines.items():
+                self.links.send(name, line)
 
     def keep_members(self, now):
         answer = self.ask("members")

@@ -12,6 +12,7 @@ import subprocess
 import sys
 import tempfile
 import time
+import types
 import unittest
 
 sys.path.insert(0, os.path.dirname(os.path.dirname(os.path.abspath(__file__))))
@@ -20,6 +21,7 @@ import agent
 import children
 import claims
 import client
+import group
 import groups
 import kinds
 import links
@@ -300,6 +302,32 @@ class OfGroup:
             return [f"{words[1]} x on a" if words[1] in self.names else f"{words[1]} unknown"]
         self.asked.append(line)
         return ["refused 7 NotMember"] if words == ["leave", "nobody"] else ["ok"]
+
+
+class Telling(unittest.TestCase):
+    def lines(self, runs):
+        """What is told within a second in which the runs of one machine change each millisecond, to one other machine."""
+        said = []
+        told_by = types.SimpleNamespace(names=lambda: ["b"], knows=lambda name: True, send=lambda name, line: said.append(line))
+        options = argparse.Namespace(groups=1, image="x", settings=[], patience=1, silent=3, least=1, every=0.5, label="x")
+        of = group.Group(0, "supd", None, types.SimpleNamespace(name="a", options=options, links=told_by, log=lambda *words: None, session="0" * 32, loop=None))
+        of.children.told = lambda: {f"child{number}": ["1.1", 1, 0, ""] for number in range(runs)}
+        for millisecond in range(1000):
+            of.children.changes += 1
+            of.tell_runs(1000 + millisecond / 1000)
+        return said
+
+    def test_few_runs_are_told_at_once(self):
+        self.assertEqual(len(self.lines(6)), 1000)
+
+    def test_many_runs_that_change_again_and_again_are_told_by_a_mebibyte_a_second(self):
+        for runs in (1000, 10_000):
+            lines = self.lines(runs)
+            self.assertGreater(sum(map(len, lines[:-1])), 1 << 19)
+            self.assertLessEqual(sum(map(len, lines[:-1])), (1 << 20) + len(lines) * 1200)
+
+    def test_who_runs_very_many_is_heard_at_its_pace(self):
+        self.assertEqual(len(self.lines(100_000)), 2)
 
 
 class Groups(unittest.TestCase):
