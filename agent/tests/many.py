@@ -62,41 +62,39 @@ def start_all(machines, idents):
 
 
 def each_once(machines, idents, names):
-    """Whether each of these machines shows all children, each at one place that runs it, and no other machine does."""
+    """Whether each of these machines shows all children, each placed at one of them, which alone runs it."""
     for name in names:
-        status = client.status(("127.0.0.1", machines.ports[name]), machines.secret, 120)
-        if len(status["children"]) != len(idents) or not all(len(child["runs"]) == 1 and child["runs"][0][0] == child["place"] for child in status["children"]):
+        children = client.status(("127.0.0.1", machines.ports[name]), machines.secret, 120)["children"]
+        if len(children) != len(idents) or not all(child["place"] in names and [run[0] for run in child["runs"]] == [child["place"]] for child in children):
             return False
     return True
 
 
 def processor_seconds(machines):
-    """Of all agents and nodes until now."""
-    used = 0
-    for process in [agent.pid for agent in machines.agents.values()]:
-        for other in [process, *tests.children_of(process)]:
-            try:
-                with open(f"/proc/{other}/stat") as file:
-                    used += sum(map(int, file.read().rsplit(")", 1)[1].split()[11:13])) / os.sysconf("SC_CLK_TCK")
-            except OSError:
-                pass
+    """Of each process of the machines, agents and nodes, its time until now."""
+    used = {}
+    for agent in machines.agents.values():
+        try:
+            for process in [agent.pid, *map(int, tests.children_of(agent.pid))]:
+                with open(f"/proc/{process}/stat") as file:
+                    used[process] = sum(map(int, file.read().rsplit(")", 1)[1].split()[11:13])) / os.sysconf("SC_CLK_TCK")
+        except OSError:
+            pass  # it was killed
     return used
 
 
 class Steps:
-    """Tells what each step took: time, processor time of agents and nodes that still live, and bytes between machines."""
+    """Tells what each step took: time, processor time of agents and nodes that live at its end, and bytes between machines."""
 
     def __init__(self, machines, counted):
         self.machines, self.counted = machines, counted
-        self.mark()
-
-    def mark(self):
-        self.at, self.used, self.sent = time.monotonic(), processor_seconds(self.machines), self.counted.bytes()
+        self.at, self.used, self.sent = time.monotonic(), processor_seconds(machines), counted.bytes()
 
     def tell(self, what):
-        print(f"{what}: {time.monotonic() - self.at:.1f} s, {processor_seconds(self.machines) - self.used:.1f} s of processors, "
-              f"{(self.counted.bytes() - self.sent) / 1e6:.1f} MB between machines", flush=True)
-        self.mark()
+        now, used, sent = time.monotonic(), processor_seconds(self.machines), self.counted.bytes()
+        spent = sum(seconds - self.used.get(process, 0) for process, seconds in used.items())
+        print(f"{what}: {now - self.at:.1f} s, {spent:.1f} s of processors, {(sent - self.sent) / 1e6:.1f} MB between machines", flush=True)
+        self.at, self.used, self.sent = now, used, sent
 
 
 def main():
@@ -113,16 +111,16 @@ def main():
     steps = Steps(machines, counted)
     start_all(machines, idents)
     steps.tell("all started")
-    until(600, lambda: each_once(machines, idents, "abc"), "each child runs once at its place")
+    until(600, lambda: each_once(machines, idents, ["a", "b", "c"]), "each child runs once at its place")
     steps.tell("each is known to all and runs once at its place")
     time.sleep(20)
     steps.tell("nothing happens")
     machines.kill("b")
-    until(600, lambda: each_once(machines, idents, "ac"), "all run elsewhere")
+    until(600, lambda: each_once(machines, idents, ["a", "c"]), "all run elsewhere")
     steps.tell(f"a machine was killed, all run elsewhere (of which it was silent for {SILENT} s)")
     machines.begin("b")
     until(60, lambda: bool(machines.members("b")), "it answers")
-    until(600, lambda: each_once(machines, idents, "abc"), "all are home")
+    until(600, lambda: each_once(machines, idents, ["a", "b", "c"]), "all are home")
     steps.tell("the machine is back, all are home")
     until(60, machines.tables_equal, "tables are equal")
     sizes = [os.path.getsize(groups.image_of(machines.path("a.image"), number, given.groups)) for number in range(given.groups)]
