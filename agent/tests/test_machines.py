@@ -315,6 +315,17 @@ class Faults(OfMachines):
         time.sleep(0.5)
         self.assertEqual(machines.members("a"), ["a"])
 
+    def test_signals_that_come_again_and_again_interrupt_nothing(self):
+        machines = self.alone()
+        before, asked, end = machines.watcher.now()[1], 0, time.monotonic() + 2
+        while time.monotonic() < end:
+            for number in (signal.SIGCHLD, signal.SIGCONT, signal.SIGWINCH):
+                machines.agents["a"].send_signal(number)
+            if time.monotonic() > end - 2 + asked / 10:
+                self.assertEqual(len(machines.members("a")), 1)
+                asked += 1
+        self.assertEqual(machines.watcher.now()[1], before)
+
     def test_no_ended_process_stays(self):
         machines = self.alone()
         machines.start("a", ["leaves"], kind="leaves")

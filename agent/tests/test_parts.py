@@ -110,6 +110,24 @@ class Answers(unittest.TestCase):
             self.assertRaises(node.NodeGone, node.Node, [program + "x"], 10)
 
 
+    def test_an_answer_that_was_cut_is_none(self):
+        """A node that ends in the midst of an answer: half an order is no order."""
+        for cut in ("ok (a,1)", "ok (a,1)\\n", "ok (a,1)\\n  start web 1.1 sleep permanent 5000 arg=1", "ok (a,1)\\n  start web 1.1 sleep permanent 5000 arg=1000\\n"):
+            filter = node.Node(["sh", "-c", f"printf 'ok boot 1\\n\\n'; read line; printf '{cut}'; exit 3"], 10)
+            while not filter.has_begun():
+                pass
+            with self.assertRaises(node.NodeGone) as gone:
+                filter.ask("x")
+            self.assertEqual(gone.exception.args[0], 3)
+
+    def test_a_node_that_is_silent_is_ended(self):
+        filter = node.Node(["sh", "-c", "printf 'ok boot 1\\n\\n'; sleep 100"], 0.3)
+        while not filter.has_begun():
+            pass
+        self.assertRaises(node.NodeGone, filter.ask, "x")
+        self.assertEqual(filter.process.poll(), -signal.SIGKILL)
+
+
 class Kinds(unittest.TestCase):
     def test_a_file_that_changes_counts_once_it_is_good(self):
         with tempfile.NamedTemporaryFile("w") as file:
@@ -384,6 +402,27 @@ class Addresses(unittest.TestCase):
         self.assertEqual(links.address_of("[::1]:7001"), ("::1", 7001))
         for bad in ("127.0.0.1", "a:", "a:x", "a:0", "a:65536", ""):
             self.assertRaises(ValueError, links.address_of, bad)
+
+
+class Wires(unittest.TestCase):
+    def test_half_a_line_is_none_and_no_line_is_torn(self):
+        loop, heard, lost = selectors.DefaultSelector(), [], []
+        there, here = socket.socketpair()
+        links.Wire(loop, here, heard.append, lost.append, 100)
+
+        def say(text):
+            there.sendall(text)
+            while loop.get_map() and (some := loop.select(0.05)):
+                for key, events in some:
+                    key.data(events)
+        for text, lines in ((b"on", []), (b"e\ntw", [b"one"]), (b"o", []), (b"\n\nthree\nhalf", [b"two", b"", b"three"])):
+            say(text)
+            self.assertEqual(heard, lines)
+            heard.clear()
+        there.close()
+        for key, events in loop.select(1):
+            key.data(events)
+        self.assertEqual((heard, lost, len(loop.get_map())), ([], [None], 0))
 
 
 class Servers(unittest.TestCase):
