@@ -91,6 +91,7 @@ def words():
     moves = ways.add_parser("move", help="start each child of one cluster in another one, once it has ended where it was, and print its line")
     moves.add_argument("address", type=address, metavar="FROM", help="an agent of the cluster that is left, as HOST:PORT")
     moves.add_argument("to", type=address, metavar="TO", help="an agent of the other one")
+    moves.add_argument("--without", action="append", default=[], type=name, metavar="NAME", help="a machine of the first that is away for ever")
     for way in (ask, status, serve, moves):
         way.add_argument("--secret", metavar="FILE", help="the secret of the cluster")
     return parser
@@ -173,7 +174,7 @@ def main():
         elif options.way == "status":
             print("\n".join(client.tables(client.status(options.address, secret))))
         elif options.way == "move":
-            move.move(options.address, options.to, secret, print)
+            move.move(options.address, options.to, secret, print, options.without)
         else:
             import page
             page.serve(options.address, secret, options.port)

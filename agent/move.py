@@ -10,15 +10,23 @@ import groups
 
 AT_ONCE = 20  # children
 LOOK = 0.05   # seconds between two looks whether they have ended
+AWAY = 10     # seconds without a word, after which a machine is away
 
 
 class NotMoved(Exception):
     """What was refused, and what is to be said by hand."""
 
 
-def move(here, there, secret, tell):
-    """Moves them from the cluster of the agent at one address to that of another. NotMoved; NoAnswer where an agent can't be reached at the begin."""
+def move(here, there, secret, tell, without=()):
+    """Moves them from the cluster of the agent at one address to that of another. NotMoved; NoAnswer where an agent can't be reached at the begin.
+
+    Each machine of the first cluster has to be there, but those that will never be back: one that comes back later would know of no deletion,
+    and, alone there, run all children.
+    """
     status, other = client.status(here, secret), client.status(there, secret)
+    away = [one["name"] for one in status["machines"] if one["name"] not in without and (one["heard"] is None or one["heard"] > AWAY)]
+    if away:
+        raise NotMoved("away: " + " ".join(away))
     both = {child["id"] for child in status["children"]} & {child["id"] for child in other["children"]}
     if both:
         raise NotMoved("both clusters have " + " ".join(sorted(both)))

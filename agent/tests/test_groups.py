@@ -183,6 +183,15 @@ class Moves(unittest.TestCase):
         self.assertEqual((told.returncode, told.stderr, told.stdout), (1, "both clusters have w2\n", ""))
         self.assertEqual(len(client.status(("127.0.0.1", self.old["a"]), machines.secret)["children"]), 2)
 
+    def test_a_machine_that_is_away_keeps_all_where_they_are(self):
+        """Once it is back it would be alone in the first cluster, and run all."""
+        status = {"machines": [{"name": "a", "heard": 0}, {"name": "b", "heard": None}, {"name": "c", "heard": 11}], "children": [], "names": [], "ending": []}
+        with unittest.mock.patch.object(client, "status", lambda *_: status):
+            with self.assertRaises(move.NotMoved) as fault:
+                move.move("here", "there", None, print, ["b"])
+            self.assertEqual(str(fault.exception), "away: c")
+            move.move("here", "there", None, print, ["b", "c"])
+
     def test_what_was_not_started_is_told(self):
         asked = []
 
@@ -191,7 +200,7 @@ class Moves(unittest.TestCase):
             if line == "start w2 kind=sleep arg=1":
                 raise client.NoAnswer("gone")
         child = {"kind": "sleep", "arg": "1", "restart": "", "shutdown": ""}
-        status = {"children": [{"id": "w1", **child}, {"id": "w2", **child}], "names": ["www (a,3) w2 on a"], "ending": []}
+        status = {"machines": [], "children": [{"id": "w1", **child}, {"id": "w2", **child}], "names": ["www (a,3) w2 on a"], "ending": []}
         with unittest.mock.patch.multiple(move, do=do), unittest.mock.patch.object(client, "status", lambda at, _: status if at == "here" else {"children": []}):
             with self.assertRaises(move.NotMoved) as fault:
                 move.move("here", "there", None, lambda lines: None)
