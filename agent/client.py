@@ -1,4 +1,4 @@
-"""What asks an agent: one connection for each line."""
+"""What asks an agent."""
 import json
 import socket
 
@@ -11,7 +11,12 @@ class NoAnswer(Exception):
 
 def ask(address, secret, line, patience=10):
     """The lines that the agent at an address (host and port) answers. NoAnswer, also where it takes longer than `patience` seconds."""
-    if not (line.isascii() and line.isprintable()):
+    return ask_all(address, secret, [line], patience)[0]
+
+
+def ask_all(address, secret, asked, patience=10):
+    """What is answered to each of some lines, which are all said before an answer is waited for. NoAnswer as for `ask`: some may be done then."""
+    if not all(line.isascii() and line.isprintable() for line in asked):
         raise NoAnswer("a line is of visible ASCII and spaces")
     try:
         with socket.create_connection(address, timeout=patience) as link, link.makefile("rb") as lines:
@@ -19,8 +24,9 @@ def ask(address, secret, line, patience=10):
             if len(hello) != 3 or hello[0] != "hello":
                 raise NoAnswer("no agent is there")
             session = seals.fresh()
-            link.sendall(seals.Seal(secret, seals.CLIENT, session, hello[1], hello[2]).line("ask " + line).encode("ascii") + b"\n")
-            return answer_of(lines, seals.Guard(secret, seals.CLIENT, session))
+            seal, guard = seals.Seal(secret, seals.CLIENT, session, hello[1], hello[2]), seals.Guard(secret, seals.CLIENT, session)
+            link.sendall("".join(seal.line("ask " + line) + "\n" for line in asked).encode("ascii"))
+            return [answer_of(lines, guard) for _ in asked]
     except OSError as fault:
         raise NoAnswer(f"no answer: {fault}") from None
 

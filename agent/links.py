@@ -110,7 +110,7 @@ class Caller:
 
     def __init__(self, server, link, host):
         self.server, self.host, self.since, self.known = server, host, seconds(), False
-        self.guard = seals.Guard(server.secret, server.name, seals.fresh())
+        self.guard, self.seals = seals.Guard(server.secret, server.name, seals.fresh()), {}  # and of each session that asks what seals its answers
         self.wire = Wire(server.loop, link, self.heard, self.lost, OF_STRANGERS)
         server.callers.add(self)
         self.wire.send(f"hello {server.name} {self.guard.challenge}")
@@ -127,7 +127,7 @@ class Caller:
 
     def answer(self, session, lines):
         """Answers one who asked, by lines sealed under the session that it named."""
-        seal = seals.Seal(self.server.secret, self.server.name, self.guard.challenge, seals.CLIENT, session)
+        seal = self.seals.setdefault(session, seals.Seal(self.server.secret, self.server.name, self.guard.challenge, seals.CLIENT, session))
         for line in lines:
             self.wire.send(seal.line("line " + line))
         self.wire.send(seal.line("end"))
@@ -219,6 +219,7 @@ class Peer:
         words = line.decode("ascii", "replace").split(" ")
         if self.seal is None and len(words) == 3 and words[:2] == ["hello", self.name] and seals.SESSION.fullmatch(words[2]):
             self.seal = seals.Seal(self.secret, self.me, self.session, self.name, words[2])
+            self.send("hello")  # a short line: until a right one has come a long one is taken for a stranger's
             return
         self.log(f"what answers at the address of {self.name} says no hello of it")
         self.again_at = seconds() + 5
