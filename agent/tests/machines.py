@@ -24,7 +24,7 @@ import client
 import groups
 
 SUPD = os.environ["SUPD"]  # the node's program; agent/test.sh names it
-KINDS = {"noted": [], "sleep": ["sleep", "{arg}"], "none": ["/nonexistent"], "nested": ["sh", "-c", "sleep 100000 & wait"],
+KINDS = {"sleep": ["sleep", "{arg}"], "none": ["/nonexistent"], "nested": ["sh", "-c", "sleep 100000 & wait"],
          "leaves": ["sh", "-c", "(setsid sleep 0.5 &); exec sleep 100000"],
          "stubborn": ["sh", "-c", "trap '' TERM; while :; do sleep 0.1; done"]}
 PACE = float(os.environ.get("PACE", "1"))  # how many times as long all waits and bounds are

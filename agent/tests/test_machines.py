@@ -10,7 +10,6 @@ import unittest
 
 from machines import PACE, SUPD, Machines, Proxy, Redis, begin, children_of, free_ports, until
 
-import client
 import processes
 
 STORM = float(os.environ.get("STORM", "30"))
@@ -315,24 +314,6 @@ class Faults(OfMachines):
         machines.agents["a"].send_signal(signal.SIGHUP)
         time.sleep(0.5)
         self.assertEqual(machines.members("a"), ["a"])
-
-    def test_machines_with_many_children_hear_one_another_again(self):
-        """What a machine runs is a long line; the first one of a connection is short, since strangers may say no long one."""
-        machines = self.machines(names=["a", "b"])
-        machines.begin_all()
-        address, many = ("127.0.0.1", machines.ports["a"]), [f"many{number}" for number in range(400)]
-        told = client.ask_all(address, machines.secret, [f"start {ident} kind=noted" for ident in many], 60)
-        self.assertTrue(all(answer[0].startswith("ok") for answer in told))
-
-        def run():
-            children = machines.status("a")["children"]
-            return len(children) == len(many) and all([one[0] for one in child["runs"]] == [child["place"]] for child in children)
-        until(30, run, "all run")
-        machines.kill("b")
-        until(30, lambda: machines.members("a") == ["a"] and run(), "all run on a")
-        machines.begin("b")
-        until(30, lambda: machines.members("a") == ["a", "b"] and run() and machines.tables_equal(), "those of b are home")
-        self.assertEqual([machines.status(name)["refused"] for name in "ab"], [{}, {}])
 
     def test_signals_that_come_again_and_again_interrupt_nothing(self):
         machines = self.alone()

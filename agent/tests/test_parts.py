@@ -11,6 +11,7 @@ import struct
 import subprocess
 import sys
 import tempfile
+import threading
 import time
 import types
 import unittest
@@ -442,6 +443,35 @@ class Servers(unittest.TestCase):
         self.assertEqual((len(server.callers), len(loop.get_map()), refused), (1, 2, []))
         server.tick(seconds() + 6)
         self.assertEqual((server.callers, len(loop.get_map()), refused), (set(), 1, ["said nothing"]))
+
+
+    def test_a_peer_whose_first_words_are_long_is_no_stranger(self):
+        """What a machine with many children runs is a long line, and may be the first one that it has to say."""
+        loop, heard, refused = selectors.DefaultSelector(), [], []
+        server = links.Server(loop, ("127.0.0.1", 0), "b", SECRET, lambda sender, text, answer: heard.append(text), lambda host, why: refused.append(why))
+        self.addCleanup(server.close)
+        peers = links.TcpLinks(loop, {"b": server.socket.getsockname()}, "a", seals.fresh(), SECRET, 3, print)
+        self.addCleanup(peers.close)
+        long = "runs 0/1 " + "x" * 100_000
+        for turn in range(100):
+            peers.tick(seconds())
+            if peers.is_ready("b") and long not in heard[-1:]:
+                peers.send("b", long)
+            for key, events in loop.select(0.01):
+                key.data(events)
+        self.assertEqual((heard[-1][:20], refused), (long[:20], []))
+
+    def test_some_lines_are_asked_at_once_and_answered_in_their_order(self):
+        loop = selectors.DefaultSelector()
+        server = links.Server(loop, ("127.0.0.1", 0), "b", SECRET, lambda sender, text, answer: answer([text, "more"]), print)
+        self.addCleanup(server.close)
+        told = []
+        asker = threading.Thread(target=lambda: told.extend(client.ask_all(server.socket.getsockname(), SECRET, ["one", "two", "three"])))
+        asker.start()
+        while asker.is_alive():
+            for key, events in loop.select(0.01):
+                key.data(events)
+        self.assertEqual(told, [["ask one", "more"], ["ask two", "more"], ["ask three", "more"]])
 
 
 class OfClaims:
