@@ -12,7 +12,7 @@ import members
 from clock import seconds
 
 LOOKS = {"show", "inspect", "where", "members", "image", "ship", "deliver"}
-TOLD_A_SECOND = 1 << 20  # bytes: so many are told of what runs here where that changes again and again
+TOLD_A_SECOND = 1 << 18  # bytes: so many are told of what runs here where that changes again and again
 LAST_WORDS = 2  # seconds at most in which the others hear that this machine has left
 
 
@@ -26,7 +26,7 @@ class Group:
         self.node = kept_node.KeptNode([supd, self.name, "--image", self.image, *self.options.settings], self.options.patience, host.loop, self.log)
         self.children = children.Children(self.name, kinds, os.path.abspath(self.image), self.log)
         self.members, self.rejoin_at = members.Members(self.name, self.options, self.links.knows, seconds()), 0
-        self.claims = claims.Claims(self.name, host.session)
+        self.claims, self.newest = claims.Claims(self.name, host.session), {}  # of each machine the last line of its runs, as long as it waits to be heard
         self.told, self.told_state = {}, None  # the runs that others were told, and of which state of children and claims that was
         self.ship_at, self.tell_at, self.quiet_until, self.behind = 0, 0, 0, set()
         self.is_drained, self.left_at, self.noted = False, None, None
@@ -81,10 +81,12 @@ class Group:
 
     # -- what other machines say
 
-    def hear(self, word, text, sender):
-        if word == "letter":
-            self.ask("deliver " + text)
-        elif self.claims.hear(sender, text, seconds()):
+    def hear_letter(self, text):
+        self.ask("deliver " + text)
+
+    def hear_runs(self, sender):
+        """Takes what another machine told last of what it runs; what it told before that counts no more."""
+        if self.claims.hear(sender, self.newest.pop(sender), seconds()):
             self.tell_soon()
 
     # -- turns

@@ -89,7 +89,12 @@ class Agent:
             if of is None:
                 raise seals.Refused("a line of another group")
             of.members.hear(sender, seconds())
-            self.inbox.append((of.hear, word, rest, sender))
+            if word == "letter":
+                self.inbox.append((of.hear_letter, rest))
+                return
+            if sender not in of.newest:
+                self.inbox.append((of.hear_runs, sender))
+            of.newest[sender] = rest
 
     def refuse(self, where, why):
         self.refused[str(why)] += 1

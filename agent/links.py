@@ -18,6 +18,7 @@ MOST_CALLERS = 400    # connections that were accepted, or half as many as the f
 STRANGERS_TIME = 5    # seconds until the first right line
 MOST_UNSENT = 4 << 20  # bytes to a peer, behind which no further line is taken
 CHUNK = 1 << 18
+CHUNKS = 32  # that are read in one turn of one connection
 
 
 def address_of(text):
@@ -48,15 +49,26 @@ class Wire:
             self.read()
 
     def read(self):
+        """Takes what has come; from one who is known more than one chunk, so that a loop whose turns are long keeps up."""
+        for _ in range(CHUNKS if self.longest == LONGEST else 1):
+            if not (self.open and self.read_chunk()):
+                return
+
+    def read_chunk(self):
+        """Whether there may be more."""
         try:
             chunk = self.link.recv(CHUNK)
         except BlockingIOError:
-            return
+            return False
         except OSError:
             chunk = b""
         if not chunk:
             self.close()
-            return
+            return False
+        self.take(chunk)
+        return len(chunk) == CHUNK
+
+    def take(self, chunk):
         *lines, rest = chunk.split(b"\n")
         for line in lines:
             self.come += line

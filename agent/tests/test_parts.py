@@ -339,11 +339,11 @@ class Telling(unittest.TestCase):
     def test_few_runs_are_told_at_once(self):
         self.assertEqual(len(self.lines(6)), 1000)
 
-    def test_many_runs_that_change_again_and_again_are_told_by_a_mebibyte_a_second(self):
-        for runs in (1000, 10_000):
+    def test_many_runs_that_change_again_and_again_are_told_by_so_many_bytes_a_second(self):
+        for runs in (100, 1000):
             lines = self.lines(runs)
-            self.assertGreater(sum(map(len, lines[:-1])), 1 << 19)
-            self.assertLessEqual(sum(map(len, lines[:-1])), (1 << 20) + len(lines) * 1200)
+            self.assertGreater(sum(map(len, lines)), group.TOLD_A_SECOND / 2)
+            self.assertLessEqual(sum(map(len, lines[:-1])), group.TOLD_A_SECOND + len(lines) * 300)
 
     def test_who_runs_very_many_is_heard_at_its_pace(self):
         self.assertEqual(len(self.lines(100_000)), 2)
@@ -424,6 +424,20 @@ class Wires(unittest.TestCase):
         for key, events in loop.select(1):
             key.data(events)
         self.assertEqual((heard, lost, len(loop.get_map())), ([], [None], 0))
+
+
+    def test_much_that_has_come_is_read_in_few_turns_from_one_who_is_known(self):
+        for longest in (links.LONGEST, 1 << 20):
+            loop, heard = selectors.DefaultSelector(), []
+            there, here = socket.socketpair()
+            there.setsockopt(socket.SOL_SOCKET, socket.SO_SNDBUF, 4 << 20)
+            there.setblocking(False)
+            wire, sent = links.Wire(loop, here, heard.append, lambda why: None, longest), there.send(b"x\n" * (1 << 20))
+            self.assertGreater(sent, links.CHUNK)
+            wire.ready(selectors.EVENT_READ)
+            self.assertEqual(2 * len(heard), sent if longest == links.LONGEST else links.CHUNK)
+            there.close()
+            wire.close()
 
 
 class Servers(unittest.TestCase):
