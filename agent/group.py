@@ -29,6 +29,7 @@ class Group:
         self.claims, self.newest = claims.Claims(self.name, host.session), {}  # of each machine the last line of its runs, as long as it waits to be heard
         self.told, self.told_state = {}, None  # the runs that others were told, and of which state of children and claims that was
         self.ship_at, self.tell_at, self.quiet_until, self.behind = 0, 0, 0, set()
+        self.shipped, self.waiting = {}, set()  # of each machine when a letter left that it hasn't acknowledged; those that wait for such a one
         self.is_drained, self.left_at, self.noted = False, None, None
 
     # -- the node
@@ -81,8 +82,10 @@ class Group:
 
     # -- what other machines say
 
-    def hear_letter(self, text):
-        self.ask("deliver " + text)
+    def hear_letter(self, text, sender):
+        answer = self.ask("deliver " + text)
+        if answer is not None and answer.reply == "ok acked" and self.shipped.pop(sender, None) is not None and sender in self.waiting:
+            self.ship_at = 0
 
     def hear_runs(self, sender):
         """Takes what another machine told last of what it runs; what it told before that counts no more."""
@@ -165,13 +168,17 @@ class Group:
                 self.ask(line)
 
     def ship(self, now):
-        """Sends each machine what it hasn't acknowledged."""
+        """Sends each machine what it hasn't acknowledged, once the last letter to it was acknowledged, or time has passed."""
         if now < self.ship_at:
             return
         self.ship_at = now + self.options.every
         self.keep_members(now)
-        answers = {name: self.ask("ship " + name) for name in self.links.names() if self.links.is_ready(name)}
-        self.behind = {name for name, answer in answers.items() if answer is not None and answer.reply.startswith("ok")}
+        ready = {name for name in self.links.names() if self.links.is_ready(name)}
+        self.waiting = {name for name in ready if now - self.shipped.get(name, float("-inf")) < self.options.every}
+        answers = {name: self.ask("ship " + name) for name in ready - self.waiting}
+        sent = {name for name, answer in answers.items() if answer is not None and answer.reply.startswith("ok")}
+        self.shipped.update({name: now for name in sent})
+        self.behind = self.waiting | sent
 
     # -- the end
 

@@ -90,7 +90,7 @@ class Agent:
                 raise seals.Refused("a line of another group")
             of.members.hear(sender, seconds())
             if word == "letter":
-                self.inbox.append((of.hear_letter, rest))
+                self.inbox.append((of.hear_letter, rest, sender))
                 return
             if sender not in of.newest:
                 self.inbox.append((of.hear_runs, sender))
