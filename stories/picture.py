@@ -1,10 +1,12 @@
 #!/usr/bin/env python3
 """The picture that `supdraw` has to make of a good script, out of the script and of what `supctl simulate` printed of it: a second opinion,
-which knows only the printed lines. Usage: picture.py SCRIPT PRINTED, files both; the picture goes to standard output."""
+which knows only the printed lines, so that it gives up at a message that left while the nodes settled. Usage: picture.py SCRIPT PRINTED, files
+both; the picture goes to standard output."""
 import re
 import sys
 
 LOOKS = ("show", "inspect", "image", "where", "message")
+SHOWN = ("member", "child", "loser", "name", "kept", "count", "buffer", "vector", "cloud", "acked")
 
 
 def style():
@@ -22,8 +24,8 @@ def escaped(text):
     return "".join(c if c == "\n" or " " <= c <= "~" else "?" for c in text)
 
 
-def answers(nodes, lines, printed):
-    """What each line printed, where it made a step or settled. To look at a node that isn't there is refused."""
+def answers(lines, printed):
+    """What each line printed, where it made a step or settled. To look prints one line, and of a node's tables those that are shown behind it."""
     printed, at = printed.split("\n")[:-1], 0
     for line in lines:
         words = line.split(" ")
@@ -34,9 +36,8 @@ def answers(nodes, lines, printed):
                 at += 1
             yield "\n".join(printed[start:at]) + "\n"
             continue
-        if words[1] not in nodes or printed[at:at + 1] == ["refused 13 NoSuchMessage"]:
-            at += 1
-        while at < len(printed) and not printed[at].startswith(("ok ", "refused ")):
+        at += 1
+        while words[0] in ("show", "inspect") and at < len(printed) and printed[at].split(" ")[0] in SHOWN:
             at += 1
         yield None
 
@@ -71,6 +72,8 @@ class Picture:
         if words[0] == "deliver":
             key = (words[1], int(words[2]))
             at, drop = self.options(words)
+            if not at and key not in self.left:
+                sys.exit(f"{line}: the message left while the nodes settled, and what is printed doesn't say for whom")
             node = at or self.left[key][0]
             reply = said.split("\n")[0]
             way = "cut" if drop else {"ok known": "known", "ok acked": "acked"}.get(reply, "learned")
@@ -170,7 +173,7 @@ def main():
         lines = [line for line in script.read().split("\n") if line and not line.startswith("#")]
         said = printed.read()
     picture = Picture(lines[0].split(" ")[1:])
-    for row, (line, answer) in enumerate(zip(lines[1:], answers(picture.nodes, lines[1:], said))):
+    for row, (line, answer) in enumerate(zip(lines[1:], answers(lines[1:], said))):
         picture.note(row, line, answer)
     sys.stdout.write(picture.text())
 
