@@ -411,7 +411,7 @@ def main():
     words.add_argument("folder", type=pathlib.Path)
     words.add_argument("--supctl", default="supctl")
     words.add_argument("--only")
-    for name, count in ("kills", 300), ("scripts", 60), ("starts", 10_000):
+    for name, count in ("kills", 300), ("scripts", 60), ("starts", 9_999):
         words.add_argument(f"--{name}", type=int, default=count)
     asked = words.parse_args()
     signal.signal(signal.SIGTERM, lambda number, _: sys.exit(128 + number))
