@@ -100,7 +100,7 @@ module _ {K : Type 0} (k : Knowledge K) (view : View K) (laws : Laws k view) whe
   absorbs_taken g n content letter true e = record { name = refl; known = refl; how = inl (refl, e) }
   absorbs_taken g n content letter false e = record { name = refl; known = refl; how = inr refl }
 
-  absorbs_stand : (g : Weigher) (n : Node K) (m : Node Ops) (content : K) (more : Ops) (a : Option (Message K)) (b : Option (Message Ops)) → NodeStands view n m → view.stands (k.with_more n.known content) (m.known ++ more) → BothOrNone (MessageStands view) a b
+  pub absorbs_stand : (g : Weigher) (n : Node K) (m : Node Ops) (content : K) (more : Ops) (a : Option (Message K)) (b : Option (Message Ops)) → NodeStands view n m → view.stands (k.with_more n.known content) (m.known ++ more) → BothOrNone (MessageStands view) a b
       → (c : Bool) → OutcomeStands view (absorbs k g n content a c) (absorbs by_operations g m more b c)
   absorbs_stand g n m content more a b h s l true =
       record { reply = refl; effects = refl; letter = l; saves = refl; node = record { name = h.name; up = h.up; count = h.count; supervisor = h.supervisor; state = s; newest = h.newest } }
