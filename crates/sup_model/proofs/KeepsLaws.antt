@@ -4,25 +4,19 @@ use Rattle.std.specs.List.{list_any, list_all, AllByRecursion}
 use Rattle.std.proofs.Common.{sym, ap, ◌∙◌, subst, arith}
 use mathlib.Core.Bool.{true≢false}
 use Rattle.sup_specs.specs.Values.{Bytes}
-use Rattle.sup_specs.specs.declared.child.ExitReason.{ExitReason}
 use Rattle.sup_tables.specs.declared.row.Row.{Row}
 use Rattle.sup_tables.specs.Operations.{Operation, live, covers}
 use Rattle.sup_tables.proofs.CoverLaws.{covers-live}
 use Rattle.sup_tables.specs.Makers.{drop_member, finish_child}
-use Rattle.sup_local_sup.specs.declared.effect.Incarnation.{Incarnation}
-use Rattle.sup_local_sup.specs.declared.wanted.Wanted.{Wanted}
-use Rattle.sup_local_sup.specs.Keeping.{Kept, is_for, is_wanted, is_kept}
-use Rattle.sup_local_sup.specs.declared.effect.Effect.{Effect}
+use Rattle.sup_local_sup.specs.Keeping.{is_wanted, is_kept}
 use Rattle.std.specs.Str.{bytes_eq}
 use Rattle.std.specs.Map.{lookup, set_value}
-use Rattle.sup_causal.specs.Dots.{dot_eq}
-use Rattle.sup_local_sup.specs.declared.kept.Entry.{Entry}
 use Rattle.sup_local_sup.specs.declared.leaving.Leaving.{Leaving}
 use Rattle.sup_local_sup.specs.declared.leaving.Leaving.TheVariants.{Nobody, Finished as finished, GaveUp as gave_up}
 use Rattle.sup_local_sup.specs.declared.leaving.Ruling.{Ruling}
 use Rattle.sup_local_sup.specs.declared.leaving.Ruling.TheVariants.{Stale, Restart as Again, Finish, GiveUp}
-use Rattle.sup_local_sup.specs.Planning.{ruling, left, restart_kept, restarted_with}
-use Rattle.sup_local_sup.specs.Supervising.{Supervisor, renewed, with_all}
+use Rattle.sup_local_sup.specs.Planning.{ruling, left, restarted_with}
+use Rattle.sup_local_sup.specs.Supervising.{with_all}
 use Rattle.sup_local_sup.proofs.AgainLaws.{again_wanted, again_kept}
 use Rattle.sup_local_sup.proofs.KeptLaws.{none_more, none_less}
 use Rattle.sup_local_sup.proofs.OnceLaws.{kept_once}
@@ -33,15 +27,13 @@ use Rattle.sup_replica.specs.declared.event.Act.{Act}
 use Rattle.sup_replica.specs.declared.done.Reply.{Reply}
 use Rattle.sup_replica.specs.declared.done.Reply.TheVariants.{Sent, Stopped, Boot, Finished, GaveUp}
 use Rattle.sup_replica.specs.declared.refusal.Refusal.{Refusal}
-use Rattle.sup_replica.specs.declared.refusal.Refusal.TheVariants.{Down, AlreadyUp, UnknownNode, StaleExit, BadMessage, WrongReceiver, CountSpent, KeepFailed, NoSuchMessage}
+use Rattle.sup_replica.specs.declared.refusal.Refusal.TheVariants.{Down, AlreadyUp, UnknownNode, BadMessage, WrongReceiver, CountSpent, KeepFailed, NoSuchMessage}
 use Rattle.sup_replica.specs.Checks.{refused_if, then_do}
 use Rattle.sup_placement.specs.Place.{Weigher}
-use Rattle.sup_model.specs.Worlds.{Setting, Ops, World, Site, Answer, Stepped, site_of, with_site, message_of, or_refused, acted, target_is_here, step, new}
-use Rattle.sup_replica.specs.Nodes.{Node, Kind, delta, push, ack, Message, Outcome, by_operations, is_named, wanted_at, fresh}
-use Rattle.sup_replica.specs.Nodes.{Told}
-use Rattle.sup_replica.specs.Steps.{wanted, reading, issues, command, exit_step, event_step, up_step, passes_greatest, with_own}
-use Rattle.sup_replica.specs.Commands as commands
-use Rattle.sup_replica.specs.Acts.{reconciled, stopped, booted, act_step, absorbs, takes, deliver, kept_by, answer_to, changes, keeps}
+use Rattle.sup_model.specs.Worlds.{Setting, Ops, World, Site, Answer, Stepped, site_of, message_of, or_refused, acted, target_is_here, step, new}
+use Rattle.sup_replica.specs.Nodes.{Node, Kind, delta, push, ack, Message, Outcome, by_operations, is_named, wanted_at}
+use Rattle.sup_replica.specs.Steps.{wanted, issues, command, exit_step, up_step, passes_greatest, with_own}
+use Rattle.sup_replica.specs.Acts.{reconciled, stopped, booted, act_step, absorbs, takes, deliver, kept_by, keeps}
 use Rattle.sup_replica.specs.Steps.{only, push_step}
 use Rattle.sup_model.specs.declared.step.Step.{Step}
 use Rattle.sup_model.specs.declared.step.Step.TheVariants.{Node as AtNode, Deliver as Delivery, Raw}

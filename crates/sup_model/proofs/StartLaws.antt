@@ -1,5 +1,5 @@
 -- What the effects of answers leave started is what is kept, in its order: over nodes, worlds and runs.
-use Rattle.std.specs.Prelude.{◌≡◌, ℕ, ◌+◌, ◌==◌, Bool, true, false, cond, not, ◌&&◌, List, [], ◌∷◌, ◌++◌, map, reverse, Option, Some, None, Result, Ok, Err, refl, if◌then◌else◌, unwrap_or}
+use Rattle.std.specs.Prelude.{◌≡◌, ℕ, ◌+◌, ◌==◌, Bool, true, false, not, List, [], ◌∷◌, ◌++◌, map, reverse, Option, Some, None, Result, Ok, Err, refl, if◌then◌else◌, unwrap_or}
 use Rattle.std.specs.List.{AllByRecursion}
 use Rattle.std.specs.Map.{keys_of, lookup}
 use Rattle.std.specs.Str.{bytes_eq}
@@ -8,15 +8,15 @@ use Rattle.std.specs.Ordering.{is_eq}
 use Rattle.std.proofs.Common.{sym, ap, ◌∙◌, subst}
 use Rattle.std.proofs.lemmas.Cmp.{eq_by_cmp_equiv}
 use mathlib.Core.Logic.{inl, inr}
-use Rattle.sup_specs.specs.Values.{Bytes, text_cmp}
+use Rattle.sup_specs.specs.Values.{Bytes}
 use Rattle.sup_specs.specs.OrderLaws.{text_total}
 use Rattle.sup_tables.specs.Operations.{Operation, live, covers}
 use Rattle.sup_tables.specs.Makers.{drop_member, finish_child}
-use Rattle.sup_local_sup.specs.declared.leaving.Leaving.TheVariants.{Nobody, Finished as finished, GaveUp as gave_up}
+use Rattle.sup_local_sup.specs.declared.leaving.Leaving.TheVariants.{Finished as finished, GaveUp as gave_up}
 use Rattle.sup_local_sup.specs.declared.leaving.Ruling.{Ruling}
 use Rattle.sup_local_sup.specs.declared.leaving.Ruling.TheVariants.{Stale, Restart as Again, Finish, GiveUp}
 use Rattle.sup_local_sup.specs.declared.effect.Incarnation.{Incarnation}
-use Rattle.sup_local_sup.specs.Keeping.{Kept, stop}
+use Rattle.sup_local_sup.specs.Keeping.{stop}
 use Rattle.sup_local_sup.specs.Planning.{left, ruling}
 use Rattle.sup_local_sup.specs.Supervising.{others, wanted_effects}
 use Rattle.sup_placement.specs.Place.{Weigher}
@@ -25,13 +25,13 @@ use Rattle.sup_replica.specs.declared.event.Event.TheVariants.{Join, Leave, Drai
 use Rattle.sup_replica.specs.declared.event.Act.TheVariants.{Event as Of, Stop, Restart}
 use Rattle.sup_replica.specs.declared.event.Act.{Act}
 use Rattle.sup_replica.specs.declared.done.Reply.{Reply}
-use Rattle.sup_replica.specs.declared.done.Reply.TheVariants.{Sent, Stopped, Boot, Finished, GaveUp}
+use Rattle.sup_replica.specs.declared.done.Reply.TheVariants.{Sent, Stopped, Boot}
 use Rattle.sup_replica.specs.declared.refusal.Refusal.{Refusal}
-use Rattle.sup_replica.specs.declared.refusal.Refusal.TheVariants.{Down, AlreadyUp, UnknownNode, BadMessage, WrongReceiver, CountSpent, KeepFailed, NoSuchMessage}
+use Rattle.sup_replica.specs.declared.refusal.Refusal.TheVariants.{Down, AlreadyUp, UnknownNode, BadMessage, WrongReceiver, NoSuchMessage}
 use Rattle.sup_replica.specs.Acts.{reconciled, stopped, booted, act_step, absorbs, takes, deliver, kept_by, keeps}
 use Rattle.sup_replica.specs.Checks.{refused_if, then_do}
 use Rattle.sup_replica.specs.Nodes.{Node, Kind, delta, push, ack, Message, Outcome, by_operations, is_named}
-use Rattle.sup_replica.specs.Steps.{wanted, issues, command, exit_step, up_step, passes_greatest, with_own, only, push_step}
+use Rattle.sup_replica.specs.Steps.{wanted, command, exit_step, up_step, with_own, only, push_step}
 use Rattle.sup_model.specs.declared.step.Step.{Step}
 use Rattle.sup_model.specs.declared.step.Step.TheVariants.{Node as AtNode, Deliver as Delivery, Raw}
 use Rattle.sup_model.specs.Runs.{world_after, answer_of, Allows, Run}
