@@ -110,7 +110,7 @@ module _ {K : Type 0} (k : Knowledge K) (view : View K) (laws : Laws k view) whe
     pub letter : o.letter ≡ l
     pub fits : passes_greatest o.node ≡ false
 
-  absorbs_letter : (g : Weigher) (m : Node Ops) (more : Ops) (b : Option (Message Ops)) (c : Bool) → (absorbs by_operations g m more b c).letter ≡ b
+  pub absorbs_letter : (g : Weigher) (m : Node Ops) (more : Ops) (b : Option (Message Ops)) (c : Bool) → (absorbs by_operations g m more b c).letter ≡ b
   absorbs_letter g m more b true = refl
   absorbs_letter g m more b false = refl
 

@@ -30,3 +30,4 @@ pub mod RunLists
 pub mod Messages
 pub mod MainLaws
 pub mod NodeLaws
+pub mod StationLaws

@@ -228,6 +228,7 @@ run_tells ids w (s ∷ steps) (answer ∷ rest) w' run good kept =
         → AllByRecursion (λ (t : Site). ids_at t.node ≡ started_at t.node.name (ids t.node.name) (s ∷ steps) (answer ∷ rest)) sites
     go [] a = tt
     go (t ∷ sites) a = (a.0 ∙ later ids s steps answer rest t.node.name, go sites a.1)
+
     each : KeptWorld (λ name. started_at name (next_ids ids s answer name) steps rest) w' → KeptWorld (λ name. started_at name (ids name) (s ∷ steps) (answer ∷ rest)) w'
     each a = go w'.sites a
 run_tells ids w [] (answer ∷ rest) w' run good kept = absurd run

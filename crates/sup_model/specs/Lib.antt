@@ -16,3 +16,4 @@ pub mod Arrivals
 pub mod ChildRestarts
 pub mod Memory
 pub mod OneNode
+pub mod OneStation

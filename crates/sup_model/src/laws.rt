@@ -5,6 +5,7 @@ ghost use Rattle.sup_model.specs.Arrivals.{BytesArrive, OtherBytesAreRefused};
 ghost use Rattle.sup_model.specs.ChildRestarts.{RestartsStay};
 ghost use Rattle.sup_model.specs.Memory.{StopsAreAnswered, FirstChecksComeFirst};
 ghost use Rattle.sup_model.specs.OneNode.{ActsStand, DeliveriesStand};
+ghost use Rattle.sup_model.specs.OneStation.{PlainActsStand, ShipsStand, MailStands};
 ghost use Rattle.sup_model.specs.Shipments.{ShipmentIsEnough};
 
 /// After any list of steps from a new world, answered as they may be: what the code has of a node stands for the operations
@@ -75,4 +76,12 @@ pub fn memory_is_wanted_late()
 pub fn a_node_answers_as_its_definition()
     ensures acts { ActsStand }
     ensures deliveries { DeliveriesStand }
+{}
+
+/// So does a station, but for which deltas a ship sends; and a ship that isn't refused is up to date exactly where all changes
+/// are acknowledged.
+pub fn a_station_answers_as_its_node()
+    ensures acts { PlainActsStand }
+    ensures ships { ShipsStand }
+    ensures mail { MailStands }
 {}
