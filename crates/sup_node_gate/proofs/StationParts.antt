@@ -1,5 +1,5 @@
 -- A station and its parts, and acts of the one as acts of the other.
-use Rattle.std.proofs.Common.{◌≡◌, ◌<◌, ◌≤◌, ◌+◌, ℕ, Bool, true, false, List, [], ◌∷◌, ◌++◌, refl, ap, ◌∙◌, sym, subst, arith, Some, None, Ok, Err}
+use Rattle.std.proofs.Common.{◌≡◌, ◌≢◌, ◌<◌, ◌≤◌, ◌+◌, ℕ, Bool, true, false, List, [], ◌∷◌, ◌++◌, refl, ap, ◌∙◌, sym, subst, arith, Some, None, Ok, Err}
 use Rattle.std.specs.Prelude.{Option, Result}
 use Rattle.std.specs.Option.{option_map}
 use Rattle.sup_specs.specs.Values.{Bytes}
@@ -14,15 +14,15 @@ use Rattle.sup_station.specs.declared.station.Station.{Station}
 use Rattle.sup_node_gate.specs.declared.view.Holding.{Holding}
 use Rattle.sup_node_gate.specs.Histories.{Answer, Counted, counted_of, is_saved, count_after, Responds, entered, standing_of, is_entered, may_enter, IsEntered, entry}
 use Rattle.sup_node_gate.specs.Parts.{parts_of, counted_in, counted_at, IsLike}
-use Rattle.sup_node_gate.specs.Holdings.{Adds, AddsIfRoom, EntersIfMay}
+use Rattle.sup_node_gate.specs.Holdings.{Adds, AddsIfRoom, EntersIfMay, Saves}
 
 states : {W : Type 0} {g : _} (o : Option (Node W g)) → option_map station_in (option_map (λ n. n.state) o) ≡ option_map station_of o
 states None = refl
 states (Some n) = refl
 
 -- the parts of a station make what is seen of it
-pub parts_counted : {K W : Type 0} {g : _} {h : _} (kept : K → Bytes) (failures : K → ℕ) (s : Station K W g h) → counted_in (parts_of kept failures s) ≡ counted_of kept failures s
-parts_counted kept failures s = ap (λ o. record { still = record { name = s.name; config = s.config; node = o; kept = kept s.keeper }; failures = failures s.keeper }) (states s.node)
+pub parts_counted : {K W : Type 0} {g : _} {h : _} (kept : K → Bytes) (failures : K → ℕ) (sound : K → Bool) (s : Station K W g h) → counted_in (parts_of kept failures sound s) ≡ counted_of kept failures s
+parts_counted kept failures sound s = ap (λ o. record { still = record { name = s.name; config = s.config; node = o; kept = kept s.keeper }; failures = failures s.keeper }) (states s.node)
 
 -- a count that rises by one at most, and exactly where the refusal says that the keeper failed
 pub refused_count : (r : Refusal) (n m : ℕ) → (r ≡ KeepFailed → n < m) → (n < m → r ≡ KeepFailed) → n ≤ m → m ≤ n + 1 → m ≡ count_after (is_saved (Err r)) n
@@ -37,14 +37,27 @@ pub failed_count : {A : Type 0} (r : Refusal) (n m : ℕ) → ((let x : Result A
     → m ≡ count_after (is_saved (Err r)) n
 failed_count {A = A} r n m rose told low high = refused_count r n m (λ e. rose (ap (λ (q : Refusal). let x : Result A Refusal = Err q in x) e)) (λ lt. same_refusal {A = A} r KeepFailed (told lt)) low high
 
+saved_otherwise : (r : Refusal) → ¬ (r ≡ KeepFailed) → is_saved (Err r) ≡ true
+saved_otherwise KeepFailed no = absurd (no refl)
+saved_otherwise r no = refl
+
+-- a refusal over a keeper that is sound
+pub refused_saves : {A : Type 0} (r : Refusal) (a b : Bool) → (a ≡ true → b ≡ true) → (a ≡ true → (let x : Result A Refusal = Err r in x) ≢ Err KeepFailed) → a ≡ true → (b ≡ true) × (is_saved (Err r) ≡ true)
+refused_saves {A = A} r a b stays sound h = (stays h, saved_otherwise r (λ e. sound h (ap (λ (q : Refusal). let x : Result A Refusal = Err q in x) e)))
+
 module _ (g : Weigher) (act : Act) (now : ℕ) where
   pub responds_as : (answer : Answer) (s t x y : Counted) → x ≡ s → y ≡ t → Responds g s act now answer t → Responds g x act now answer y
   responds_as answer s t x y e f r = subst (λ (z : Counted × Counted). Responds g z.0 act now answer z.1) (λ i. (sym e i, sym f i)) r
 
   -- what is made of a holding is made of one like it
   pub adds_like : (answer : Option Answer) (h k h' : Holding) → IsLike h k → AddsIfRoom g h act now answer h' → AddsIfRoom g k act now answer h'
-  adds_like (Some answer) h k h' like x = (x.0, x.1 ∙ ap (λ (l : List _). l ++ entry act now answer ∷ []) like.0, subst (λ (s : Counted). Responds g s act now answer (counted_at h')) like.1 x.2)
-  adds_like None h k h' like x = (x.0 ∙ like.0, x.1 ∙ like.1)
+  adds_like (Some answer) h k h' like x = (
+    x.0,
+    x.1 ∙ ap (λ (l : List _). l ++ entry act now answer ∷ []) like.0,
+    subst (λ (s : Counted). Responds g s act now answer (counted_at h')) like.1 x.2,
+    λ s. x.3 (like.2 s),
+  )
+  adds_like None h k h' like x = (x.0 ∙ like.0, x.1 ∙ like.1, λ s. x.2 (like.2 s))
 
 pub enters : (r : Refusal) → is_entered r ≡ true → standing_of r ≡ entered
 enters HistoryFull e = absurd cc
@@ -68,7 +81,7 @@ module _ (g : Weigher) (act : Act) (now : ℕ) where
       (λ i. record { still = still i; failures = count i })
 
   -- an act that was answered, once its answer was entered
-  pub adds : (answer : Answer) (result : Option Answer) (h h' : Holding) → Responds g (counted_at h) act now answer (counted_at h') → EntersIfMay h.history act now answer result h'.history → AddsIfRoom g h act now result h'
-  adds answer (Some told) h h' r x =
-      subst (λ (a : Answer). Adds g h act now a h') (sym x.0) (is_told answer x.1, x.2, r)
-  adds answer None h h' r x = (x.1, unentered answer (counted_at h) (counted_at h') r x.0)
+  pub adds : (answer : Answer) (result : Option Answer) (h h' : Holding) → Responds g (counted_at h) act now answer (counted_at h') → Saves h.parts answer h'.parts → EntersIfMay h.history act now answer result h'.history → AddsIfRoom g h act now result h'
+  adds answer (Some told) h h' r saves x =
+      subst (λ (a : Answer). Adds g h act now a h') (sym x.0) (is_told answer x.1, x.2, r, saves)
+  adds answer None h h' r saves x = (x.1, unentered answer (counted_at h) (counted_at h') r x.0, λ s. (saves s).0)
