@@ -10,6 +10,7 @@ use Rattle.sup_model.specs.Worlds.{World}
 use Rattle.sup_world.specs.declared.settled.Settled.{Settled}
 use Rattle.sup_world.specs.Following.{StandsFor}
 use Rattle.sup_world.specs.Seen.{Seen}
+use Rattle.sup_world.specs.Settlements.{SettlesBy}
 use Rattle.sup_world.specs.Settling.{SettlesTo}
 use Rattle.sup_cluster.specs.Runs as threads
 use Rattle.sup_certify.specs.Certified.{MakeRun, IsNewWorld}
@@ -29,9 +30,10 @@ pub record IsCertified (weigher : Weigher) (plan : Plan) (steps : List Step) (si
   pub makes : MakeRun weigher plan.config plan.nodes.items histories steps sites
   pub headline : (is_message : Bytes → Bool) → KnowsAll is_message steps → HasHeadline weigher plan.config plan.nodes.items is_message histories steps sites
 
--- the nodes settle, as the model's do
+-- the nodes settle by steps of their world, and as the model's do
 abbrev pub SettlesFrom : Weigher → List Seen → List Seen → Type 0
-SettlesFrom weigher sites after = (model : World) → StandsFor weigher sites model → (settled : Settled) × SettlesTo weigher model (Ok settled) after
+SettlesFrom weigher sites after =
+    (settled : Settled) × SettlesBy weigher sites (Ok settled) after × ((model : World) → StandsFor weigher sites model → SettlesTo weigher model (Ok settled) after)
 
 -- the run is certified, its nodes settle, and this is what is printed of them
 pub record PrintsCluster (weigher : Weigher) (plan : Plan) (said : List ℕ) : Type 0 where
