@@ -38,8 +38,8 @@ pub failed_count : {A : Type 0} (r : Refusal) (n m : ℕ) → ((let x : Result A
 failed_count {A = A} r n m rose told low high = refused_count r n m (λ e. rose (ap (λ (q : Refusal). let x : Result A Refusal = Err q in x) e)) (λ lt. same_refusal {A = A} r KeepFailed (told lt)) low high
 
 saved_otherwise : (r : Refusal) → ¬ (r ≡ KeepFailed) → is_saved (Err r) ≡ true
-saved_otherwise KeepFailed no = absurd (no refl)
-saved_otherwise r no = refl
+saved_otherwise KeepFailed other = absurd (other refl)
+saved_otherwise r other = refl
 
 -- a refusal over a keeper that is sound
 pub refused_saves : {A : Type 0} (r : Refusal) (a b : Bool) → (a ≡ true → b ≡ true) → (a ≡ true → (let x : Result A Refusal = Err r in x) ≢ Err KeepFailed) → a ≡ true → (b ≡ true) × (is_saved (Err r) ≡ true)
