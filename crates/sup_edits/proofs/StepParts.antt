@@ -2,7 +2,6 @@
 use Rattle.std.proofs.Common.{◌≡◌, List, [], ◌∷◌, ◌++◌, map, Ordering, Less, refl, ap, sym, subst}
 use Rattle.std.specs.List.{AllByRecursion}
 use Rattle.std.specs.List.Sorted.{IsStrictlySortedBy}
-use Rattle.sup_edits.specs.declared.edit.Edit.{Edit}
 use Rattle.sup_edits.specs.declared.edit.Edit.TheVariants.{Comes, Goes}
 use Rattle.sup_edits.specs.Steps.{Step, stays, comes, goes, item_of, AreOrdered, edits_in, old_items, new_items}
 
