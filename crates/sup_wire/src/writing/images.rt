@@ -15,9 +15,9 @@ ghost use Rattle.sup_wire.specs.Writing.{parts_lent};
 
 use crate::image::Image;
 use crate::lent_image::LentImage;
+use crate::row_item::RowItem;
 use crate::writing::fronts::front_after;
 use crate::writing::lending::{LentParts, lent_parts, lent_rows};
-use crate::row_item::RowItem;
 use std::alloc::AllocError;
 use sup_array_text::{ArrayBuilding, ArrayText};
 use sup_specs::NodeName;
@@ -57,10 +57,7 @@ pub(crate) fn closed(made: ArrayBuilding) -> Result<ArrayText, AllocError>
 }
 
 // With the texts of these rows.
-fn with_texts(
-    made: ArrayBuilding,
-    rows: &[LentRow<'_>],
-) -> Result<ArrayBuilding, AllocError>
+fn with_texts(made: ArrayBuilding, rows: &[LentRow<'_>]) -> Result<ArrayBuilding, AllocError>
     ensures front { IfOk result (λ all. all.front ≡ made.front) }
     ensures items { IfOk result (λ all. all.items ≡ made.items ++ map row_text (rows_lent rows.now)) }
     ensures written { IfOk result (λ all. AllByRecursion IsWritten (rows_lent rows.now)) }
