@@ -25,7 +25,7 @@ new-append (stays x ∷ ss) ts = ap (λ xs. x ∷ xs) (new-append ss ts)
 new-append (comes x ∷ ss) ts = ap (λ xs. x ∷ xs) (new-append ss ts)
 new-append (goes x ∷ ss) ts = new-append ss ts
 
-all_both : {X : Type 0} (P : X → Type 0) (ss ts : List (Step X)) → AllByRecursion P (map item_of ss) → AllByRecursion P (map item_of ts) → AllByRecursion P (map item_of (ss ++ ts))
+pub all_both : {X : Type 0} (P : X → Type 0) (ss ts : List (Step X)) → AllByRecursion P (map item_of ss) → AllByRecursion P (map item_of ts) → AllByRecursion P (map item_of (ss ++ ts))
 all_both P [] ts all rest = rest
 all_both P (s ∷ ss) ts all rest = (all.0, all_both P ss ts all.1 rest)
 
@@ -99,6 +99,6 @@ unfolding IsStrictlySortedBy
 ordered-comes cmp [] s = tt
 ordered-comes cmp (x ∷ xs) s = (subst (λ ys. AllByRecursion (λ y. cmp x y ≡ Less) ys) (sym (items-comes xs)) s.0, ordered-comes cmp xs s.1)
 
-pub ordered-goes : {X : Type 0} (cmp : X → X → Ordering) (xs : List X) → AreOrdered cmp (map goes xs)
-ordered-goes cmp [] = tt
-ordered-goes cmp (x ∷ xs) = ordered-goes cmp xs
+pub ordered_behind_goes : {X : Type 0} (cmp : X → X → Ordering) (xs : List X) (ts : List (Step X)) → AreOrdered cmp ts → AreOrdered cmp (map goes xs ++ ts)
+ordered_behind_goes cmp [] ts t = t
+ordered_behind_goes cmp (x ∷ xs) ts t = ordered_behind_goes cmp xs ts t
