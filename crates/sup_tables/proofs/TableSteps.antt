@@ -25,6 +25,10 @@ all_of_both : {X : Type 0} (P Q R : X → Type 0) → ((x : X) → P x → Q x �
 all_of_both P Q R both [] a b = tt
 all_of_both P Q R both (x ∷ xs) a b = (both x a.0 b.0, all_of_both P Q R both xs a.1 b.1)
 
+pub all_true : {X : Type 0} (xs : List X) → AllByRecursion (λ x. Unit {0}) xs
+all_true [] = tt
+all_true (x ∷ xs) = (tt, all_true xs)
+
 all_weaker : {X : Type 0} (P Q : X → Type 0) → ((x : X) → P x → Q x) → (xs : List X) → AllByRecursion P xs → AllByRecursion Q xs
 all_weaker P Q weaker [] a = tt
 all_weaker P Q weaker (x ∷ xs) a = (weaker x a.0, all_weaker P Q weaker xs a.1)
@@ -249,7 +253,7 @@ module _ {K V : Type 0} (cmp : K → K → Ordering) (total : IsTotalOrder cmp) 
           rw f (rw g (rw h (ap (λ o. rows_at (make k) (values_under o) ++ rows_in make (e ∷ es)) (sym (none_above k es (above_all k e.0 (keys_of es) less s.0))))))
     ]
 
-    pub edits_are : (ps es old : List (K × DotFun V)) → IsStrictlySortedBy cmp (keys_of ps) → AllByRecursion (λ q. found q es ≡ found q old) (keys_of ps) → edits_in (steps_after ps es) ≡ table_edits cmp make ps old
+    edits_are : (ps es old : List (K × DotFun V)) → IsStrictlySortedBy cmp (keys_of ps) → AllByRecursion (λ q. found q es ≡ found q old) (keys_of ps) → edits_in (steps_after ps es) ≡ table_edits cmp make ps old
     unfolding IsStrictlySortedBy
     edits_are [] es old sp same = edits-stays (rows_in make es)
     edits_are (p ∷ ps) es old sp same =
@@ -262,6 +266,13 @@ module _ {K V : Type 0} (cmp : K → K → Ordering) (total : IsTotalOrder cmp) 
         ∙ ap₂ (λ x y. x ++ y) (edits-stays front) (edits-append (map goes gone) (map comes come ++ rest) ∙ ap₂ (λ x y. x ++ y) (edits-goes gone) (edits-append (map comes come) rest ∙ ap₂ (λ x y. x ++ y) (edits-comes come) later))
         ∙ sym (append_assoc (map Goes gone) (map Comes come) (table_edits cmp make ps old))
         ∙ ap (λ o. (map Goes (rows_at (make p.0) (values_under o)) ++ map Comes come) ++ table_edits cmp make ps old) same.0
+
+    pub edits_of : (ps es : List (K × DotFun V)) → IsStrictlySortedBy cmp (keys_of ps) → edits_in (steps_after ps es) ≡ table_edits cmp make ps es
+    edits_of ps es sp = edits_are ps es es sp (all_same (keys_of ps))
+      where
+        all_same : (qs : List K) → AllByRecursion (λ q. found q es ≡ found q es) qs
+        all_same [] = tt
+        all_same (q ∷ qs) = (refl, all_same qs)
 
     pub old_are : (ps es : List (K × DotFun V)) → IsStrictlySortedBy cmp (keys_of es) → old_items (steps_after ps es) ≡ rows_in make es
     old_are [] es s = old-stays (rows_in make es)
