@@ -20,7 +20,7 @@ use Rattle.sup_wire.specs.RowTexts.{AreRows, row_text}
 use Rattle.sup_wire.specs.ImageTexts.{IsFront, IsHeaded, IsTextFor, image_front, image_back}
 use Rattle.sup_wire.proofs.Formed.{parts_formed}
 use Rattle.sup_wire.proofs.ImageTextLaws.{text_is, fitting}
-use Rattle.sup_image_text.specs.Next.{IsNext}
+use Rattle.sup_image_text.specs.Next.{IsEdited}
 
 -- the parts that a text is put together of are those of an image with this heading and these rows
 pub text_for : (i : Image) (t : Shown) (h : Heading) (front : Bytes) → h.boot < 2 ^ 64 → h.count < 2 ^ 64 → IsWholeImage i → IsHeaded i h → IsFront h front
@@ -45,11 +45,11 @@ each_written : (rows : List Row) → AllByRecursion (λ r. IsWritten r × (r.dot
 each_written [] all = tt
 each_written (r ∷ rs) all = (all.0.0, each_written rs all.1)
 
-pub next_is : (old : List Row) (new : Image) (texts t : Shown) (edits : List (Edit LentRow)) (h : Heading) (front : Bytes) → h.boot < 2 ^ 64 → h.count < 2 ^ 64 → AreRows old texts.items → IsNext old new edits → IsHeaded new h
+pub next_is : (old : List Row) (new : Image) (texts t : Shown) (edits : List (Edit LentRow)) (h : Heading) (front : Bytes) → h.boot < 2 ^ 64 → h.count < 2 ^ 64 → AreRows old texts.items → IsEdited old new.state.rows edits → IsHeaded new h → IsWholeImage new
     → IsFront h front → AllByRecursion (IsComing IsWritten) (map (edit_of row_lent) edits)
     → ((rows : List Row) → AreRows rows texts.items → t ≡ shown (whole front (map row_text (edited place_cmp (map (edit_of row_lent) edits) rows)) image_back) (map row_text (edited place_cmp (map (edit_of row_lent) edits) rows))) → IsTextFor new t
-next_is old new texts t edits h front fb fc was next headed fronted written made =
-    let all : AllByRecursion IsWritten new.state.rows = subst (λ rows. AllByRecursion IsWritten rows) (sym next.rows)
+next_is old new texts t edits h front fb fc was rows headed is_whole fronted written made =
+    let all : AllByRecursion IsWritten new.state.rows = subst (λ rows. AllByRecursion IsWritten rows) (sym rows)
     (all_edited place_cmp IsWritten (map (edit_of row_lent) edits) old (each_written old was.written) written) in
-    text_for new t h front fb fc next.is_whole headed fronted all
-    (made old was ∙ ap (λ rows. shown (whole front (map row_text rows) image_back) (map row_text rows)) (sym next.rows))
+    text_for new t h front fb fc is_whole headed fronted all
+    (made old was ∙ ap (λ rows. shown (whole front (map row_text rows) image_back) (map row_text rows)) (sym rows))

@@ -140,11 +140,3 @@ pub fn text_of(alloc: Global, image: &Image) -> Result<ArrayText, AllocError>
     let text = image_text_after(Vec::new(alloc), image)?;
     Ok(text)
 }
-
-/// The same of an image that is lent. An `Err` where a growth was refused.
-pub fn lent_text_of(alloc: Global, image: &LentImage<'_>) -> Result<ArrayText, AllocError>
-    ensures { IfOk result (λ t. (i : Image) → IsLentOf image.now i → IsWholeImage i → IsTextFor i t) }
-{
-    let text = lent_text_after(Vec::new(alloc), image)?;
-    Ok(text)
-}

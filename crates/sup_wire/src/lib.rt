@@ -16,12 +16,12 @@ mod writing;
 
 pub use codec::{
     decode, decode_image, encode, encode_after, encode_image, encode_image_after,
-    encode_lent_image, lent_text_of, text_of,
+    encode_lent_image, text_of,
 };
 pub use fault::WireFault;
 pub use heading::Heading;
 pub use image::Image;
-pub use image_parts::{closed_image, image_front};
+pub use image_parts::{closed_image, image_front, image_text};
 pub use lent_image::LentImage;
 pub use message::Message;
 pub use row_item::RowItem;

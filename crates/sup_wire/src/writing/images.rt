@@ -27,7 +27,7 @@ use sup_tables::LentRow;
 const ROW: usize = 128;
 
 // The text of an image by its parts, behind what the buffer has.
-fn text_by(
+pub(crate) fn text_by(
     front: Vec<u8>,
     node: &NodeName,
     boot: u64,
