@@ -4,7 +4,7 @@ use Rattle.std.specs.declared.cmp.Ordering.TheVariants.{Less}
 use Rattle.std.specs.List.{AllByRecursion}
 use Rattle.std.specs.List.Sorted.{IsStrictlySortedBy}
 use Rattle.std.specs.Map.{keys_of}
-use Rattle.std.proofs.Common.{sym, ap₂, ◌∙◌}
+use Rattle.std.proofs.Common.{sym, subst, ap₂, ◌∙◌}
 use Rattle.std.proofs.lemmas.Map.Lookups.{exact_bytes}
 use Rattle.sup_specs.specs.Values.{Bytes, text_cmp}
 use Rattle.sup_specs.specs.OrderLaws.{text_total}
@@ -21,13 +21,14 @@ use Rattle.sup_dot_store.specs.RowLists.{rows_in}
 use Rattle.sup_indexed.specs.Contents.{functions_planned}
 use Rattle.sup_tables.specs.declared.planning.PlannedTables.{PlannedTables}
 use Rattle.sup_tables.specs.declared.row.Row.{Row}
-use Rattle.sup_tables.specs.Rows.{place_cmp}
+use Rattle.sup_tables.specs.Rows.{place_cmp, AreInOrder}
 use Rattle.sup_tables.specs.RowLaws.{place_total}
 use Rattle.sup_tables.specs.States.{State}
 use Rattle.sup_tables.specs.Stored.{Values, Stored, member_row, child_row, name_row, stored_rows, state_of}
 use Rattle.sup_tables.specs.Planned.{IsPlanFor}
 use Rattle.sup_tables.specs.Edits.{table_edits}
 use Rattle.sup_tables.proofs.AfterLaws.{rows_after}
+use Rattle.sup_tables.proofs.OrderedRows.{stored_rise}
 use Rattle.sup_tables.proofs.StoredLaws.{IsOrderedStored}
 use Rattle.sup_tables.proofs.TableSteps.{entries_after, entries_rise, found_after, steps_after, edits_of, old_are, new_are, items_by, are_ordered, all_true}
 
@@ -117,8 +118,14 @@ module _ (p : PlannedTables) (a : Stored) (o : IsOrderedStored a) (om : IsStrict
       members_first
 
   -- the rows that are to stand, if the first ones stand
+  stand : (context : Context) (state : State) → IsPlanFor p (state_of context a) state → stored_rows made ≡ state.rows
+  stand context state is =
+      rows_after p context a o state is made made_ordered (λ k. found_after text_cmp text_total exact_bytes k ms a.member_values om o.member_values) (λ k. found_after text_cmp text_total exact_bytes k cs a.child_values oc o.child_values)
+      (λ k. found_after text_cmp text_total exact_bytes k ns a.name_values on o.name_values)
+
   pub edits_make : (context : Context) (state : State) → IsPlanFor p (state_of context a) state → state.rows ≡ edited place_cmp edits_told (stored_rows a)
   edits_make context state is =
-      sym (rows_after p context a o state is made made_ordered (λ k. found_after text_cmp text_total exact_bytes k ms a.member_values om o.member_values) (λ k. found_after text_cmp text_total exact_bytes k cs a.child_values oc o.child_values)
-      (λ k. found_after text_cmp text_total exact_bytes k ns a.name_values on o.name_values))
-      ∙ sym (sym (ap₂ (edited place_cmp) told old) ∙ steps_edit place_cmp place_total (member_steps ++ (child_steps ++ name_steps)) ordered ∙ new)
+      sym (stand context state is) ∙ sym (sym (ap₂ (edited place_cmp) told old) ∙ steps_edit place_cmp place_total (member_steps ++ (child_steps ++ name_steps)) ordered ∙ new)
+
+  pub stand_in_order : (context : Context) (state : State) → IsPlanFor p (state_of context a) state → AreInOrder state.rows
+  stand_in_order context state is = subst AreInOrder (stand context state is) (stored_rise made made_ordered)

@@ -5,8 +5,8 @@ ghost use Rattle.std.specs.BTreeMap.{IsOrdered};
 ghost use Rattle.sup_edits.specs.declared.edit.Edit.TheVariants.{Comes, Goes};
 ghost use Rattle.sup_edits.specs.Edits.{edited, edit_of};
 ghost use Rattle.sup_indexed.specs.Contents.{functions_of, functions_planned};
-ghost use Rattle.sup_tables.specs.Rows.{row_of, place_cmp};
-ghost use Rattle.sup_tables.specs.States.{State};
+ghost use Rattle.sup_tables.specs.Rows.{row_of, place_cmp, AreInOrder};
+ghost use Rattle.sup_tables.specs.States.{State, HasDotsOf};
 ghost use Rattle.sup_tables.specs.Stored.{values_under};
 ghost use Rattle.sup_tables.specs.Lent.{row_lent};
 ghost use Rattle.sup_tables.specs.Planned.{IsPlanFor};
@@ -31,7 +31,9 @@ impl Tables {
         alloc: Global,
         plan: &'a PlannedTables,
     ) -> Result<Vec<Edit<LentRow<'a>>>, AllocError>
-        ensures { IfOk result (λ edits. (new : State) → IsPlanFor plan.now self.now new → new.rows ≡ edited place_cmp (map (edit_of row_lent) edits.items) self.now.rows) }
+        ensures rows { IfOk result (λ edits. (new : State) → IsPlanFor plan.now self.now new → new.rows ≡ edited place_cmp (map (edit_of row_lent) edits.items) self.now.rows) }
+        ensures in_order { IfOk result (λ edits. (new : State) → IsPlanFor plan.now self.now new → AreInOrder new.rows) }
+        ensures covered { IfOk result (λ edits. (new : State) → IsPlanFor plan.now self.now new → HasDotsOf new.context new.rows) }
     {
         // For its clause: tables are in their one form.
         self.context();

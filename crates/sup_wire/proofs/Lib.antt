@@ -19,4 +19,5 @@ pub mod TextReads
 pub mod ImageTextLaws
 pub mod FrontLaws
 pub mod LentTexts
+pub mod TextProps
 pub mod Sealed

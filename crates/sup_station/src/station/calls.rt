@@ -45,10 +45,11 @@ impl<K: Keeper, W: Weigh> Station<K, W> {
     {
         let mut keeper = keeper;
         match open(alloc, name, config, &mut keeper) {
-            Ok(node) => Ok(Station {
+            Ok((node, text)) => Ok(Station {
                 name,
                 config,
                 node: Some(node),
+                texts: Some(text),
                 keeper,
                 alloc,
             }),
@@ -66,6 +67,7 @@ impl<K: Keeper, W: Weigh> Station<K, W> {
             name,
             config,
             node,
+            texts: None,
             keeper,
             alloc,
         }
@@ -135,8 +137,14 @@ impl<K: Keeper, W: Weigh> Station<K, W> {
     {
         let Prepared { next, text } = prepared;
         match text {
-            None => change_to(&mut self.node, next),
-            Some(text) => save_and_change(&mut self.keeper, &mut self.node, next, &text),
+            None => change_to(&mut self.node, &mut self.texts, next),
+            Some(text) => save_and_change(
+                &mut self.keeper,
+                &mut self.node,
+                &mut self.texts,
+                next,
+                text,
+            ),
         }
     }
 
