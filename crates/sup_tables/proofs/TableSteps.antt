@@ -39,6 +39,24 @@ data Way {K : Type 0} (cmp : K → K → Ordering) (a b : K) : Type 0 where
   same : a ≡ b → Way cmp a b
   over : cmp b a ≡ Less → cmp a b ≡ Greater → Way cmp a b
 
+way_by : {K : Type 0} {cmp : K → K → Ordering} (total : IsTotalOrder cmp) (exact : (a b : K) → cmp a b ≡ Equal → a ≡ b) (a b : K) (o : Ordering) → cmp a b ≡ o → Way cmp a b
+way_by total exact a b Less is = under is
+way_by total exact a b Equal is = same (exact a b is)
+way_by total exact a b Greater is = over (total.antisymm b a ∙ ap ordering_reverse is) is
+
+way : {K : Type 0} {cmp : K → K → Ordering} (total : IsTotalOrder cmp) (exact : (a b : K) → cmp a b ≡ Equal → a ≡ b) (a b : K) → Way cmp a b
+way {K} {cmp} total exact a b = way_by total exact a b (cmp a b) refl
+
+itself : {K : Type 0} {cmp : K → K → Ordering} (total : IsTotalOrder cmp) (k : K) → cmp k k ≡ Equal
+itself total k = tied_itself total k
+
+turned : {K : Type 0} {cmp : K → K → Ordering} (total : IsTotalOrder cmp) (a b : K) → cmp a b ≡ Less → cmp b a ≡ Greater
+turned total a b less = total.antisymm b a ∙ ap ordering_reverse less
+
+-- keys that stand above one stand above all before that
+above_all : {K : Type 0} {cmp : K → K → Ordering} (total : IsTotalOrder cmp) (k l : K) (ls : List K) → cmp k l ≡ Less → AllByRecursion (λ m. cmp l m ≡ Less) ls → AllByRecursion (λ m. cmp k m ≡ Less) ls
+above_all {K} {cmp} total k l ls less all = all_weaker (λ m. cmp l m ≡ Less) (λ m. cmp k m ≡ Less) (λ m above. total.trans k l m less above) ls all
+
 module _ {K V : Type 0} (cmp : K → K → Ordering) (total : IsTotalOrder cmp) (exact : (a b : K) → cmp a b ≡ Equal → a ≡ b) where
   -- the entries before a key, and those behind it
   abbrev front_of : K → List (K × DotFun V) → List (K × DotFun V)
@@ -54,20 +72,6 @@ module _ {K V : Type 0} (cmp : K → K → Ordering) (total : IsTotalOrder cmp) 
   entries_after [] es = es
   entries_after (p ∷ ps) es = front_of p.0 es ++ p ∷ entries_after ps (behind p.0 es)
 
-  way_by : (a b : K) (o : Ordering) → cmp a b ≡ o → Way cmp a b
-  way_by a b Less is = under is
-  way_by a b Equal is = same (exact a b is)
-  way_by a b Greater is = over (total.antisymm b a ∙ ap ordering_reverse is) is
-
-  way : (a b : K) → Way cmp a b
-  way a b = way_by a b (cmp a b) refl
-
-  itself : (k : K) → cmp k k ≡ Equal
-  itself k = tied_itself total k
-
-  turned : (a b : K) → cmp a b ≡ Less → cmp b a ≡ Greater
-  turned a b less = total.antisymm b a ∙ ap ordering_reverse less
-
   -- ---- keys
 
   front_keys : (P : K → Type 0) (k : K) (es : List (K × DotFun V)) → AllByRecursion P (keys_of es) → AllByRecursion P (keys_of (front_of k es))
@@ -76,9 +80,9 @@ module _ {K V : Type 0} (cmp : K → K → Ordering) (total : IsTotalOrder cmp) 
 
   front_below : (k : K) (es : List (K × DotFun V)) → AllByRecursion (λ l. cmp l k ≡ Less) (keys_of (front_of k es))
   front_below k [] = tt
-  front_below k (e ∷ es) = elim (way e.0 k) [
+  front_below k (e ∷ es) = elim (way total exact e.0 k) [
     | under less ↦ let t : is_lt (cmp e.0 k) ≡ true = ap is_lt less in rw t (less, front_below k es)
-    | same is ↦ let f : is_lt (cmp e.0 k) ≡ false = ap (λ l. is_lt (cmp e.0 l)) (sym is) ∙ ap is_lt (itself e.0) in rw f tt
+    | same is ↦ let f : is_lt (cmp e.0 k) ≡ false = ap (λ l. is_lt (cmp e.0 l)) (sym is) ∙ ap is_lt (itself total e.0) in rw f tt
     | over less greater ↦ let f : is_lt (cmp e.0 k) ≡ false = ap is_lt greater in rw f tt
   ]
 
@@ -90,23 +94,19 @@ module _ {K V : Type 0} (cmp : K → K → Ordering) (total : IsTotalOrder cmp) 
         | false ↦ elim (is_eq (cmp e.0 k)) as (λ b. AllByRecursion P (keys_of (cond b es (e ∷ es)))) [ true ↦ all.1 | false ↦ all ]
       ]
 
-  -- keys that rise stand above the first one, and above all before that
-  above_all : (k l : K) (ls : List K) → cmp k l ≡ Less → AllByRecursion (λ m. cmp l m ≡ Less) ls → AllByRecursion (λ m. cmp k m ≡ Less) ls
-  above_all k l ls less all = all_weaker (λ m. cmp l m ≡ Less) (λ m. cmp k m ≡ Less) (λ m above. total.trans k l m less above) ls all
-
   behind_above : (k : K) (es : List (K × DotFun V)) → IsStrictlySortedBy cmp (keys_of es) → AllByRecursion (λ l. cmp k l ≡ Less) (keys_of (behind k es))
   unfolding IsStrictlySortedBy
   behind_above k [] s = tt
-  behind_above k (e ∷ es) s = elim (way e.0 k) [
+  behind_above k (e ∷ es) s = elim (way total exact e.0 k) [
     | under less ↦ let t : is_lt (cmp e.0 k) ≡ true = ap is_lt less in rw t (behind_above k es s.1)
     | same is ↦
-        let f : is_lt (cmp e.0 k) ≡ false = ap (λ l. is_lt (cmp e.0 l)) (sym is) ∙ ap is_lt (itself e.0) in
-        let t : is_eq (cmp e.0 k) ≡ true = ap (λ l. is_eq (cmp e.0 l)) (sym is) ∙ ap is_eq (itself e.0) in
+        let f : is_lt (cmp e.0 k) ≡ false = ap (λ l. is_lt (cmp e.0 l)) (sym is) ∙ ap is_lt (itself total e.0) in
+        let t : is_eq (cmp e.0 k) ≡ true = ap (λ l. is_eq (cmp e.0 l)) (sym is) ∙ ap is_eq (itself total e.0) in
         rw f (rw t (subst (λ l. AllByRecursion (λ m. cmp l m ≡ Less) (keys_of es)) is s.0))
     | over less greater ↦
         let f : is_lt (cmp e.0 k) ≡ false = ap is_lt greater in
         let g : is_eq (cmp e.0 k) ≡ false = ap is_eq greater in
-        rw f (rw g (less, above_all k e.0 (keys_of es) less s.0))
+        rw f (rw g (less, above_all total k e.0 (keys_of es) less s.0))
   ]
 
   behind_rises : (k : K) (es : List (K × DotFun V)) → IsStrictlySortedBy cmp (keys_of es) → IsStrictlySortedBy cmp (keys_of (behind k es))
@@ -142,15 +142,15 @@ module _ {K V : Type 0} (cmp : K → K → Ordering) (total : IsTotalOrder cmp) 
 
   found_behind : (k q : K) (es : List (K × DotFun V)) → cmp k q ≡ Less → found q (behind k es) ≡ found q es
   found_behind k q [] above = refl
-  found_behind k q (e ∷ es) above = elim (way e.0 k) [
+  found_behind k q (e ∷ es) above = elim (way total exact e.0 k) [
     | under less ↦
         let t : is_lt (cmp e.0 k) ≡ true = ap is_lt less in
-        let f : is_eq (cmp q e.0) ≡ false = ap is_eq (turned e.0 q (total.trans e.0 k q less above)) in
+        let f : is_eq (cmp q e.0) ≡ false = ap is_eq (turned total e.0 q (total.trans e.0 k q less above)) in
         rw t (rw f (found_behind k q es above))
     | same is ↦
-        let f : is_lt (cmp e.0 k) ≡ false = ap (λ l. is_lt (cmp e.0 l)) (sym is) ∙ ap is_lt (itself e.0) in
-        let t : is_eq (cmp e.0 k) ≡ true = ap (λ l. is_eq (cmp e.0 l)) (sym is) ∙ ap is_eq (itself e.0) in
-        let g : is_eq (cmp q e.0) ≡ false = ap is_eq (turned e.0 q (subst (λ l. cmp l q ≡ Less) (sym is) above)) in
+        let f : is_lt (cmp e.0 k) ≡ false = ap (λ l. is_lt (cmp e.0 l)) (sym is) ∙ ap is_lt (itself total e.0) in
+        let t : is_eq (cmp e.0 k) ≡ true = ap (λ l. is_eq (cmp e.0 l)) (sym is) ∙ ap is_eq (itself total e.0) in
+        let g : is_eq (cmp q e.0) ≡ false = ap is_eq (turned total e.0 q (subst (λ l. cmp l q ≡ Less) (sym is) above)) in
         rw f (rw t (rw g refl))
     | over less greater ↦
         let f : is_lt (cmp e.0 k) ≡ false = ap is_lt greater in
@@ -161,16 +161,16 @@ module _ {K V : Type 0} (cmp : K → K → Ordering) (total : IsTotalOrder cmp) 
   found_front : (q k : K) (es tail : List (K × DotFun V)) → cmp q k ≡ Less → IsStrictlySortedBy cmp (keys_of es) → found q tail ≡ None → found q (front_of k es ++ tail) ≡ found q es
   unfolding IsStrictlySortedBy
   found_front q k [] tail below s none = none
-  found_front q k (e ∷ es) tail below s none = elim (way e.0 k) [
+  found_front q k (e ∷ es) tail below s none = elim (way total exact e.0 k) [
     | under less ↦ let t : is_lt (cmp e.0 k) ≡ true = ap is_lt less in rw t (ap (λ o. cond (is_eq (cmp q e.0)) (Some e.1) o) (found_front q k es tail below s.1 none))
     | same is ↦
-        let f : is_lt (cmp e.0 k) ≡ false = ap (λ l. is_lt (cmp e.0 l)) (sym is) ∙ ap is_lt (itself e.0) in
+        let f : is_lt (cmp e.0 k) ≡ false = ap (λ l. is_lt (cmp e.0 l)) (sym is) ∙ ap is_lt (itself total e.0) in
         let low : cmp q e.0 ≡ Less = subst (λ l. cmp q l ≡ Less) (sym is) below in
-        rw f (none ∙ sym (none_above q (e ∷ es) (low, above_all q e.0 (keys_of es) low s.0)))
+        rw f (none ∙ sym (none_above q (e ∷ es) (low, above_all total q e.0 (keys_of es) low s.0)))
     | over less greater ↦
         let f : is_lt (cmp e.0 k) ≡ false = ap is_lt greater in
         let low : cmp q e.0 ≡ Less = total.trans q k e.0 below less in
-        rw f (none ∙ sym (none_above q (e ∷ es) (low, above_all q e.0 (keys_of es) low s.0)))
+        rw f (none ∙ sym (none_above q (e ∷ es) (low, above_all total q e.0 (keys_of es) low s.0)))
   ]
 
   -- ---- the entries once these functions stand in their places
@@ -195,7 +195,7 @@ module _ {K V : Type 0} (cmp : K → K → Ordering) (total : IsTotalOrder cmp) 
       let rest = entries_after ps (behind p.0 es) in
       let above : AllByRecursion (λ q. cmp p.0 q ≡ Less) (keys_of rest) = keys_after (λ q. cmp p.0 q ≡ Less) ps (behind p.0 es) sp.0 (behind_above p.0 es s) in
       rise_behind (front_of p.0 es) (p ∷ rest) (front_rises p.0 es s) (above, entries_rise ps (behind p.0 es) sp.1 (behind_rises p.0 es s))
-      (all_weaker (λ l. cmp l p.0 ≡ Less) (λ x. AllByRecursion (λ y. cmp x y ≡ Less) (keys_of (p ∷ rest))) (λ l less. (less, above_all l p.0 (keys_of rest) less above)) (keys_of (front_of p.0 es)) (front_below p.0 es))
+      (all_weaker (λ l. cmp l p.0 ≡ Less) (λ x. AllByRecursion (λ y. cmp x y ≡ Less) (keys_of (p ∷ rest))) (λ l less. (less, above_all total l p.0 (keys_of rest) less above)) (keys_of (front_of p.0 es)) (front_below p.0 es))
 
   pub found_after : (q : K) (ps es : List (K × DotFun V)) → IsStrictlySortedBy cmp (keys_of ps) → IsStrictlySortedBy cmp (keys_of es) → found q (entries_after ps es) ≡ function_after (found q ps) (found q es)
   unfolding IsStrictlySortedBy
@@ -203,20 +203,20 @@ module _ {K V : Type 0} (cmp : K → K → Ordering) (total : IsTotalOrder cmp) 
   found_after q (p ∷ ps) es sp s =
       let rest = entries_after ps (behind p.0 es) in
       let above : AllByRecursion (λ l. cmp p.0 l ≡ Less) (keys_of rest) = keys_after (λ l. cmp p.0 l ≡ Less) ps (behind p.0 es) sp.0 (behind_above p.0 es s) in
-      elim (way q p.0) [
+      elim (way total exact q p.0) [
         | under less ↦
             let f : is_eq (cmp q p.0) ≡ false = ap is_eq less in
-            found_front q p.0 es (p ∷ rest) less s (none_above q (p ∷ rest) (less, above_all q p.0 (keys_of rest) less above))
-            ∙ sym (ap (λ b. function_after (cond b (Some p.1) (found q ps)) (found q es)) f ∙ ap (λ o. function_after o (found q es)) (none_above q ps (above_all q p.0 (keys_of ps) less sp.0)))
+            found_front q p.0 es (p ∷ rest) less s (none_above q (p ∷ rest) (less, above_all total q p.0 (keys_of rest) less above))
+            ∙ sym (ap (λ b. function_after (cond b (Some p.1) (found q ps)) (found q es)) f ∙ ap (λ o. function_after o (found q es)) (none_above q ps (above_all total q p.0 (keys_of ps) less sp.0)))
         | same is ↦
-            let t : is_eq (cmp q p.0) ≡ true = ap (λ l. is_eq (cmp q l)) (sym is) ∙ ap is_eq (itself q) in
+            let t : is_eq (cmp q p.0) ≡ true = ap (λ l. is_eq (cmp q l)) (sym is) ∙ ap is_eq (itself total q) in
             found_past q (front_of p.0 es) (p ∷ rest)
-            (all_weaker (λ l. cmp l p.0 ≡ Less) (λ l. is_eq (cmp q l) ≡ false) (λ l less. ap is_eq (turned l q (subst (λ k. cmp l k ≡ Less) (sym is) less))) (keys_of (front_of p.0 es)) (front_below p.0 es))
+            (all_weaker (λ l. cmp l p.0 ≡ Less) (λ l. is_eq (cmp q l) ≡ false) (λ l less. ap is_eq (turned total l q (subst (λ k. cmp l k ≡ Less) (sym is) less))) (keys_of (front_of p.0 es)) (front_below p.0 es))
             ∙ ap (λ b. cond b (Some p.1) (found q rest)) t ∙ sym (ap (λ b. function_after (cond b (Some p.1) (found q ps)) (found q es)) t)
         | over less greater ↦
             let f : is_eq (cmp q p.0) ≡ false = ap is_eq greater in
             found_past q (front_of p.0 es) (p ∷ rest)
-            (all_weaker (λ l. cmp l p.0 ≡ Less) (λ l. is_eq (cmp q l) ≡ false) (λ l low. ap is_eq (turned l q (total.trans l p.0 q low less))) (keys_of (front_of p.0 es)) (front_below p.0 es))
+            (all_weaker (λ l. cmp l p.0 ≡ Less) (λ l. is_eq (cmp q l) ≡ false) (λ l low. ap is_eq (turned total l q (total.trans l p.0 q low less))) (keys_of (front_of p.0 es)) (front_below p.0 es))
             ∙ ap (λ b. cond b (Some p.1) (found q rest)) f
             ∙ found_after q ps (behind p.0 es) sp.1 (behind_rises p.0 es s)
             ∙ ap (λ o. function_after (found q ps) o) (found_behind p.0 q es less)
@@ -235,37 +235,37 @@ module _ {K V : Type 0} (cmp : K → K → Ordering) (total : IsTotalOrder cmp) 
     split : (k : K) (es : List (K × DotFun V)) → IsStrictlySortedBy cmp (keys_of es) → rows_in make es ≡ rows_in make (front_of k es) ++ (rows_at (make k) (values_under (found k es)) ++ rows_in make (behind k es))
     unfolding IsStrictlySortedBy
     split k [] s = refl
-    split k (e ∷ es) s = elim (way e.0 k) [
+    split k (e ∷ es) s = elim (way total exact e.0 k) [
       | under less ↦
           let t : is_lt (cmp e.0 k) ≡ true = ap is_lt less in
-          let f : is_eq (cmp k e.0) ≡ false = ap is_eq (turned e.0 k less) in
+          let f : is_eq (cmp k e.0) ≡ false = ap is_eq (turned total e.0 k less) in
           rw t (rw f (ap (λ rs. rows_at (make e.0) (values_of e.1).entries ++ rs) (split k es s.1)
           ∙ sym (append_assoc (rows_at (make e.0) (values_of e.1).entries) (rows_in make (front_of k es)) (rows_at (make k) (values_under (found k es)) ++ rows_in make (behind k es)))))
       | same is ↦
-          let f : is_lt (cmp e.0 k) ≡ false = ap (λ l. is_lt (cmp e.0 l)) (sym is) ∙ ap is_lt (itself e.0) in
-          let t : is_eq (cmp e.0 k) ≡ true = ap (λ l. is_eq (cmp e.0 l)) (sym is) ∙ ap is_eq (itself e.0) in
-          let g : is_eq (cmp k e.0) ≡ true = ap (λ l. is_eq (cmp l e.0)) (sym is) ∙ ap is_eq (itself e.0) in
+          let f : is_lt (cmp e.0 k) ≡ false = ap (λ l. is_lt (cmp e.0 l)) (sym is) ∙ ap is_lt (itself total e.0) in
+          let t : is_eq (cmp e.0 k) ≡ true = ap (λ l. is_eq (cmp e.0 l)) (sym is) ∙ ap is_eq (itself total e.0) in
+          let g : is_eq (cmp k e.0) ≡ true = ap (λ l. is_eq (cmp l e.0)) (sym is) ∙ ap is_eq (itself total e.0) in
           rw f (rw t (rw g (ap (λ l. rows_at (make l) (values_of e.1).entries ++ rows_in make es) is)))
       | over less greater ↦
           let f : is_lt (cmp e.0 k) ≡ false = ap is_lt greater in
           let g : is_eq (cmp e.0 k) ≡ false = ap is_eq greater in
           let h : is_eq (cmp k e.0) ≡ false = ap is_eq less in
-          rw f (rw g (rw h (ap (λ o. rows_at (make k) (values_under o) ++ rows_in make (e ∷ es)) (sym (none_above k es (above_all k e.0 (keys_of es) less s.0))))))
+          rw f (rw g (rw h (ap (λ o. rows_at (make k) (values_under o) ++ rows_in make (e ∷ es)) (sym (none_above k es (above_all total k e.0 (keys_of es) less s.0))))))
     ]
 
     edits_are : (ps es old : List (K × DotFun V)) → IsStrictlySortedBy cmp (keys_of ps) → AllByRecursion (λ q. found q es ≡ found q old) (keys_of ps) → edits_in (steps_after ps es) ≡ table_edits cmp make ps old
     unfolding IsStrictlySortedBy
-    edits_are [] es old sp same = edits-stays (rows_in make es)
-    edits_are (p ∷ ps) es old sp same =
+    edits_are [] es old sp alike = edits-stays (rows_in make es)
+    edits_are (p ∷ ps) es old sp alike =
         let front = rows_in make (front_of p.0 es) in
         let gone = rows_at (make p.0) (values_under (found p.0 es)) in
         let come = rows_at (make p.0) (values_of p.1).entries in
         let rest = steps_after ps (behind p.0 es) in
-        let later = edits_are ps (behind p.0 es) old sp.1 (all_of_both (λ q. cmp p.0 q ≡ Less) (λ q. found q es ≡ found q old) (λ q. found q (behind p.0 es) ≡ found q old) (λ q less is. found_behind p.0 q es less ∙ is) (keys_of ps) sp.0 same.1) in
+        let later = edits_are ps (behind p.0 es) old sp.1 (all_of_both (λ q. cmp p.0 q ≡ Less) (λ q. found q es ≡ found q old) (λ q. found q (behind p.0 es) ≡ found q old) (λ q less is. found_behind p.0 q es less ∙ is) (keys_of ps) sp.0 alike.1) in
         edits-append (map stays front) (map goes gone ++ (map comes come ++ rest))
         ∙ ap₂ (λ x y. x ++ y) (edits-stays front) (edits-append (map goes gone) (map comes come ++ rest) ∙ ap₂ (λ x y. x ++ y) (edits-goes gone) (edits-append (map comes come) rest ∙ ap₂ (λ x y. x ++ y) (edits-comes come) later))
         ∙ sym (append_assoc (map Goes gone) (map Comes come) (table_edits cmp make ps old))
-        ∙ ap (λ o. (map Goes (rows_at (make p.0) (values_under o)) ++ map Comes come) ++ table_edits cmp make ps old) same.0
+        ∙ ap (λ o. (map Goes (rows_at (make p.0) (values_under o)) ++ map Comes come) ++ table_edits cmp make ps old) alike.0
 
     pub edits_of : (ps es : List (K × DotFun V)) → IsStrictlySortedBy cmp (keys_of ps) → edits_in (steps_after ps es) ≡ table_edits cmp make ps es
     edits_of ps es sp = edits_are ps es es sp (all_same (keys_of ps))
@@ -326,7 +326,7 @@ module _ {K V : Type 0} (cmp : K → K → Ordering) (total : IsTotalOrder cmp) 
 
     values_below : (k : K) (e : Dot × V) (vs : List (Dot × V)) → AllByRecursion (λ d. dot_cmp e.0 d ≡ Less) (keys_of vs) → AllByRecursion (λ r. place (make k e.0 e.1) r ≡ Less) (rows_at (make k) vs)
     values_below k e [] all = tt
-    values_below k e (f ∷ vs) all = (agree k e.0 e.1 k f.0 f.1 ∙ ap (λ o. ordering_then o (dot_cmp e.0 f.0)) (itself k) ∙ all.0, values_below k e vs all.1)
+    values_below k e (f ∷ vs) all = (agree k e.0 e.1 k f.0 f.1 ∙ ap (λ o. ordering_then o (dot_cmp e.0 f.0)) (itself total k) ∙ all.0, values_below k e vs all.1)
 
     values_rise : (k : K) (vs : List (Dot × V)) → IsStrictlySortedBy dot_cmp (keys_of vs) → IsStrictlySortedBy place (rows_at (make k) vs)
     unfolding IsStrictlySortedBy
@@ -357,7 +357,7 @@ module _ {K V : Type 0} (cmp : K → K → Ordering) (total : IsTotalOrder cmp) 
         subst (λ xs. AreBefore place xs (map item_of (map goes gone ++ (map comes come ++ rest)))) (sym (items-stays front))
         (rows_by (λ l. cmp l p.0 ≡ Less) (λ x. AllByRecursion (λ y. place x y ≡ Less) (map item_of (map goes gone ++ (map comes come ++ rest))))
         (λ l d v less. before_all l d v less gone come rest (at_key (λ y. place (make l d v) y ≡ Less) p.0 (λ f w. below_made l d v p.0 f w less) (values_under (found p.0 es))) (at_key (λ y. place (make l d v) y ≡ Less) p.0 (λ f w. below_made l d v p.0 f w less) (values_of p.1).entries)
-        (items_by (λ m. cmp l m ≡ Less) (λ y. place (make l d v) y ≡ Less) (λ m f w low. below_made l d v m f w low) ps (behind p.0 es) (above_all l p.0 (keys_of ps) less sp.0) (above_all l p.0 (keys_of (behind p.0 es)) less above)))
+        (items_by (λ m. cmp l m ≡ Less) (λ y. place (make l d v) y ≡ Less) (λ m f w low. below_made l d v m f w low) ps (behind p.0 es) (above_all total l p.0 (keys_of ps) less sp.0) (above_all total l p.0 (keys_of (behind p.0 es)) less above)))
         (front_of p.0 es) (front_below p.0 es)) in
         ordered-append place (map stays front) (map goes gone ++ (map comes come ++ rest)) (ordered-stays place front (rows_rise (front_of p.0 es) (front_rises p.0 es s)))
         (ordered_behind_goes place gone (map comes come ++ rest) (ordered-append place (map comes come) rest (ordered-comes place come (values_rise p.0 (values_of p.1).entries p.1.ordered)) (are_ordered ps (behind p.0 es) sp.1 (behind_rises p.0 es s)) come_first))
