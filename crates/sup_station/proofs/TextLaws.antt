@@ -1,6 +1,6 @@
 -- The texts that stand beside a station's node, and those of its next image.
 use Rattle.std.specs.Prelude.{◌≡◌, Bool, true, false, IsSome, List, Option, Some, None}
-use Rattle.std.proofs.Common.{refl, subst}
+use Rattle.std.proofs.Common.{refl, sym, ap, subst, ◌∙◌}
 use Rattle.sup_array_text.specs.Arrays.{Shown}
 use Rattle.sup_tables.specs.declared.row.Row.{Row}
 use Rattle.sup_tables.specs.States.{State}
@@ -39,3 +39,12 @@ unsaved_rows n Nothing is = refl
 unsaved_rows n (Begins id now) is = refl
 unsaved_rows n (Acknowledges from m) is = refl
 unsaved_rows n (Learns l) is = absurd cc
+
+-- texts that were those of the rows stay so
+pub stays_written : (n m : Station State) (change : Change) (texts : Option Shown) → m ≡ station_after n change → saves change ≡ false → AreTextsOf (Some n.node.known.rows) texts → AreTextsOf (Some m.node.known.rows) texts
+stays_written n m change texts is unsaved are =
+    subst (λ (rows : List Row). AreTextsOf (Some rows) texts) (sym (ap (λ (s : Station State). s.node.known.rows) is ∙ unsaved_rows n change unsaved)) are
+
+-- and those that were saved are those of the rows that are known then
+pub becomes_written : (node next : Option (Station State)) (text : Shown) → node ≡ next → AreTextsOf (rows_known next) (Some text) → AreTextsOf (rows_known node) (Some text)
+becomes_written node next text is are = subst (λ (n : Option (Station State)). AreTextsOf (rows_known n) (Some text)) (sym is) are
