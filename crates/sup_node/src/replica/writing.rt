@@ -17,10 +17,7 @@ use sup_wire::Heading;
 
 impl Replica {
     // Its image once a delta is taken in.
-    pub(crate) fn next_image<'a>(
-        &'a self,
-        intake: &'a Intake,
-    ) -> Result<NextImage<'a>, AllocError>
+    pub(crate) fn next_image<'a>(&'a self, intake: &'a Intake) -> Result<NextImage<'a>, AllocError>
         requires { self.now.count < MOST }
         ensures { IfOk result (λ next. (new : State) → Makes intake.now self.now.known new → IsNext self.now.known.rows (image_with self.now new) next) }
     {
