@@ -13,7 +13,7 @@ import sys
 
 from scaling.charts import Axis, Line, Panel, drawing
 from scaling.counts import Counts
-from scaling.exchanges import WAYS
+from scaling.exchanges import DOT_BYTES, ROW_BYTES, WAYS
 from scaling.paper import Plan
 from scaling.players import Node, Wrong
 from scaling.times import Times
@@ -21,7 +21,7 @@ from scaling.times import Times
 TOP = pathlib.Path(__file__).resolve().parent.parent
 WAY_COLOURS = {name: colour for colour, name in enumerate(WAYS)}
 COUNTS, TIMES = ("nodes", "rows", "buffer", "away", "images"), ("steps", "placing", "processes")
-ROW, IMAGE, ENTRY, GAP, PART_ROW = 92.3, 74, 8, 12.8, 103.8  # bytes, as docs/SCALE.md has them
+IMAGE, ENTRY = 94, 8  # bytes of an image beside its rows and context, and of a node in a vector
 
 
 class Found:
@@ -86,27 +86,27 @@ LOOKS = {
         ("rounds", "Rounds by nodes, 1,000 rows", NODES_AXIS, Axis("rounds"), lambda: []),
         ("losses", "Rounds by losses, 16 nodes, 100 rows", Axis("messages lost, of a hundred", "%"), Axis("rounds"), lambda: []),
         ("messages", "Messages by nodes, 1,000 rows", NODES_AXIS, Axis("messages, acknowledgements among them", is_log=True), lambda: []),
-        ("bytes", "Bytes by nodes, 1,000 rows", NODES_AXIS, LOG_BYTES, lambda: [formula("(n - 1) x rows", spread(2, 16), lambda n: (n - 1) * 1000 * ROW)])]),
+        ("bytes", "Bytes by nodes, 1,000 rows", NODES_AXIS, LOG_BYTES, lambda: [formula("(n - 1) x rows", spread(2, 16), lambda n: (n - 1) * 1000 * ROW_BYTES)])]),
     "rows": ("Bytes by rows, of eight nodes, none lost", [
-        ("known", "Until all know all", ROWS_AXIS, LOG_BYTES, lambda: [formula("7 x rows", spread(100, 10_000), lambda rows: 7 * rows * ROW)]),
+        ("known", "Until all know all", ROWS_AXIS, LOG_BYTES, lambda: [formula("7 x rows", spread(100, 10_000), lambda rows: 7 * rows * ROW_BYTES)]),
         ("quiet", "Until nobody has anything to ship", ROWS_AXIS, LOG_BYTES, lambda: [
-            formula("8 x rows", spread(100, 10_000), lambda rows: 8 * rows * ROW),
-            formula("56 x rows", spread(100, 10_000), lambda rows: 56 * rows * ROW)])]),
+            formula("8 x rows", spread(100, 10_000), lambda rows: 8 * rows * ROW_BYTES),
+            formula("56 x rows", spread(100, 10_000), lambda rows: 56 * rows * ROW_BYTES)])]),
     "buffer": ("Parts and wholes", [
         ("ship", "One ship by a node of 1,000 rows", Axis("changes since the last acknowledgement", is_log=True), LOG_BYTES, lambda: [
-            formula("part", spread(1, 1000), lambda changes: 90 + PART_ROW * changes),
-            formula("whole", spread(1, 1000), lambda changes: 100 + ROW * (1000 + changes))]),
+            formula("part", spread(1, 1000), lambda changes: 90 + (ROW_BYTES + DOT_BYTES) * changes),
+            formula("whole", spread(1, 1000), lambda changes: 100 + ROW_BYTES * (1000 + changes))]),
         ("news", "80 rows come to 1,000 in ten rounds, 8 nodes, all to all", Axis("buffer, changes", is_log=True), LOG_BYTES, lambda: [])]),
     "away": ("Some of eight nodes are away for five rounds, 1,000 rows", [
         ("bytes", "Bytes from then until all know all, all to all", Axis("nodes away"), BYTES, lambda: [
-            formula("7 x image a stop", (0, 7), lambda away: 7 * away * 1000 * ROW)]),
+            formula("7 x image a stop", (0, 7), lambda away: 7 * away * 1000 * ROW_BYTES)]),
         ("rounds", "Rounds from then until all know all, where they stop", Axis("nodes away"), Axis("rounds"), lambda: [])]),
     "images": ("Texts by what they have", [
         ("nodes", "An image without rows, by nodes that ever were", NODES_AXIS, BYTES, lambda: [
-            formula("74 + 8 a node", (1, 16), lambda nodes: IMAGE + ENTRY * nodes)]),
+            formula("94 + 8 a node", (1, 16), lambda nodes: IMAGE + ENTRY * nodes)]),
         ("gaps", "The same by removed rows of another node", Axis("removed rows"), BYTES, lambda: [
-            formula("12.8 a gap", (0, 1000), lambda gaps: IMAGE + ENTRY + GAP * gaps)]),
-        ("rows", "An image by rows", ROWS_AXIS, LOG_BYTES, lambda: [formula("92 a row", spread(100, 9900), lambda rows: 250 + ROW * rows)]),
+            formula("12 a gap", (0, 1000), lambda gaps: IMAGE + ENTRY + DOT_BYTES * gaps)]),
+        ("rows", "An image by rows", ROWS_AXIS, LOG_BYTES, lambda: [formula("100 a row", spread(100, 9900), lambda rows: 250 + ROW_BYTES * rows)]),
         ("letters", "A letter by its rows", ROWS_AXIS, LOG_BYTES, lambda: [])]),
     "steps": ("A step by the rows of its node, in time of a processor", [
         ("saves", "Steps that save the image", ROWS_AXIS, Axis("time a step", "us", True), lambda: []),

@@ -4,7 +4,7 @@ from dataclasses import dataclass, field
 from html import escape
 
 WIDE, HIGH = 300, 240  # of a panel's field
-LEFT, RIGHT, TOP, BELOW = 70, 128, 52, 52  # around it
+LEFT, RIGHT, TOP, BELOW = 74, 146, 48, 50  # around it
 LINE_OF_TEXT = 13
 COLOURS = 6
 STYLE = """text{font:11px system-ui,sans-serif;fill:#1f2328}
@@ -85,12 +85,16 @@ class Field:
     def __init__(self, panel, left, top):
         self.panel, self.left, self.top = panel, left, top
         points = [point for line in panel.lines for point in line.points]
-        self.x_ticks = ticks(panel.x, min(x for x, _ in points), max(x for x, _ in points))
-        self.y_ticks = ticks(panel.y, min(y for _, y in points), max(y for _, y in points))
+        xs, ys = zip(*points)
+        self.x_ticks, self.y_ticks = ticks(panel.x, min(xs), max(xs)), ticks(panel.y, min(ys), max(ys))
+        self.x_ends, self.y_ends = [self.x_ticks[0], self.x_ticks[-1]], [self.y_ticks[0], self.y_ticks[-1]]
+        if not panel.x.is_log:  # what is told of x ends with the points
+            self.x_ends[1] = max(xs)
+            self.x_ticks = [x for x in self.x_ticks if x <= max(xs)]
 
     def at(self, point):
         (x, y), panel = point, self.panel
-        return (self.left + WIDE * share(panel.x, x, self.x_ticks), self.top + HIGH * (1 - share(panel.y, y, self.y_ticks)))
+        return (self.left + WIDE * share(panel.x, x, self.x_ends), self.top + HIGH * (1 - share(panel.y, y, self.y_ends)))
 
     def drawn(self):
         yield f"<text class='of-panel' x='{self.left}' y='{self.top - 14}'>{escape(self.panel.title)}</text>"
@@ -114,7 +118,7 @@ class Field:
             yield f"<path class='grid' d='M{x:.1f} {low}v5'/>"
             yield f"<text class='axis' x='{x:.1f}' y='{low + 18}' text-anchor='middle'>{self.panel.x.told(value)}</text>"
         yield f"<text class='axis' x='{self.left + WIDE / 2}' y='{low + 36}' text-anchor='middle'>{escape(self.panel.x.title)}</text>"
-        x, y = self.left - 56, (low + high) / 2
+        x, y = self.left - 60, (low + high) / 2
         yield f"<text class='axis' x='{x}' y='{y}' text-anchor='middle' transform='rotate(-90 {x} {y})'>{escape(self.panel.y.title)}</text>"
 
     def line(self, line, places):
@@ -129,8 +133,8 @@ class Field:
             yield f"<circle class='dot c{line.colour % COLOURS}' cx='{x:.1f}' cy='{y:.1f}' r='2.5'><title>{escape(told)}</title></circle>"
 
 
-def share(axis, value, marks):
-    low, high = axis.place(marks[0]), axis.place(marks[-1])
+def share(axis, value, ends):
+    low, high = map(axis.place, ends)
     return (axis.place(value) - low) / (high - low)
 
 

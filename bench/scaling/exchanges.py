@@ -6,6 +6,8 @@ from dataclasses import dataclass
 ROW = '["child","",["",],{"arg":"x","kind":"worker","restart":"permanent","shutdown":5000}]'
 MEMBER_ROW = '["member","",["",],{"label":"","status":"open"}]'
 ROUNDS_AT_MOST = 400
+# Of a child whose id has 9 bytes, by a node whose name has 3: bytes of its row, and of its dot in a cloud.
+ROW_BYTES, DOT_BYTES = 100, 12
 
 
 class TooMuch(Exception):

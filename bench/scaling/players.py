@@ -206,11 +206,11 @@ class Processes:
         """Asks a node, which must answer this, and send that letter, if any."""
         lines = self.running[name].ask(line)
         demand(lines[0] == reply, name, line[:60], "gives", lines[0], "reckoned", reply)
-        sends = lines[-1].split(" ") if lines[-1].startswith("  send ") else None
+        sends = lines[-1].strip().split(" ") if lines[-1].startswith("  send ") else None
         demand((sends is None) == (letter is None), name, line[:60], "sends", sends)
         if letter:
-            demand(sends[2] == letter.to.name and len(sends[3]) == letter.size, name, "sends", len(sends[3]), "bytes, reckoned", letter.size)
-            self.letters[letter.sender.name, letter.number] = sends[3]
+            demand(sends[1] == letter.to.name and len(sends[2]) == letter.size, name, "sends", len(sends[2]), "bytes, reckoned", letter.size)
+            self.letters[letter.sender.name, letter.number] = sends[2]
 
     def does(self, node, line, reply):
         self.told(node.name, line, reply, None)
