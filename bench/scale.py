@@ -12,11 +12,11 @@ import signal
 import sys
 
 from scaling.charts import Axis, Line, Panel, drawing
-from scaling.counts import Counts
+from scaling.counts import NODES, SEEDS, Counts
 from scaling.exchanges import DOT_BYTES, ROW_BYTES, WAYS
 from scaling.paper import Plan
 from scaling.players import Node, Wrong
-from scaling.times import Times
+from scaling.times import MEMBERS, Times
 
 TOP = pathlib.Path(__file__).resolve().parent.parent
 WAY_COLOURS = {name: colour for colour, name in enumerate(WAYS)}
@@ -79,12 +79,12 @@ def spread(low, high):
     return [low * (high / low) ** (k / 40) for k in range(41)]
 
 
-NODES_AXIS, ROWS_AXIS = Axis("nodes"), Axis("rows", is_log=True)
+NODES_AXIS, ROWS_AXIS = Axis("nodes", marks=NODES), Axis("rows", is_log=True)
 BYTES, LOG_BYTES = Axis("bytes", "bytes"), Axis("bytes", "bytes", True)
 LOOKS = {
     "nodes": ("Until all nodes know all", [
         ("rounds", "Rounds by nodes, 1,000 rows", NODES_AXIS, Axis("rounds"), lambda: []),
-        ("losses", "Rounds by losses, 16 nodes, 100 rows", Axis("messages lost, of a hundred", "%"), Axis("rounds"), lambda: []),
+        ("losses", "Rounds by losses, 16 nodes, 100 rows", Axis("messages lost", "%"), Axis("rounds"), lambda: []),
         ("messages", "Messages by nodes, 1,000 rows", NODES_AXIS, Axis("messages, acknowledgements among them", is_log=True), lambda: []),
         ("bytes", "Bytes by nodes, 1,000 rows", NODES_AXIS, LOG_BYTES, lambda: [formula("(n - 1) x rows", spread(2, 16), lambda n: (n - 1) * 1000 * ROW_BYTES)])]),
     "rows": ("Bytes by rows, of eight nodes, none lost", [
@@ -112,11 +112,11 @@ LOOKS = {
         ("saves", "Steps that save the image", ROWS_AXIS, Axis("time a step", "us", True), lambda: []),
         ("others", "Steps of other kinds", ROWS_AXIS, Axis("time a step", "us", True), lambda: [])]),
     "placing": ("A placement by members, in time of a processor", [
-        ("ids", "supctl place, an id", Axis("members"), Axis("time an id", "us"), lambda: [])]),
+        ("ids", "supctl place, an id", Axis("members", marks=MEMBERS), Axis("time an id", "us"), lambda: [])]),
     "processes": ("Real nodes, each with its image in a file", [
         ("start", "A start or a delete by rows", ROWS_AXIS, Axis("time a step", "us", True), lambda: []),
         ("ever", "An image without rows, by nodes that ever were", Axis("nodes that ever were", is_log=True), LOG_BYTES, lambda: [
-            formula("75 + 11 a node", spread(1, 10_000), lambda nodes: 75 + 11 * nodes)]),
+            formula("94 + 11 a node", spread(1, 10_000), lambda nodes: IMAGE + 11 * nodes)]),
         ("known", "Until all know 1,000 rows, one host for all", NODES_AXIS, Axis("seconds", "s"), lambda: [])]),
 }
 
@@ -124,7 +124,7 @@ LOOKS = {
 def how_found(picture, program):
     """The note below a picture."""
     if picture in COUNTS:
-        return "By fixed seeds; where chance has a part, the mean of three. Dotted: by the formula. Anew: bench/scale.py " + picture
+        return f"By fixed seeds; where chance has a part, the mean of {len(SEEDS)}. Dotted: by the formula. Anew: bench/scale.py {picture}"
     day, load = datetime.datetime.now(datetime.timezone.utc).strftime("%Y-%m-%d"), os.getloadavg()[0]
     return f"{day}, {os.cpu_count()} processors, load {load:.1f} at the end. Anew: bench/scale.py {picture}"
 

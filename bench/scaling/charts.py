@@ -33,6 +33,7 @@ class Axis:
     title: str
     unit: str = ""
     is_log: bool = False
+    marks: tuple = ()  # where ticks stand, if not at round values
 
     def place(self, value):
         return math.log10(value) if self.is_log else value
@@ -43,7 +44,7 @@ class Axis:
             if abs(value) < size * 999.5:
                 break
         text = f"{value / size:,.10g}"
-        return f"{text} {name}".strip() if value or self.unit not in UNITS else "0"
+        return text + name if name == "%" else f"{text} {name}".strip() if value or self.unit not in UNITS else "0"
 
 
 @dataclass
@@ -90,7 +91,7 @@ class Field:
         self.x_ends, self.y_ends = [self.x_ticks[0], self.x_ticks[-1]], [self.y_ticks[0], self.y_ticks[-1]]
         if not panel.x.is_log:  # what is told of x ends with the points
             self.x_ends[1] = max(xs)
-            self.x_ticks = [x for x in self.x_ticks if x <= max(xs)]
+            self.x_ticks = [x for x in panel.x.marks or self.x_ticks if x <= max(xs)]
 
     def at(self, point):
         (x, y), panel = point, self.panel

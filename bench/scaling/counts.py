@@ -8,7 +8,7 @@ from .players import Running, Script
 NODES = (2, 4, 8, 12, 16)
 ROWS = (100, 300, 1000, 3000, 10_000)
 LOSSES = (0, 5, 10, 15, 20, 25, 30)  # percent
-SEEDS = (1, 2, 3)
+SEEDS = (1, 2, 3, 4, 5)
 
 
 def names_of(count):
@@ -94,7 +94,7 @@ class Counts:
                 if found := tried(f"buffer: {buffer}, {changes} changes", lambda: self.one_ship(buffer, changes)):
                     yield "ship", f"buffer {buffer}", changes, found
         for loss in 0, 10, 30:
-            for buffer in (2**power for power in range(9)):
+            for buffer in 4, 8, 16, 32, 64, 128:
                 if found := tried(f"buffer: {buffer}, {loss}% lost", lambda: self.news(buffer, loss)):
                     yield "news", f"{loss}% lost", buffer, found
 
@@ -141,7 +141,7 @@ class Counts:
     # -- away: nodes that stop and come back
 
     def away(self):
-        for line, buffer, is_stopped in ("stopped", 64, True), ("cut off", 64, False), ("cut off, buffer 4", 4, False):
+        for line, buffer, is_stopped in ("stopped", 64, True), ("cut off", 64, False), ("cut off, buffer 16", 16, False):
             for count in range(8):
                 if found := tried(f"away: {line}, {count}", lambda: self.gone("all to all", count, buffer, is_stopped, 1)):
                     yield "bytes", line, count, found.bytes

@@ -3,7 +3,7 @@ from dataclasses import dataclass
 
 from .exchanges import DOT_BYTES, ROW_BYTES
 
-HEAD, ACKNOWLEDGEMENT = 110, 55  # bytes of a letter beside its rows and dots, and of an acknowledgement
+HEAD, ACKNOWLEDGEMENT = 95, 53  # bytes of a letter beside its rows and dots, and of an acknowledgement
 MOST_ROWS = 10_000
 
 

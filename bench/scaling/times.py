@@ -130,6 +130,7 @@ class Times:
             script.at(size)
         took = tried(f"steps: {len(script.lines)} lines", lambda: self.batches_of(script)) or {}
         for (kind, size), values in took.items():
+            demand(min(values) > 0, "steps:", kind, "took no time: is what is printed held back?")
             yield "saves" if kind in ("start or delete", "row that comes") else "others", kind, size, min(values)
 
     def batches_of(self, script):
