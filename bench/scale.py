@@ -86,7 +86,8 @@ LOOKS = {
         ("rounds", "Rounds by nodes, 1,000 rows", NODES_AXIS, Axis("rounds"), lambda: []),
         ("losses", "Rounds by losses, 16 nodes, 100 rows", Axis("messages lost", "%"), Axis("rounds"), lambda: []),
         ("messages", "Messages by nodes, 1,000 rows", NODES_AXIS, Axis("messages, acknowledgements among them", is_log=True), lambda: []),
-        ("bytes", "Bytes by nodes, 1,000 rows", NODES_AXIS, LOG_BYTES, lambda: [formula("(n - 1) x rows", spread(2, 16), lambda n: (n - 1) * 1000 * ROW_BYTES)])]),
+        ("bytes", "Bytes by nodes, 1,000 rows", NODES_AXIS, LOG_BYTES, lambda: [
+            formula("(n - 1) x rows", spread(2, 16), lambda n: (n - 1) * 1000 * ROW_BYTES)])]),
     "rows": ("Bytes by rows, of eight nodes, none lost", [
         ("known", "Until all know all", ROWS_AXIS, LOG_BYTES, lambda: [formula("7 x rows", spread(100, 10_000), lambda rows: 7 * rows * ROW_BYTES)]),
         ("quiet", "Until nobody has anything to ship", ROWS_AXIS, LOG_BYTES, lambda: [
@@ -115,9 +116,11 @@ LOOKS = {
         ("ids", "supctl place, an id", Axis("members", marks=MEMBERS), Axis("time an id", "us"), lambda: [])]),
     "processes": ("Real nodes, each with its image in a file", [
         ("start", "A start or a delete by rows", ROWS_AXIS, Axis("time a step", "us", True), lambda: []),
+        ("written", "Bytes written a start or a delete", ROWS_AXIS, LOG_BYTES, lambda: [
+            formula("100 a row", spread(100, 9900), lambda rows: IMAGE + ROW_BYTES * rows)]),
         ("ever", "An image without rows, by nodes that ever were", Axis("nodes that ever were", is_log=True), LOG_BYTES, lambda: [
             formula("94 + 11 a node", spread(1, 10_000), lambda nodes: IMAGE + 11 * nodes)]),
-        ("known", "Until all know 1,000 rows, one host for all", NODES_AXIS, Axis("seconds", "s"), lambda: [])]),
+        ("known", "Until all know 1,000 rows, in time of a processor, all nodes", NODES_AXIS, Axis("time", "s"), lambda: [])]),
 }
 
 

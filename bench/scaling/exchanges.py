@@ -52,17 +52,14 @@ def child_of(name, counter):
 
 def size_of(names, known):
     """How long the text of a context and its rows is, where no row was removed and each node's first dot is its member."""
-    vector = cloud = rows = beyond = count = 0
+    vector = cloud = rows = 0
     for name, dots in zip(names, known):
         ahead = front(dots)
-        gone_by = dots >> ahead << ahead
-        if ahead:
-            vector += len(f',"{name}":{ahead}')
-        beyond += gone_by.bit_count()
-        cloud += gone_by.bit_count() * len(f',["{name}",]') + digits(gone_by)
-        children = (dots & ~1).bit_count()
-        rows += children * (len(ROW) + 1 + len(child_of(name, 0)) + len(name)) + (dots & 1) * (len(MEMBER_ROW) + 1 + 2 * len(name)) + digits(dots)
-        count += dots.bit_count()
+        beyond = dots >> ahead << ahead
+        vector += len(f',"{name}":{ahead}') if ahead else 0
+        cloud += beyond.bit_count() * len(f',["{name}",]') + digits(beyond)
+        rows += (dots & ~1).bit_count() * (len(ROW) + 1 + len(child_of(name, 0)) + len(name)) + digits(dots)
+        rows += (dots & 1) * (len(MEMBER_ROW) + 1 + 2 * len(name))
     return len('"ctx":{"cloud":[],"vector":{}},"rows":[]') + max(vector - 1, 0) + max(cloud - 1, 0) + max(rows - 1, 0)
 
 
@@ -77,7 +74,8 @@ class Letter:
     size: int
 
     def told(self):
-        return f"  sent {self.sender.name} {self.number} to {self.to.name} " + (f"ack {self.count}" if self.known is None else f"delta {self.count} {self.kind}")
+        what = "ack" if self.known is None else "delta"
+        return f"  sent {self.sender.name} {self.number} to {self.to.name} {what} {self.count} {self.kind}".rstrip()
 
 
 class Node:
@@ -159,7 +157,7 @@ class World:
             reply = "ok known" if at.covers(letter.known) else "ok absorbed"
             if reply == "ok absorbed":
                 at.note(letter.known, self.buffer)
-            answer = self.post(at, letter.sender, "ack", None, letter.count)
+            answer = self.post(at, letter.sender, "", None, letter.count)
         self.player.delivers(letter, reply, answer)
         return answer
 

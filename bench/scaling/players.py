@@ -53,6 +53,12 @@ def processor_of(process):
         return int(told.read().split()[0]) / 1000
 
 
+def written_by(process):
+    """Bytes that a process has written, to files and pipes."""
+    with open(f"/proc/{process.pid}/io") as told:
+        return next(int(line.split()[1]) for line in told if line.startswith("wchar"))
+
+
 def kept_alike(world, node, text):
     """Whether an image's text has what its node was reckoned to know."""
     image = json.loads(text)
@@ -227,6 +233,10 @@ class Processes:
 
     def restarts(self, node):
         self.running[node.name] = self.begun(node.name, node.boot)
+
+    def processor(self):
+        """Microseconds of a processor that those that run have taken in all."""
+        return sum(processor_of(node.process) for node in self.running.values())
 
     def end(self, world):
         for node in world.nodes:

@@ -8,11 +8,12 @@ import time
 
 from .counts import NODES, names_of, tried
 from .exchanges import WAYS, Course, World, run
-from .players import Node, Processes, Running, demand, in_time, processor_of
+from .players import Node, Processes, Running, demand, in_time, processor_of, written_by
 
 SIZES = (100, 300, 1000, 3000, 9900)
 MEMBERS = (1, 2, 4, 8, 16)
 MARK = "mark unknown"
+MEMORY = "/dev/shm" if os.access("/dev/shm", os.W_OK) else None  # a folder whose files are in memory
 
 
 def weight(member, id):
@@ -179,9 +180,7 @@ class Times:
     def processes(self):
         if not self.node_program:
             return
-        shared = "/dev/shm"
-        places = [("disk", None)] + [("memory", shared)] * os.access(shared, os.W_OK)
-        for name, folder in places:
+        for name, folder in [("disk", None)] + [("memory", MEMORY)] * bool(MEMORY):
             yield from tried(f"processes: starts, {name}", lambda: list(self.starts(name, folder))) or ()
         for count in (1, 10, 100, 1000, 10_000):
             if found := tried(f"processes: {count} nodes that ever were", lambda: self.ever(count)):
@@ -198,13 +197,15 @@ class Times:
             node.ask("join")
             for size in SIZES:
                 node.ask("deliver " + letter_of_rows(size - 1))
-                begin, processor = time.monotonic(), processor_of(node.process)
+                begin, processor, written = time.monotonic(), processor_of(node.process), written_by(node.process)
                 for number in range(count):
                     demand(node.ask(f"start x{number} arg=x")[0].startswith("ok"), "a start at a real node")
                     demand(node.ask(f"delete x{number}")[0].startswith("ok"), "a delete at a real node")
                 yield "start", f"by the clock, {name}", size, (time.monotonic() - begin) / (2 * count) * 1e6
-                if folder:
-                    yield "start", "a processor's", size, (processor_of(node.process) - processor) / (2 * count)
+                if not folder:
+                    continue
+                yield "start", "a processor's", size, (processor_of(node.process) - processor) / (2 * count)
+                yield "written", "measured", size, (written_by(node.process) - written) / (2 * count)
             node.kill()
 
     def ever(self, count):
@@ -219,18 +220,18 @@ class Times:
             return size
 
     def spread(self, count, rows, way):
-        """Seconds until all know all, where one host carries all letters; then a quarter of the nodes are killed, and come back."""
+        """Seconds of a processor, of all nodes, until all know all, with no file on a disk; then a quarter of the nodes are killed, and come back."""
         names = names_of(count)
-        with tempfile.TemporaryDirectory() as place, in_time(self.seconds):
+        with tempfile.TemporaryDirectory(dir=MEMORY) as place, in_time(self.seconds):
             world = World(names, 64, Processes(names, self.node_program, place, 64), self.bytes_at_most)
             for node in world.nodes:
                 world.join(node)
             world.settle_down()
             for number in range(rows - count):
                 world.start(world.nodes[number % count])
-            begin = time.monotonic()
+            begin = world.player.processor()
             run(world, Course(way))
-            took = time.monotonic() - begin
+            took = (world.player.processor() - begin) / 1e6
             out = world.nodes[-max(1, count // 4):]
             for node in out:
                 world.stop(node)
