@@ -11,120 +11,18 @@ import pathlib
 import signal
 import sys
 
-from scaling.charts import Axis, Line, Panel, drawing
-from scaling.counts import NODES, SEEDS, Counts
-from scaling.exchanges import DOT_BYTES, ROW_BYTES, WAYS
+from scaling.counts import SEEDS, Counts
+from scaling.found import Found
+from scaling.looks import LOOKS, picture_of
 from scaling.paper import Plan
 from scaling.players import Node, Wrong
-from scaling.times import MEMBERS, Times
+from scaling.times import Times
 
 TOP = pathlib.Path(__file__).resolve().parent.parent
-WAY_COLOURS = {name: colour for colour, name in enumerate(WAYS)}
 COUNTS, TIMES = ("nodes", "rows", "buffer", "away", "images"), ("steps", "placing", "processes")
-IMAGE, ENTRY = 94, 8  # bytes of an image beside its rows and context, and of a node in a vector
 
 
-class Found:
-    """Points by picture, and how they were found; kept as a text, of which pictures are drawn."""
-
-    def __init__(self, file):
-        self.file, self.points, self.how = file, {}, {}
-        for line in file.read_text().splitlines() if file.exists() else ():
-            picture, *rest = line.split("\t")
-            if picture.startswith("# "):
-                self.how[picture[2:]] = rest[0]
-            else:
-                panel, name, x, y = rest
-                self.points.setdefault(picture, []).append((panel, name, float(x), float(y)))
-
-    def take(self, picture, points, how):
-        self.points[picture], self.how[picture] = points, how
-        lines = []
-        for name in sorted(self.points):
-            lines.append(f"# {name}\t{self.how[name]}")
-            lines += [f"{name}\t{panel}\t{line}\t{x:.10g}\t{y:.10g}" for panel, line, x, y in self.points[name]]
-        self.file.parent.mkdir(parents=True, exist_ok=True)
-        self.file.write_text("\n".join([*lines, ""]))
-
-    def lines(self, picture, panel):
-        """Lines in the order in which they came, coloured by their ways where they are named after one."""
-        found = {}
-        for of, name, x, y in self.points.get(picture, ()):
-            if of == panel:
-                found.setdefault(name, []).append((x, y))
-        lines = []
-        for number, (name, points) in enumerate(found.items()):
-            colour = next((WAY_COLOURS[way] for way in WAYS if name.startswith(way)), number)
-            lines.append(Line(name, sorted(points), colour, is_second="30% lost" in name and colour < 3 and name != "30% lost"))
-        return lines
-
-
-def formula(name, xs, height):
-    return Line(name, [(x, height(x)) for x in xs], is_formula=True)
-
-
-# -- how each picture looks
-
-def picture_of(found, name):
-    title, panels = LOOKS[name]
-    drawn = []
-    for panel, head, x, y, formulas in panels:
-        lines = found.lines(name, panel)
-        if lines:
-            drawn.append(Panel(head, x, y, lines + formulas()))
-    return drawing(title, drawn, [found.how[name]]) if drawn else None
-
-
-def spread(low, high):
-    return [low * (high / low) ** (k / 40) for k in range(41)]
-
-
-NODES_AXIS, ROWS_AXIS = Axis("nodes", marks=NODES), Axis("rows", is_log=True)
-BYTES, LOG_BYTES = Axis("bytes", "bytes"), Axis("bytes", "bytes", True)
-LOOKS = {
-    "nodes": ("Until all nodes know all", [
-        ("rounds", "Rounds by nodes, 1,000 rows", NODES_AXIS, Axis("rounds"), lambda: []),
-        ("losses", "Rounds by losses, 16 nodes, 100 rows", Axis("messages lost", "%"), Axis("rounds"), lambda: []),
-        ("messages", "Messages by nodes, 1,000 rows", NODES_AXIS, Axis("messages, acknowledgements among them", is_log=True), lambda: []),
-        ("bytes", "Bytes by nodes, 1,000 rows", NODES_AXIS, LOG_BYTES, lambda: [
-            formula("(n - 1) x rows", spread(2, 16), lambda n: (n - 1) * 1000 * ROW_BYTES)])]),
-    "rows": ("Bytes by rows, of eight nodes, none lost", [
-        ("known", "Until all know all", ROWS_AXIS, LOG_BYTES, lambda: [formula("7 x rows", spread(100, 10_000), lambda rows: 7 * rows * ROW_BYTES)]),
-        ("quiet", "Until nobody has anything to ship", ROWS_AXIS, LOG_BYTES, lambda: [
-            formula("8 x rows", spread(100, 10_000), lambda rows: 8 * rows * ROW_BYTES),
-            formula("56 x rows", spread(100, 10_000), lambda rows: 56 * rows * ROW_BYTES)])]),
-    "buffer": ("Parts and wholes", [
-        ("ship", "One ship by a node of 1,000 rows", Axis("changes since the last acknowledgement", is_log=True), LOG_BYTES, lambda: [
-            formula("part", spread(1, 1000), lambda changes: 90 + (ROW_BYTES + DOT_BYTES) * changes),
-            formula("whole", spread(1, 1000), lambda changes: 100 + ROW_BYTES * (1000 + changes))]),
-        ("news", "80 rows come to 1,000 in ten rounds, 8 nodes, all to all", Axis("buffer, changes", is_log=True), LOG_BYTES, lambda: [])]),
-    "away": ("Some of eight nodes are away for five rounds, 1,000 rows", [
-        ("bytes", "Bytes from then until all know all, all to all", Axis("nodes away"), BYTES, lambda: [
-            formula("7 x image a stop", (0, 7), lambda away: 7 * away * 1000 * ROW_BYTES)]),
-        ("rounds", "Rounds from then until all know all, where they stop", Axis("nodes away"), Axis("rounds"), lambda: [])]),
-    "images": ("Texts by what they have", [
-        ("nodes", "An image without rows, by nodes that ever were", NODES_AXIS, BYTES, lambda: [
-            formula("94 + 8 a node", (1, 16), lambda nodes: IMAGE + ENTRY * nodes)]),
-        ("gaps", "The same by removed rows of another node", Axis("removed rows"), BYTES, lambda: [
-            formula("12 a gap", (0, 1000), lambda gaps: IMAGE + ENTRY + DOT_BYTES * gaps)]),
-        ("rows", "An image by rows", ROWS_AXIS, LOG_BYTES, lambda: [formula("100 a row", spread(100, 9900), lambda rows: 250 + ROW_BYTES * rows)]),
-        ("letters", "A letter by its rows", ROWS_AXIS, LOG_BYTES, lambda: [])]),
-    "steps": ("A step by the rows of its node, in time of a processor", [
-        ("saves", "Steps that save the image", ROWS_AXIS, Axis("time a step", "us", True), lambda: []),
-        ("others", "Steps of other kinds", ROWS_AXIS, Axis("time a step", "us", True), lambda: [])]),
-    "placing": ("A placement by members, in time of a processor", [
-        ("ids", "supctl place, an id", Axis("members", marks=MEMBERS), Axis("time an id", "us"), lambda: [])]),
-    "processes": ("Real nodes, each with its image in a file", [
-        ("start", "A start or a delete by rows", ROWS_AXIS, Axis("time a step", "us", True), lambda: []),
-        ("written", "Bytes written a start or a delete", ROWS_AXIS, LOG_BYTES, lambda: [
-            formula("100 a row", spread(100, 9900), lambda rows: IMAGE + ROW_BYTES * rows)]),
-        ("ever", "An image without rows, by nodes that ever were", Axis("nodes that ever were", is_log=True), LOG_BYTES, lambda: [
-            formula("94 + 11 a node", spread(1, 10_000), lambda nodes: IMAGE + 11 * nodes)]),
-        ("known", "Until all know 1,000 rows, in time of a processor, all nodes", NODES_AXIS, Axis("time", "s"), lambda: [])]),
-}
-
-
-def how_found(picture, program):
+def how_found(picture):
     """The note below a picture."""
     if picture in COUNTS:
         return f"By fixed seeds; where chance has a part, the mean of {len(SEEDS)}. Dotted: by the formula. Anew: bench/scale.py {picture}"
@@ -137,7 +35,7 @@ def measure(asked, found, picture):
         asked.supctl, asked.supd, asked.seconds, asked.megabytes)
     points = list(getattr(measured, picture)())
     if points:
-        found.take(picture, points, asked.note or how_found(picture, asked.supctl))
+        found.take(picture, points, asked.note or how_found(picture))
 
 
 def growth(found):
@@ -173,12 +71,14 @@ def main():
         return
     if not set(asked.picture) <= set(LOOKS):
         words.error(f"a picture is one of {', '.join(LOOKS)}")
-    asked.supctl = [str(asked.supctl)]
-    asked.supd = [str(asked.supd)] if os.path.exists(asked.supd) else None
+    pictures = asked.picture or list(LOOKS)
+    asked.supctl, asked.supd = ([str(it)] if os.path.exists(it) else None for it in (asked.supctl, asked.supd))
+    if not asked.draw and not asked.supctl and pictures != ["processes"]:
+        words.error("there is no built supctl: build it by ./supctl place </dev/null, or name one by --supctl")
     found = Found(asked.folder / "scale.tsv")
     signal.signal(signal.SIGTERM, lambda number, _: sys.exit(128 + number))
     try:
-        for picture in asked.picture or LOOKS:
+        for picture in pictures:
             if not asked.draw:
                 measure(asked, found, picture)
             if drawn := picture_of(found, picture):
@@ -188,7 +88,8 @@ def main():
     finally:
         for node in list(Node.begun):
             node.kill()
-    print(*growth(found), sep="\n")
+    if not asked.draw and "steps" in pictures:
+        print(*growth(found), sep="\n")
 
 
 if __name__ == "__main__":
