@@ -7,6 +7,7 @@ import os
 import subprocess
 import tempfile
 import threading
+import time
 
 from .exchanges import TooMuch
 
@@ -93,6 +94,14 @@ class Running:
         if self.is_late:
             raise TooMuch("it took too long")
         return text.decode().removesuffix("\n")
+
+    def wait_until_it_waits(self):
+        """Until the program sleeps, since it can't write more."""
+        while not self.is_late:
+            with open(f"/proc/{self.process.pid}/stat") as told:
+                if told.read().rsplit(")", 1)[1].split()[0] == "S":
+                    return
+            time.sleep(0.0005)
 
     def __enter__(self):
         return self

@@ -12,7 +12,8 @@ from .players import Node, Processes, Running, demand, in_time, processor_of, wr
 
 SIZES = (100, 300, 1000, 3000, 9900)
 MEMBERS = (1, 2, 4, 8, 16)
-MARK = "mark unknown"
+MARK, NOTHING = "mark unknown", "nothing"
+PIPE = 4096
 MEMORY = "/dev/shm" if os.access("/dev/shm", os.W_OK) else None  # a folder whose files are in memory
 
 
@@ -26,29 +27,30 @@ def is_won(id):
 
 
 class Steps:
-    """A script that brings n01, the only member, to each size in turn, and has it make steps of each kind there. A mark before a batch of steps and
-    one behind it tell what the batch took."""
+    """A script that brings n01, the only member, to each size in turn, and has it make steps of each kind there. A mark stands before a batch of steps
+    and behind it, and behind each mark what n14 knows, which is more than a pipe holds: so the program waits there until who reads goes on."""
 
     def __init__(self):
         names = names_of(16)
         self.lines, self.batches, self.sent = ["nodes " + " ".join(names), "join n01"], [], dict.fromkeys(names, 0)
         self.first = next(id for id in map("first-{}".format, range(99)) if not is_won(id))
         self.lines.append(f"start n01 {self.first}")
+        self.lines += [f"start n14 shown-{number}" for number in range(300)]
         self.ids, self.given, self.ran, self.made, self.now = [self.first], 1, 1, 0, 0
 
     def batch(self, kind, size, lines):
         self.batches.append((kind, size, len(lines)))
-        self.lines += ["where n01 mark", *lines, "where n01 mark"]
+        self.lines += ["where n01 mark", "show n14", *lines, "where n01 mark", "show n14"]
 
     def sends(self, verb, node, to):
         self.lines.append(f"{verb} {node} {to}")
         self.sent[node] += 1
 
     def fill(self, size):
-        """Thirteen other nodes make rows, and ship them to n01."""
-        makers = names_of(14)[1:]
+        """Twelve other nodes make rows, and ship them to n01."""
+        makers = names_of(13)[1:]
         ids = [f"row-{self.made + number:05d}" for number in range(size - 1 - len(self.ids))]
-        self.lines += [f"start {makers[number % 13]} {id} arg=x" for number, id in enumerate(ids)]
+        self.lines += [f"start {makers[number % 12]} {id} arg=x" for number, id in enumerate(ids)]
         for maker in makers:
             self.sends("ship", maker, "n01")
             self.lines.append(f"deliver {maker} {self.sent[maker]}")
@@ -102,6 +104,7 @@ class Steps:
 
     def at(self, size):
         self.fill(size)
+        self.batch(NOTHING, size, [])
         few = max(6, min(200, 60_000 // size)) // 2 * 2
         self.starts(size, few)
         self.comes(size, few)
@@ -136,15 +139,19 @@ class Times:
 
     def batches_of(self, script):
         took, marks, refused = {}, [], []
-        with Running([*self.program, "simulate"], script.lines, self.seconds, pipe=4096) as running:
+        with Running([*self.program, "simulate"], script.lines, self.seconds, PIPE) as running:
             while line := running.line():
                 if line == MARK:
+                    running.wait_until_it_waits()
                     marks.append(processor_of(running.process))
                 if line.startswith("refused"):
                     refused.append(line)
         demand(not refused and len(marks) == 2 * len(script.batches), "steps:", refused[:3], len(marks))
         for (kind, size, count), begin, end in zip(script.batches, marks[::2], marks[1::2]):
-            took.setdefault((kind, size), []).append((end - begin) / count)
+            if kind == NOTHING:
+                shown = end - begin
+            else:
+                took.setdefault((kind, size), []).append((end - begin - shown) / count)
         return took
 
     # -- placing, in microseconds of a processor an id
