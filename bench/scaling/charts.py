@@ -89,7 +89,9 @@ class Field:
         xs, ys = zip(*points)
         self.x_ticks, self.y_ticks = ticks(panel.x, min(xs), max(xs)), ticks(panel.y, min(ys), max(ys))
         self.x_ends, self.y_ends = [self.x_ticks[0], self.x_ticks[-1]], [self.y_ticks[0], self.y_ticks[-1]]
-        if not panel.x.is_log:  # what is told of x ends with the points
+        if panel.x.is_log and panel.x.marks:
+            self.x_ticks, self.x_ends = panel.x.marks, (panel.x.marks[0], panel.x.marks[-1])
+        elif not panel.x.is_log:  # what is told of x ends with the points
             self.x_ends[1] = max(xs)
             self.x_ticks = [x for x in panel.x.marks or self.x_ticks if x <= max(xs)]
 

@@ -7,6 +7,7 @@ from .players import Running, Script
 
 NODES = (2, 4, 8, 12, 16)
 ROWS = (100, 300, 1000, 3000, 10_000)
+BUFFERS = (4, 8, 16, 32, 64, 128)
 LOSSES = (0, 5, 10, 15, 20, 25, 30)  # percent
 SEEDS = (1, 2, 3, 4, 5)
 
@@ -94,7 +95,7 @@ class Counts:
                 if found := tried(f"buffer: {buffer}, {changes} changes", lambda: self.one_ship(buffer, changes)):
                     yield "ship", f"buffer {buffer}", changes, found
         for loss in 0, 10, 30:
-            for buffer in 4, 8, 16, 32, 64, 128:
+            for buffer in BUFFERS:
                 if found := tried(f"buffer: {buffer}, {loss}% lost", lambda: self.news(buffer, loss)):
                     yield "news", f"{loss}% lost", buffer, found
 
@@ -178,8 +179,8 @@ class Counts:
         for count in 1, *NODES:
             yield "nodes", "measured", count, self.image_of_nodes(count)
         for count in 0, 100, 200, 400, 700, 1000:
-            yield "gaps", "every second one known", count, self.image_of_gaps(count)
-            yield "gaps", "all known", count, self.image_of_removed(count)
+            yield "gaps", "every second one", count, self.image_of_gaps(count)
+            yield "gaps", "all of them", count, self.image_of_removed(count)
         for rows in *ROWS[:-1], 9_900:
             if found := tried(f"images: {rows} rows", lambda: self.image_of_rows(rows)):
                 yield "rows", "image", rows, found

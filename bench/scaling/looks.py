@@ -1,6 +1,6 @@
 """How each picture looks: its panels with their axes, and the formulas that stand beside what was measured."""
 from .charts import Axis, Line, Panel, drawing
-from .counts import NODES
+from .counts import BUFFERS, NODES
 from .exchanges import DOT_BYTES, ROW_BYTES
 from .times import MEMBERS
 
@@ -43,7 +43,7 @@ LOOKS = {
         ("ship", "One ship by a node of 1,000 rows", Axis("changes since the last acknowledgement", is_log=True), LOG_BYTES, lambda: [
             formula("part", spread(1, 1000), lambda changes: 90 + (ROW_BYTES + DOT_BYTES) * changes),
             formula("whole", spread(1, 1000), lambda changes: 100 + ROW_BYTES * (1000 + changes))]),
-        ("news", "80 rows come to 1,000 in ten rounds, 8 nodes, all to all", Axis("buffer, changes", is_log=True), LOG_BYTES, lambda: [])]),
+        ("news", "80 rows come in ten rounds, 8 nodes of 1,000, all to all", Axis("buffer, in changes", "", True, BUFFERS), LOG_BYTES, lambda: [])]),
     "away": ("Some of eight nodes are away for five rounds, 1,000 rows", [
         ("bytes", "Bytes from then until all know all, all to all", Axis("nodes away"), BYTES, lambda: [
             formula("7 x image a stop", (0, 7), lambda away: 7 * away * 1000 * ROW_BYTES)]),
@@ -51,7 +51,7 @@ LOOKS = {
     "images": ("Texts by what they have", [
         ("nodes", "An image without rows, by nodes that ever were", NODES_AXIS, BYTES, lambda: [
             formula("94 + 8 a node", (1, 16), lambda nodes: IMAGE + ENTRY * nodes)]),
-        ("gaps", "The same by removed rows of another node", Axis("removed rows"), BYTES, lambda: [
+        ("gaps", "The same by removed rows of another node", Axis("removed rows that the node knows of"), BYTES, lambda: [
             formula("12 a gap", (0, 1000), lambda gaps: IMAGE + ENTRY + DOT_BYTES * gaps)]),
         ("rows", "An image by rows", ROWS_AXIS, LOG_BYTES, lambda: [formula("100 a row", spread(100, 9900), lambda rows: 250 + ROW_BYTES * rows)]),
         ("letters", "A letter by its rows", ROWS_AXIS, LOG_BYTES, lambda: [])]),
