@@ -36,5 +36,6 @@ class Found:
         lines = []
         for number, (name, points) in enumerate(found.items()):
             colour = next((WAY_COLOURS[way] for way in WAYS if name.startswith(way)), number)
-            lines.append(Line(name, sorted(points), colour, is_second="30% lost" in name and colour < 3 and name != "30% lost"))
+            is_second = any(name.startswith(way) for way in WAYS) and "30% lost" in name
+            lines.append(Line(name, sorted(points), colour, is_second, is_formula=" + " in name))
         return lines
