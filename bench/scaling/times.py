@@ -178,8 +178,8 @@ class Times:
             script.seek(0)
             process = subprocess.Popen([*self.program, "place"], stdin=script, stdout=subprocess.DEVNULL)
             with in_time(self.seconds, process):
-                _, _, usage = os.wait4(process.pid, 0)
-                process.returncode = 0
+                _, process.returncode, usage = os.wait4(process.pid, 0)
+                demand(process.returncode == 0, "place ends with", process.returncode)
         return (usage.ru_utime + usage.ru_stime) * 1e6
 
     # -- processes: real nodes, each with its image in a file
