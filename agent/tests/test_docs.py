@@ -38,7 +38,7 @@ class Docs(unittest.TestCase):
         """Gives the shell a command, and tells what it prints until it is done."""
         for port, other in self.ports.items():
             command = command.replace(":" + port, ":" + other)
-        self.shell.stdin.write(command.replace("/tmp/", self.folder + "/") + "\necho done $?\n")
+        self.shell.stdin.write(command.replace("$(mktemp -d)", self.folder) + "\necho done $?\n")
         self.shell.stdin.flush()
         told = []
         for line in self.shell.stdout:
