@@ -8,6 +8,7 @@ use Rattle.sup_placement.specs.declared.weigh.Weigh.{Ghosts as WeighGhosts}
 use Rattle.sup_replica.specs.Configs.{Config}
 use Rattle.sup_station.specs.Opening.{Opens, kept_by}
 use Rattle.sup_node_gate.specs.Gates.{opening_of, view_of}
+use Rattle.sup_node_gate.specs.InMemory.{failures_by, sound_by}
 use Rattle.sup_node_gate.specs.declared.entry.Entry.{Entry}
 use Rattle.sup_links.specs.Image.{image}
 use Rattle.sup_links.specs.Ends.{script_of}
@@ -98,6 +99,6 @@ module _ {W : Type 0} {h : WeighGhosts W} where
         ran = all_at (HasRun g plan.config) all (λ i x e.
             let p = zip_right (IsHistoryOf g) posts all i x f.histories e in
             let n = zip_right (IsPostOf plan.config bound) plan.nodes.items posts i p.0 ps p.1 in
-            (opening_of kept_by p.0.gate, subst (λ name. Opens name plan.config (opening_of kept_by p.0.gate)) (sym (p.2.named ∙ n.2.named)) n.2.opens, p.2.replays));
+            (opening_of kept_by failures_by sound_by p.0.gate, subst (λ name. Opens name plan.config (opening_of kept_by failures_by sound_by p.0.gate).still) (sym (p.2.named ∙ n.2.named)) n.2.opens, p.2.replays));
         drove = all_at (Drove plan all) all (drove_at g plan posts drives f.driven all ds given f.histories f.own f.others);
       }

@@ -3,10 +3,9 @@ use Rattle.std.specs.Prelude.{◌≡◌, ◌≢◌, List, map, All, Contains}
 use Rattle.sup_specs.specs.Values.{Bytes}
 use Rattle.sup_placement.specs.Place.{Weigher}
 use Rattle.sup_replica.specs.Configs.{Config}
-use Rattle.sup_station.specs.Stills.{Still}
 use Rattle.sup_station.specs.Opening.{Opens}
 use Rattle.sup_node_gate.specs.declared.entry.Entry.{Entry}
-use Rattle.sup_node_gate.specs.Histories.{IsHistory}
+use Rattle.sup_node_gate.specs.Histories.{Counted, IsHistory}
 use Rattle.sup_links.specs.Image.{image}
 use Rattle.sup_plan.specs.Calls.{call_of, asked, letters_to, deliveries}
 use Rattle.sup_plan.specs.Parts.{commands_of, script_between}
@@ -16,7 +15,7 @@ use Rattle.sup_plan.specs.declared.plan.Plan.{Plan}
 
 -- the history replays from a station that was just made
 abbrev pub HasRun : Weigher → Config → History → Type 0
-HasRun g config h = (s : Still) × Opens h.node config s × IsHistory g s h.entries.items
+HasRun g config h = (s : Counted) × Opens h.node config s.still × IsHistory g s h.entries.items
 
 -- some list has in order the letters to the other node of the answers of these entries, and what the link's script makes of it stands in order
 -- among the deliveries to that node

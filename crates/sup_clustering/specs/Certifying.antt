@@ -6,34 +6,34 @@ use Rattle.sup_jobs.specs.declared.fault.Fault.TheVariants as job
 use Rattle.sup_plan.specs.declared.histories.History.{History}
 use Rattle.sup_plan.specs.declared.plan.Plan.{Plan}
 use Rattle.sup_model.specs.declared.step.Step.{Step}
-use Rattle.sup_model.specs.Worlds.{World, new}
+use Rattle.sup_model.specs.Worlds.{World}
 use Rattle.sup_world.specs.declared.settled.Settled.{Settled}
 use Rattle.sup_world.specs.Following.{StandsFor}
-use Rattle.sup_world.specs.Newness.{setting_in}
 use Rattle.sup_world.specs.Seen.{Seen}
+use Rattle.sup_world.specs.Settlements.{SettlesBy}
 use Rattle.sup_world.specs.Settling.{SettlesTo}
 use Rattle.sup_cluster.specs.Runs as threads
 use Rattle.sup_certify.specs.Certified.{MakeRun, IsNewWorld}
 use Rattle.sup_certify.specs.Complete.{HasRun}
 use Rattle.sup_certify.specs.Faults.{IsFaultFrom}
-use Rattle.sup_certify.specs.Follows.{IsRunOf, KnowsAll}
+use Rattle.sup_certify.specs.Follows.{HasHeadline, KnowsAll}
 use Rattle.sup_certify.specs.declared.fault.CertifyFault.{CertifyFault}
 use Rattle.sup_certify.specs.declared.fault.CertifyFault.TheVariants as judged
 use Rattle.sup_cluster_texts.specs.Texts.{cluster_text}
 use Rattle.sup_cluster_texts.specs.declared.fault.ClusterFault.{ClusterFault}
 use Rattle.sup_cluster_texts.specs.declared.fault.ClusterFault.TheVariants.{Job, HistoryFull, LinkClosed, Stuck, Differs}
 
--- what the plan's threads did is a run of these steps, from a new world of the plan's nodes to this one, and follows the model
+-- what the plan's threads did is a run of these steps, from a new world of the plan's nodes to this one, and the headline holds of it
 pub record IsCertified (weigher : Weigher) (plan : Plan) (steps : List Step) (sites : List Seen) : Type 0 where
   pub histories : List History
   pub ran : threads.IsRunOf weigher plan histories
   pub makes : MakeRun weigher plan.config plan.nodes.items histories steps sites
-  pub follows : (is_message : Bytes → Bool) → KnowsAll is_message steps
-      → IsRunOf weigher (new (setting_in weigher plan.config) is_message plan.nodes.items) histories steps sites
+  pub headline : (is_message : Bytes → Bool) → KnowsAll is_message steps → HasHeadline weigher plan.config plan.nodes.items is_message histories steps sites
 
--- the nodes settle, as the model's do
+-- the nodes settle by steps of their world, and as the model's do
 abbrev pub SettlesFrom : Weigher → List Seen → List Seen → Type 0
-SettlesFrom weigher sites after = (model : World) → StandsFor weigher sites model → (settled : Settled) × SettlesTo weigher model (Ok settled) after
+SettlesFrom weigher sites after =
+    (settled : Settled) × SettlesBy weigher sites (Ok settled) after × ((model : World) → StandsFor weigher sites model → SettlesTo weigher model (Ok settled) after)
 
 -- the run is certified, its nodes settle, and this is what is printed of them
 pub record PrintsCluster (weigher : Weigher) (plan : Plan) (said : List ℕ) : Type 0 where

@@ -99,7 +99,7 @@ impl<D: Disk> ImageKeeper for DiskKeeper<D> {
 }
 
 impl<D: Disk> Keeper for DiskKeeper<D> {
-    ghost use Rattle.std.specs.Prelude.{false};
+    ghost use Rattle.std.specs.Prelude.{true, false};
     ghost use Rattle.sup_disk.specs.Copies.{kept_of};
 
     ghost kept = { λ k. kept_of k.copy };
@@ -110,6 +110,9 @@ impl<D: Disk> Keeper for DiskKeeper<D> {
 
     // A disk may fail at any time.
     ghost sound = { λ _. false };
+
+    // A load gives the copy.
+    ghost readable = { λ _. true };
 
     fn save(&mut self, bytes: &[u8]) -> Result<(), KeepFault> {
         // All the room is taken before the file is touched.

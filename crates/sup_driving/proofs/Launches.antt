@@ -8,6 +8,7 @@ use Rattle.sup_placement.specs.declared.weigh.Weigh.{Ghosts as WeighGhosts}
 use Rattle.sup_station.specs.Opening.{kept_by}
 use Rattle.sup_node_gate.specs.declared.entry.Entry.{Entry}
 use Rattle.sup_node_gate.specs.Gates.{IsOf, view_of}
+use Rattle.sup_node_gate.specs.InMemory.{failures_by, sound_by}
 use Rattle.sup_links.specs.declared.link_in.Sent.{Sent}
 use Rattle.sup_links.specs.Ends.{AreOneLink, script_of, sent_put, taken_of}
 use Rattle.sup_links.specs.Image.{image}
@@ -70,7 +71,7 @@ module _ {W : Type 0} {h : WeighGhosts W} where
           to = met.0 ∙ (took.to ∙ rv.to);
           post = w.post;
           stands = w.stands;
-          seat = subst (λ (p : Post W h). IsOf kept_by p.gate arrived.seat) same (subst (IsOf kept_by at.0.gate) (sym met.1) at.2);
+          seat = subst (λ (p : Post W h). IsOf kept_by failures_by sound_by p.gate arrived.seat) same (subst (IsOf kept_by failures_by sound_by at.0.gate) (sym met.1) at.2);
           put = sent_put sent;
           letters = subst (λ n. Sublist (letters_to n es) (sent_put sent)) w.to s.letters;
           delivered = subst (λ l. Sublist l (deliveries (view_of arrived.seat).seen)) whole

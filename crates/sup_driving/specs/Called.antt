@@ -6,11 +6,10 @@ use Rattle.sup_local_sup.specs.declared.effect.Effect.{Effect}
 use Rattle.sup_replica.specs.declared.event.Act.{Act}
 use Rattle.sup_replica.specs.declared.letter.Letter.{Letter}
 use Rattle.sup_replica.specs.declared.refusal.Refusal.TheVariants.{HistoryFull as Full, OutOfMemory as Wants}
-use Rattle.sup_station.specs.Stills.{Still}
 use Rattle.sup_node_gate.specs.declared.entry.Entry.{Entry}
 use Rattle.sup_node_gate.specs.declared.view.View.{View}
 use Rattle.sup_node_gate.specs.Calls.{IsFull, HasNoMemory}
-use Rattle.sup_node_gate.specs.Histories.{Answer, IsPrefix, entry}
+use Rattle.sup_node_gate.specs.Histories.{Answer, Counted, IsPrefix, entry}
 use Rattle.sup_node_gate.specs.Views.{calls_of}
 use Rattle.sup_links.specs.declared.link_out.LinkOut.{LinkOut}
 use Rattle.sup_links.specs.Ends.{has_ended}
@@ -59,7 +58,7 @@ IsFaultIn (Err Wants) fault = fault ≡ OutOfMemory
 IsFaultIn answer fault = ⊥
 
 -- what such a call leaves
-abbrev pub NotEntered : Weigher → Still → ℕ → View → View → ThreadFault → Type 0
+abbrev pub NotEntered : Weigher → Counted → ℕ → View → View → ThreadFault → Type 0
 NotEntered g opening bound v v' HistoryFull = IsFull g opening bound v v'
 NotEntered g opening bound v v' LinkClosed = ⊥
 NotEntered g opening bound v v' OutOfMemory = HasNoMemory g opening bound v v'

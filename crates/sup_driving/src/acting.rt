@@ -2,6 +2,7 @@
 ghost use Rattle.std.specs.Prelude.{◌++◌, IfOk, IfErr, OnOk};
 ghost use Rattle.sup_node_gate.specs.declared.view.View.{View};
 ghost use Rattle.sup_node_gate.specs.Gates.{IsOf, view_of, bound_of};
+ghost use Rattle.sup_node_gate.specs.InMemory.{failures_by, sound_by};
 ghost use Rattle.sup_station.specs.Opening.{kept_by};
 ghost use Rattle.sup_driving.specs.Called.{CalledFor, SeesMore, Tells, runs_in, StopsCalling};
 ghost use Rattle.sup_posts.specs.Rounds.{failed, runs_of};
@@ -27,8 +28,8 @@ impl<'a, R: Wait, W: Weigh, N: Runner, C> Field<'a, R, W, N, C> {
         effects: Effects,
         now: u64,
     ) -> Result<(), ThreadFault>
-        requires { IsOf kept_by post.now.gate seat.old }
-        ensures of { IsOf kept_by post.now.gate seat.new }
+        requires { IsOf kept_by failures_by sound_by post.now.gate seat.old }
+        ensures of { IsOf kept_by failures_by sound_by post.now.gate seat.new }
         ensures seen { OnOk result (SeesMore (view_of seat.old) (view_of seat.new)) }
         ensures told { OnOk result (Tells now (runs_of effects) (view_of seat.old) (view_of seat.new)) }
         ensures fault { IfErr result (StopsCalling (bound_of post.now.gate) (view_of seat.new)) }
@@ -55,8 +56,8 @@ impl<'a, R: Wait, W: Weigh, N: Runner, C> Field<'a, R, W, N, C> {
         now: u64,
         waiting: &mut VecDeque<Effects>,
     ) -> Result<(), ThreadFault>
-        requires { IsOf kept_by post.now.gate seat.old }
-        ensures of { IsOf kept_by post.now.gate seat.new }
+        requires { IsOf kept_by failures_by sound_by post.now.gate seat.old }
+        ensures of { IsOf kept_by failures_by sound_by post.now.gate seat.new }
         ensures seen { OnOk result (SeesMore (view_of seat.old) (view_of seat.new)) }
         ensures told { (u : View) → OnOk result (Tells now (runs_in waiting.new.items) (view_of seat.new) u
             → Tells now (runs_of effects.now ++ runs_in waiting.old.items) (view_of seat.old) u) }
@@ -86,8 +87,8 @@ impl<'a, R: Wait, W: Weigh, N: Runner, C> Field<'a, R, W, N, C> {
         inc: Incarnation,
         now: u64,
     ) -> Result<Effects, ThreadFault>
-        requires { IsOf kept_by post.now.gate seat.old }
-        ensures of { IsOf kept_by post.now.gate seat.new }
+        requires { IsOf kept_by failures_by sound_by post.now.gate seat.old }
+        ensures of { IsOf kept_by failures_by sound_by post.now.gate seat.new }
         ensures called { IfOk result (CalledFor (view_of seat.old) (failed (id.now, inc)) now (view_of seat.new)) }
         ensures fault { IfErr result (StopsCalling (bound_of post.now.gate) (view_of seat.new)) }
     {

@@ -1,6 +1,7 @@
 //! A call at a node's gate.
 ghost use Rattle.std.specs.Prelude.{◌≡◌, true, IfOk, IfErr, OnOk};
 ghost use Rattle.sup_node_gate.specs.Gates.{IsOf, view_of, opening_of, bound_of};
+ghost use Rattle.sup_node_gate.specs.InMemory.{failures_by, sound_by};
 ghost use Rattle.sup_node_gate.specs.Histories.{may_enter};
 ghost use Rattle.sup_station.specs.Opening.{kept_by};
 ghost use Rattle.sup_posts.specs.Rounds.{effects_of};
@@ -66,10 +67,10 @@ impl<'a, R: Wait, W: Weigh, N, C> Field<'a, R, W, N, C> {
         act: Act,
         now: u64,
     ) -> Result<Brought, ThreadFault>
-        requires { IsOf kept_by post.now.gate seat.old }
-        ensures of { IsOf kept_by post.now.gate seat.new }
+        requires { IsOf kept_by failures_by sound_by post.now.gate seat.old }
+        ensures of { IsOf kept_by failures_by sound_by post.now.gate seat.new }
         ensures called { IfOk result (λ brought. Called (view_of seat.old) act now brought.effects brought.letter (view_of seat.new)) }
-        ensures refused { IfErr result (NotEntered W.weight_of (opening_of kept_by post.now.gate) (bound_of post.now.gate) (view_of seat.old) (view_of seat.new)) }
+        ensures refused { IfErr result (NotEntered W.weight_of (opening_of kept_by failures_by sound_by post.now.gate) (bound_of post.now.gate) (view_of seat.old) (view_of seat.new)) }
     {
         let answer = post.gate.call(self.rt, seat, act, now, self.weigher);
         entered(&answer)?;

@@ -2,6 +2,7 @@
 ghost use Rattle.std.specs.Prelude.{◌++◌, ◌⊎◌, [], ◌∷◌, map, IfErr, OnOk, List};
 ghost use Rattle.std.specs.List.{AllZip};
 ghost use Rattle.sup_node_gate.specs.Gates.{IsOf, view_of, bound_of};
+ghost use Rattle.sup_node_gate.specs.InMemory.{failures_by, sound_by};
 ghost use Rattle.sup_station.specs.Opening.{kept_by};
 ghost use Rattle.sup_plan.specs.Calls.{Call, asked};
 ghost use Rattle.sup_posts.specs.Rounds.{Makes};
@@ -29,8 +30,8 @@ impl<'a, R: Wait, W: Weigh, N: Runner, C: Checkpoint> Field<'a, R, W, N, C> {
         place: u64,
         wires: &mut [Wire],
     ) -> Result<(), ThreadFault>
-        requires { IsOf kept_by post.now.gate seat.old }
-        ensures of { IsOf kept_by post.now.gate seat.new }
+        requires { IsOf kept_by failures_by sound_by post.now.gate seat.old }
+        ensures of { IsOf kept_by failures_by sound_by post.now.gate seat.new }
         ensures later { OnOk result (AllZip IsLater wires.old wires.new) }
         ensures did { (calls : List Call) → Did calls (view_of seat.old).seen wires.old
             → OnOk result (Did (calls ++ asked command ∷ []) (view_of seat.new).seen wires.new) }
@@ -65,8 +66,8 @@ impl<'a, R: Wait, W: Weigh, N: Runner, C: Checkpoint> Field<'a, R, W, N, C> {
         commands: Vec<Command>,
         wires: &mut [Wire],
     ) -> Result<(), ThreadFault>
-        requires { IsOf kept_by post.now.gate seat.old }
-        ensures of { IsOf kept_by post.now.gate seat.new }
+        requires { IsOf kept_by failures_by sound_by post.now.gate seat.old }
+        ensures of { IsOf kept_by failures_by sound_by post.now.gate seat.new }
         ensures later { OnOk result (AllZip IsLater wires.old wires.new) }
         ensures did { OnOk result (Did (map asked commands.items) (view_of seat.new).seen wires.new) }
         ensures made { OnOk result (Makes (view_of seat.old) (map asked commands.items) (view_of seat.new)) }

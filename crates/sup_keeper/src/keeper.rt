@@ -27,8 +27,8 @@ impl From<AllocError> for KeepFault {
     }
 }
 
-/// Keeps bytes, and counts how often it failed to, once a call at most. A contract sees the bytes and the count, and two tests that may both
-/// answer no.
+/// Keeps bytes, and counts how often it failed to, once a call at most. A contract sees the bytes and the count, and three
+/// tests that may all answer no.
 pub trait Keeper: Drop {
     // The bytes that are kept.
     ghost kept: { Self → Bytes };
@@ -41,6 +41,9 @@ pub trait Keeper: Drop {
 
     // No save fails but for memory.
     ghost sound: { Self → Bool };
+
+    // No load fails but for memory.
+    ghost readable: { Self → Bool };
 
     /// Keeps these bytes in place of the old ones.
     ///
@@ -57,6 +60,8 @@ pub trait Keeper: Drop {
         ensures uncounted { OnOk result (failures self.new ≡ failures self.old) }
         ensures failing { failing self.old ≡ true → IsErr result }
         ensures sound { sound self.old ≡ true → result ≢ Err Failed }
+        ensures stays_sound { sound self.old ≡ true → sound self.new ≡ true }
+        ensures stays_readable { readable self.old ≡ true → readable self.new ≡ true }
         ensures steady { sound self.old ≡ true → failures self.new ≡ failures self.old };
 
     /// The bytes that are kept. They stay.
@@ -74,8 +79,10 @@ pub trait Keeper: Drop {
         ensures uncounted { OnOk result (failures self.new ≡ failures self.old) }
         ensures stays_failing { failing self.new ≡ failing self.old }
         ensures stays_sound { sound self.new ≡ sound self.old }
+        ensures stays_readable { readable self.new ≡ readable self.old }
         ensures failing { failing self.old ≡ true → result ≢ Err Failed }
         ensures sound { sound self.old ≡ true → result ≢ Err Failed }
+        ensures readable { readable self.old ≡ true → result ≢ Err Failed }
         ensures steady { (failing self.old ≡ true) ⊎ (sound self.old ≡ true) → failures self.new ≡ failures self.old };
 
     /// How often a save or a load has failed.

@@ -1,47 +1,36 @@
 -- One act of one node, in both worlds.
-use Rattle.std.specs.Map.{lookup}
-use Rattle.std.specs.Str.{bytes_eq}
-use Rattle.sup_local_sup.specs.Planning.{ruling, left, restart_kept, restarted_with, restart_effects, leaving_after, leaving_effects, last_stops, kept_of_leaving, forgets as forgetting}
+use Rattle.sup_local_sup.specs.Planning.{ruling}
 use Rattle.sup_local_sup.specs.declared.leaving.Ruling.TheVariants.{Stale, Restart as Again, Finish, GiveUp}
 use Rattle.sup_local_sup.specs.declared.leaving.Ruling.{Ruling}
-use Rattle.sup_local_sup.specs.declared.leaving.Leaving.TheVariants.{Nobody, Finished as finished, GaveUp as gave_up}
-use Rattle.sup_local_sup.specs.declared.leaving.Leaving.{Leaving}
-use Rattle.std.specs.Prelude.{ℕ, zero, suc, ◌≡◌, ◌+◌, ◌-◌, ◌==◌, ◌≤◌, ◌<◌, Bool, true, false, cond, not, ◌&&◌, List, [], ◌∷◌, ◌++◌, map, find, max, length, refl, Option, Some, None, Result, Ok, Err, nat_lt, nat_le, slice_get, is_some, unwrap_or, if◌then◌else◌, drop}
+use Rattle.std.specs.Prelude.{ℕ, zero, suc, ◌≡◌, ◌+◌, ◌-◌, ◌≤◌, Bool, true, false, not, ◌&&◌, List, [], ◌∷◌, ◌++◌, map, length, refl, Option, Some, None, Result, Ok, Err, nat_lt, nat_le, slice_get, unwrap_or, if◌then◌else◌, drop}
 use Rattle.std.proofs.Common.{sym, ap, ◌∙◌, subst, arith}
-use mathlib.Core.Bool.{true≢false}
 use mathlib.Core.Logic.{◌⊎◌, inl, inr}
-use Rattle.std.proofs.lemmas.Bool.{le-leb, lt-leb, leb-true}
-use Rattle.sup_specs.specs.Values.{Bytes, text_cmp}
+use Rattle.std.proofs.lemmas.Bool.{le-leb, lt-leb}
+use Rattle.sup_specs.specs.Values.{Bytes}
 use Rattle.sup_tables.specs.Operations.{Operation}
 use Rattle.sup_tables.specs.Makers.{drop_member, finish_child}
-use Rattle.sup_local_sup.specs.declared.effect.Effect.{Effect}
-use Rattle.sup_local_sup.specs.Supervising.{Supervisor, with_all, forgotten, wanted_after, wanted_effects, others}
 use Rattle.sup_replica.specs.declared.event.Event.{Event}
 use Rattle.sup_replica.specs.declared.event.Event.TheVariants.{Join, Leave, Drain, Start, Replace, Delete, Register, Unregister, Exit, Ship, Push, Deliver}
-use Rattle.sup_replica.specs.declared.event.Act.TheVariants.{Event as Of, Stop, Restart}
-use Rattle.sup_replica.specs.declared.event.Act.{Act as Deed}
+use Rattle.sup_replica.specs.declared.event.Act.TheVariants.{Event as Of}
 use Rattle.sup_replica.specs.declared.done.Reply.{Reply}
-use Rattle.sup_replica.specs.declared.done.Reply.TheVariants.{Sent, Acked, Stopped, Boot}
 use Rattle.sup_replica.specs.declared.refusal.Refusal.{Refusal}
-use Rattle.sup_replica.specs.declared.refusal.Refusal.TheVariants.{Down, AlreadyUp, UnknownNode, StaleExit, BadMessage, WrongReceiver, CountSpent, KeepFailed}
-use Rattle.sup_replica.specs.Checks.{refused_if, then_do}
+use Rattle.sup_replica.specs.declared.refusal.Refusal.TheVariants.{Down, UnknownNode, CountSpent, KeepFailed}
+use Rattle.sup_replica.specs.Checks.{refused_if}
 use Rattle.sup_placement.specs.Place.{Weigher}
-use Rattle.sup_model.specs.Worlds.{Ops, World, Site, posted, number_of}
-use Rattle.sup_replica.specs.Nodes.{Knowledge, Node, Message, Outcome, Kind, by_operations, is_named, delta as is_delta, push as is_push, ack as is_ack}
-use Rattle.sup_replica.specs.Steps.{reading, issues, command, exit_step, event_step, up_step, passes_greatest, with_own}
-use Rattle.sup_replica.specs.Acts.{reconciled, stopped, booted, act_step, absorbs, takes, deliver, kept_by, answer_to, changes}
-use Rattle.sup_replica.specs.Steps.{only, push_step}
-use Rattle.sup_replica.specs.Commands as commands
+use Rattle.sup_model.specs.Worlds.{Ops, posted, number_of}
+use Rattle.sup_replica.specs.Nodes.{Knowledge, Node, Message, Outcome, is_named, push as is_push}
+use Rattle.sup_replica.specs.Steps.{command, exit_step, up_step, passes_greatest}
+use Rattle.sup_replica.specs.Acts.{act_step, kept_by}
+use Rattle.sup_replica.specs.Steps.{push_step}
 use Rattle.sup_model.proofs.Afters.{After, after-refused_if, after-then_do}
-use Rattle.sup_anti_entropy.specs.Joins.{Joins, newest_of, joined}
-use Rattle.sup_anti_entropy.specs.Peers.{In, Letter, delta, push, ack, Peer, Has, Gives, Local, Between, Sound, past_with, changed, sends, forgets}
-use Rattle.sup_anti_entropy.proofs.PeerLaws.{Grows, Moves, Fresh, moves_sound}
-use Rattle.sup_anti_entropy.proofs.StepLaws.{in-last, past_old, past_new, moves_change, moves_stay, moves_alike, moves_ack, moves_forget, moves_send, up_to_date, part_gives, whole_gives, taken_has, known_both_ways}
-use Rattle.sup_anti_entropy.specs.Peers.{Change}
+use Rattle.sup_anti_entropy.specs.Joins.{newest_of}
+use Rattle.sup_anti_entropy.specs.Peers.{In, Peer, past_with, changed, sends}
+use Rattle.sup_anti_entropy.proofs.PeerLaws.{Moves, Fresh}
+use Rattle.sup_anti_entropy.proofs.StepLaws.{in-last, past_old, past_new, moves_change, moves_alike, moves_send}
 use Rattle.sup_model.specs.Laws.{View, Laws}
-use Rattle.sup_replica.specs.Stations.{Station, Mail, a_delta, a_push, an_ack, Move, shipped, notes, volatile, pushed, moved, ship_step, own_step, volatile_step, station_step, as_message, taken_with, acknowledged, mail_step}
-use Rattle.sup_model.specs.Posts.{Post, Real, mailed, mail_number}
-use Rattle.sup_model.specs.Stands.{NodeStands, MessageStands, OutcomeStands, Together, BothOrNone}
+use Rattle.sup_replica.specs.Stations.{Station, Mail, a_delta, a_push, an_ack, Move, notes, pushed, moved}
+use Rattle.sup_model.specs.Posts.{mailed, mail_number}
+use Rattle.sup_model.specs.Stands.{NodeStands, MessageStands, OutcomeStands, BothOrNone}
 use Rattle.sup_model.specs.Joint.{Trio, Joint, letter_of, peer, Peers, AllValid, MailStands, AllMail, TrioStands, Holds}
 use Rattle.std.proofs.lemmas.List.{drop-map}
 use Rattle.std.proofs.lemmas.Option.{none-some}

@@ -1,9 +1,8 @@
 -- Bytes at a station, and a child's restart.
 use Rattle.std.specs.Prelude.{◌≡◌, ℕ, false, not, Option, Result, Ok, None, refl}
-use Rattle.std.proofs.Common.{sym, ap, subst}
+use Rattle.std.proofs.Common.{ap, subst}
 use Rattle.sup_specs.specs.Values.{Bytes}
 use Rattle.sup_tables.specs.States.{State}
-use Rattle.sup_placement.specs.Place.{Weigher}
 use Rattle.std.specs.Str.{bytes_eq}
 use Rattle.std.specs.Map.{lookup}
 use Rattle.sup_local_sup.specs.Supervising.{with_all}

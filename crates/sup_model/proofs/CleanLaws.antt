@@ -1,57 +1,50 @@
 -- No two operations of a model world add the same dot.
 use Rattle.std.specs.Map.{lookup}
 use Rattle.std.specs.Str.{bytes_eq}
-use Rattle.sup_local_sup.specs.Planning.{ruling, left, restart_kept, restarted_with, restart_effects, leaving_after, leaving_effects, last_stops, kept_of_leaving, forgets as forgetting}
+use Rattle.sup_local_sup.specs.Planning.{ruling, restarted_with, restart_effects}
 use Rattle.sup_local_sup.specs.declared.leaving.Ruling.TheVariants.{Stale, Restart as Again, Finish, GiveUp}
 use Rattle.sup_local_sup.specs.declared.leaving.Ruling.{Ruling}
 use Rattle.sup_local_sup.specs.declared.leaving.Leaving.TheVariants.{Nobody, Finished as finished, GaveUp as gave_up}
 use Rattle.sup_local_sup.specs.declared.leaving.Leaving.{Leaving}
-use Rattle.std.specs.Prelude.{◌≡◌, ◌≢◌, ℕ, zero, suc, ◌+◌, ◌-◌, ◌==◌, ◌≤◌, ◌<◌, Bool, true, false, cond, not, ◌||◌, ◌&&◌, List, [], ◌∷◌, ◌++◌, map, filter, find, refl, Option, Some, None, Result, Ok, Err, length, nat_le, slice_get, unwrap_or, if◌then◌else◌}
-use Rattle.std.specs.List.{list_any, list_all, cons_option}
+use Rattle.std.specs.Prelude.{◌≡◌, ℕ, Bool, true, false, not, ◌||◌, ◌&&◌, [], ◌∷◌, ◌++◌, refl, Option, Some, None, Result, Ok, Err}
+use Rattle.std.specs.List.{cons_option}
 use Rattle.std.specs.Ordering.{eq_by_cmp}
-use Rattle.std.proofs.Common.{sym, ◌∙◌, subst, arith}
+use Rattle.std.proofs.Common.{sym, ◌∙◌, subst}
 use Rattle.std.proofs.lemmas.Bool.{or_left, or_right}
 use Rattle.std.proofs.lemmas.Option.{none-some}
 use mathlib.Core.Bool.{true≢false}
 use mathlib.Core.Logic.{◌⊎◌, inl, inr}
-use Rattle.sup_specs.specs.declared.child.ExitReason.{ExitReason}
-use Rattle.sup_specs.specs.Values.{Bytes, text_cmp}
-use Rattle.sup_specs.specs.Rising.{rising, among}
+use Rattle.sup_specs.specs.Values.{Bytes}
+use Rattle.sup_specs.specs.Rising.{among}
 use Rattle.sup_causal.specs.declared.dot.Dot.{Dot}
 use Rattle.sup_tables.specs.declared.row.Row.{Row}
 use Rattle.sup_tables.specs.Rows.{row_cmp}
-use Rattle.sup_tables.specs.Operations.{Operation, known, named, added, live, greatest, covers}
+use Rattle.sup_tables.specs.Operations.{Operation, live, covers}
 use Rattle.sup_tables.specs.Makers.{finish_child, drop_member}
 use Rattle.sup_tables.proofs.AddLaws.{among-added-append, row_itself}
 use Rattle.sup_tables.proofs.OneOperationLaws.{row_of_option}
-use Rattle.sup_local_sup.specs.declared.effect.Effect.{Effect}
-use Rattle.sup_local_sup.specs.Supervising.{Supervisor, with_all, forgotten, wanted_after, wanted_effects, others}
+use Rattle.sup_local_sup.specs.Supervising.{with_all, others}
 use Rattle.sup_replica.specs.declared.event.Event.{Event}
 use Rattle.sup_replica.specs.declared.event.Event.TheVariants.{Join, Leave, Drain, Start, Replace, Delete, Register, Unregister, Exit, Ship, Push, Deliver}
 use Rattle.sup_replica.specs.declared.event.Act.TheVariants.{Event as Of, Stop, Restart}
 use Rattle.sup_replica.specs.declared.event.Act.{Act}
 use Rattle.sup_replica.specs.declared.done.Reply.{Reply}
-use Rattle.sup_replica.specs.declared.done.Reply.TheVariants.{Added, Replaced, Removed, Restarted, Finished, GaveUp, Sent, Absorbed, Known, Acked, Stopped, Boot}
+use Rattle.sup_replica.specs.declared.done.Reply.TheVariants.{Removed, Restarted, Finished, GaveUp, Sent, Stopped, Boot}
 use Rattle.sup_replica.specs.declared.refusal.Refusal.{Refusal}
-use Rattle.sup_replica.specs.declared.refusal.Refusal.TheVariants.{Down, AlreadyUp, UnknownNode, StaleExit, BadMessage, WrongReceiver, CountSpent, KeepFailed, NoSuchMessage}
-use Rattle.sup_replica.specs.Checks.{refused_if, then_do}
+use Rattle.sup_replica.specs.declared.refusal.Refusal.TheVariants.{Down, AlreadyUp, UnknownNode, BadMessage, WrongReceiver, CountSpent, KeepFailed}
+use Rattle.sup_replica.specs.Checks.{refused_if}
 use Rattle.sup_placement.specs.Place.{Weigher}
-use Rattle.sup_model.specs.Worlds.{Ops, World, Site, Stepped, site_of, with_site, message_of, or_refused, acted, posted, target_is_here, step, new}
-use Rattle.sup_replica.specs.Nodes.{Node, Kind, delta, push, ack, Message, Outcome, by_operations, is_named, fresh}
-use Rattle.sup_replica.specs.Nodes.{Told}
+use Rattle.sup_model.specs.Worlds.{Ops}
+use Rattle.sup_replica.specs.Nodes.{Node, Kind, delta, push, ack, Message, Outcome, by_operations, is_named}
 use Rattle.sup_replica.specs.Commands as commands
-use Rattle.sup_replica.specs.Steps.{reading, issues, command, exit_step, event_step, up_step, passes_greatest, with_own}
-use Rattle.sup_replica.specs.Acts.{reconciled, stopped, booted, act_step, absorbs, takes, deliver, kept_by, answer_to, changes, keeps}
+use Rattle.sup_replica.specs.Steps.{reading, issues, command, exit_step, up_step, passes_greatest}
+use Rattle.sup_replica.specs.Acts.{stopped, booted, act_step, absorbs, takes, deliver, kept_by, answer_to, keeps}
 use Rattle.sup_replica.specs.Steps.{only, push_step}
-use Rattle.sup_model.specs.declared.step.Step.{Step}
-use Rattle.sup_model.specs.declared.step.Step.TheVariants.{Node as AtNode, Deliver as Delivery, Raw}
-use Rattle.sup_model.specs.Runs.{world_after, run, dot_of}
-use Rattle.sup_model.proofs.Afters.{After, after-refused_if, after-then_do, after-or_refused}
+use Rattle.sup_model.specs.Runs.{dot_of}
+use Rattle.sup_model.proofs.Afters.{After, after-refused_if, after-then_do}
 use Rattle.sup_anti_entropy.specs.Peers.{In}
-use Rattle.sup_anti_entropy.proofs.StepLaws.{in-last}
 use Rattle.sup_model.specs.Clean.{HasRow, ops_in}
-use Rattle.sup_model.proofs.TopLaws.{known-greatest}
-use Rattle.sup_model.proofs.IssueLaws.{Issued, Adds, IsTop, join_issued, leave_issued, drain_issued, start_issued, replace_issued, delete_issued, register_issued, unregister_issued, removing_issued, added-greatest, reading_top}
+use Rattle.sup_model.proofs.IssueLaws.{Issued, Adds, join_issued, leave_issued, drain_issued, start_issued, replace_issued, delete_issued, register_issued, unregister_issued, removing_issued, reading_top}
 
 abbrev pub letter_ops : Option (Message Ops) → Ops
 letter_ops None = []

@@ -1,5 +1,5 @@
 -- A step keeps a world clean: each added row is known where its dot is from, no dot has two rows, and no reply gives a dot again.
-use Rattle.std.specs.Prelude.{◌≡◌, ◌≢◌, ℕ, zero, suc, ◌+◌, ◌-◌, ◌==◌, ◌≤◌, ◌<◌, Bool, true, false, cond, not, ◌||◌, ◌&&◌, List, [], ◌∷◌, ◌++◌, map, find, refl, Option, Some, None, Result, Ok, Err, slice_get, unwrap_or, if◌then◌else◌, AllPairs, All, slice_index_or, length}
+use Rattle.std.specs.Prelude.{◌≡◌, ◌≢◌, ℕ, zero, suc, ◌+◌, ◌-◌, ◌==◌, ◌≤◌, ◌<◌, Bool, true, false, cond, not, List, [], ◌∷◌, ◌++◌, map, find, refl, Option, Some, None, Result, Ok, Err, slice_get, unwrap_or, if◌then◌else◌, AllPairs, All, slice_index_or, length}
 use Rattle.std.proofs.Common.{sym, ap, ◌∙◌, subst, arith}
 use Rattle.std.proofs.lemmas.List.Kept.{AllPairs-cons}
 use Rattle.std.proofs.lemmas.Option.{none-some}
@@ -15,20 +15,18 @@ use Rattle.sup_replica.specs.declared.done.Reply.TheVariants.{Added as adds_one,
 use Rattle.sup_replica.specs.declared.refusal.Refusal.{Refusal}
 use Rattle.sup_replica.specs.declared.refusal.Refusal.TheVariants.{Down, UnknownNode, BadMessage, NoSuchMessage}
 use Rattle.sup_replica.specs.Checks.{refused_if, then_do}
-use Rattle.sup_model.specs.Worlds.{Setting, Ops, World, Site, Answer, Stepped, site_of, with_site, message_of, or_refused, acted, posted, target_is_here, step, new}
-use Rattle.sup_replica.specs.Nodes.{Node, Message, Outcome, by_operations, is_named, fresh}
-use Rattle.sup_replica.specs.Commands as commands
-use Rattle.sup_replica.specs.Steps.{reading}
+use Rattle.sup_model.specs.Worlds.{Setting, Ops, World, Site, Answer, Stepped, site_of, message_of, or_refused, acted, posted, target_is_here, step, new}
+use Rattle.sup_replica.specs.Nodes.{Message, Outcome, by_operations, is_named, fresh}
 use Rattle.sup_replica.specs.Acts.{act_step, deliver, kept_by}
 use Rattle.sup_model.specs.declared.step.Step.{Step}
 use Rattle.sup_model.specs.declared.step.Step.TheVariants.{Node as AtNode, Deliver as Delivery, Raw}
 use Rattle.sup_model.specs.Runs.{world_after, dot_of, answer_of, new_dots}
-use Rattle.sup_model.proofs.Afters.{After, after-refused_if, after-then_do, after-or_refused}
+use Rattle.sup_model.proofs.Afters.{After, after-refused_if, after-or_refused}
 use Rattle.sup_anti_entropy.specs.Peers.{In}
 use Rattle.sup_anti_entropy.proofs.StepLaws.{in-last}
-use Rattle.sup_model.specs.Clean.{HasRow, ops_in, InLetter, SiteHas, Added, Clean}
+use Rattle.sup_model.specs.Clean.{HasRow, SiteHas, Added, Clean}
 use Rattle.sup_model.proofs.IssueLaws.{added-greatest, some_same}
-use Rattle.sup_model.proofs.CleanLaws.{Takes, Has, letter_ops, act_take, deliver_take, kept_by_after, row-append, row-left, row-right}
+use Rattle.sup_model.proofs.CleanLaws.{Takes, Has, letter_ops, act_take, deliver_take, kept_by_after, row-append}
 
 -- lists
 pub find-in : {X : Type 0} (p : X → Bool) (xs : List X) (x : X) → find p xs ≡ Some x → In xs x × (p x ≡ true)

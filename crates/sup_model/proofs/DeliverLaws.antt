@@ -1,35 +1,30 @@
 -- Deliveries, in both worlds.
-use Rattle.std.specs.Prelude.{ℕ, zero, suc, ◌≡◌, ◌+◌, ◌-◌, ◌==◌, ◌≤◌, ◌<◌, Bool, true, false, cond, not, ◌&&◌, List, [], ◌∷◌, ◌++◌, map, find, max, length, refl, Option, Some, None, Result, Ok, Err, nat_lt, nat_le, if◌then◌else◌}
+use Rattle.std.specs.Prelude.{ℕ, suc, ◌≡◌, ◌+◌, ◌==◌, ◌≤◌, Bool, true, false, not, ◌&&◌, [], ◌++◌, map, max, refl, Option, Some, None, Result, Ok, Err, nat_lt, nat_le, if◌then◌else◌}
 use Rattle.std.proofs.Common.{sym, ap, ◌∙◌, subst, arith}
-use mathlib.Core.Bool.{true≢false}
 use mathlib.Core.Logic.{◌⊎◌, inl, inr}
 use Rattle.std.proofs.lemmas.Bool.{le-leb, lt-leb, leb-true, eqb-true}
 use Rattle.std.specs.Ordering.{eq_by_cmp}
 use Rattle.sup_specs.specs.Values.{Bytes, text_cmp}
-use Rattle.sup_tables.specs.declared.row.Row.{Row}
-use Rattle.sup_tables.specs.Operations.{Operation, covers, Covers, NoClash}
+use Rattle.sup_tables.specs.Operations.{covers, NoClash}
 use Rattle.sup_replica.specs.declared.done.Reply.TheVariants.{Acked}
 use Rattle.sup_replica.specs.declared.refusal.Refusal.{Refusal}
-use Rattle.sup_replica.specs.declared.refusal.Refusal.TheVariants.{Down, UnknownNode, BadMessage, WrongReceiver, CountSpent, KeepFailed}
+use Rattle.sup_replica.specs.declared.refusal.Refusal.TheVariants.{Down, BadMessage, WrongReceiver, CountSpent, KeepFailed}
 use Rattle.sup_replica.specs.Checks.{refused_if, then_do}
 use Rattle.sup_placement.specs.Place.{Weigher}
-use Rattle.sup_model.specs.Worlds.{Ops, World, Site}
+use Rattle.sup_model.specs.Worlds.{Ops}
 use Rattle.sup_replica.specs.Nodes.{Knowledge, Node, Message, Outcome, Kind, by_operations, is_named, delta as is_delta, push as is_push, ack as is_ack}
-use Rattle.sup_replica.specs.Acts.{reconciled, absorbs, takes, deliver, kept_by, answer_to}
+use Rattle.sup_replica.specs.Acts.{absorbs, takes, deliver, kept_by}
 use Rattle.sup_replica.specs.Steps.{only}
 use Rattle.sup_replica.specs.Steps.{passes_greatest}
 use Rattle.sup_model.proofs.Afters.{After}
-use Rattle.sup_anti_entropy.specs.Joins.{Joins, newest_of, joined}
-use Rattle.sup_anti_entropy.specs.Peers.{In, Letter, delta, push, ack, Peer, Has, Gives, Local, Sound, past_with}
-use Rattle.sup_anti_entropy.proofs.PeerLaws.{Moves, Fresh}
-use Rattle.sup_anti_entropy.proofs.StepLaws.{moves_stay, moves_ack, taken_has, past_old}
-use Rattle.sup_model.specs.Laws.{View, Laws, Alike}
-use Rattle.sup_model.specs.Clean.{HasRow, Clean, Added, InLetter}
-use Rattle.sup_replica.specs.Stations.{Station, Mail, a_delta, a_push, an_ack, Move, notes, moved, as_message, taken_with, acknowledged, mail_step}
-use Rattle.sup_model.specs.Posts.{Post, arrives}
-use Rattle.sup_replica.specs.Stations.{receiver_of}
+use Rattle.sup_anti_entropy.specs.Peers.{In, delta, ack, Peer, Has, past_with}
+use Rattle.sup_anti_entropy.proofs.PeerLaws.{Fresh}
+use Rattle.sup_anti_entropy.proofs.StepLaws.{moves_ack, taken_has, past_old}
+use Rattle.sup_model.specs.Laws.{View, Laws}
+use Rattle.sup_replica.specs.Stations.{Mail, a_delta, a_push, an_ack, Move, notes, moved, acknowledged}
+use Rattle.sup_model.specs.Posts.{arrives}
 use Rattle.sup_model.specs.Stands.{NodeStands, MessageStands, OutcomeStands, Together, BothOrNone}
-use Rattle.sup_model.specs.Joint.{Trio, Joint, model_of, letter_of, peer, Peers, MailStands, TrioStands, Holds}
+use Rattle.sup_model.specs.Joint.{Trio, Joint, model_of, letter_of, peer, Peers, MailStands, Holds}
 use Rattle.sup_model.proofs.TopLaws.{alike_of_Covers}
 use Rattle.sup_tables.proofs.CoverTests.{Covers-from_test, test-from_Covers}
 use Rattle.sup_tables.proofs.PointLaws.{same_text}
@@ -38,7 +33,7 @@ use Rattle.sup_model.proofs.IssueLaws.{some_same}
 use Rattle.sup_model.proofs.CleanWorld.{no_clash}
 use Rattle.sup_model.proofs.SimLaws.{kept_stands, reconciled_stands, changes_same}
 use Rattle.sup_model.proofs.ActLaws.{now_still, now_changed, notes_valid, change_of, Act, kept_after, kept_fits, trio_with, in-letters, noted_moves, still_moves}
-use Rattle.sup_model.proofs.MailLaws.{in-sites, through, no_letters, none_fresh}
+use Rattle.sup_model.proofs.MailLaws.{in-sites, through, none_fresh}
 use Rattle.sup_model.proofs.ShipLaws.{covers_below}
 
 module _ {K : Type 0} (k : Knowledge K) (view : View K) (laws : Laws k view) where
@@ -100,7 +95,7 @@ module _ {K : Type 0} (k : Knowledge K) (view : View K) (laws : Laws k view) whe
   absorbs_taken g n content letter true e = record { name = refl; known = refl; how = inl (refl, e) }
   absorbs_taken g n content letter false e = record { name = refl; known = refl; how = inr refl }
 
-  absorbs_stand : (g : Weigher) (n : Node K) (m : Node Ops) (content : K) (more : Ops) (a : Option (Message K)) (b : Option (Message Ops)) → NodeStands view n m → view.stands (k.with_more n.known content) (m.known ++ more) → BothOrNone (MessageStands view) a b
+  pub absorbs_stand : (g : Weigher) (n : Node K) (m : Node Ops) (content : K) (more : Ops) (a : Option (Message K)) (b : Option (Message Ops)) → NodeStands view n m → view.stands (k.with_more n.known content) (m.known ++ more) → BothOrNone (MessageStands view) a b
       → (c : Bool) → OutcomeStands view (absorbs k g n content a c) (absorbs by_operations g m more b c)
   absorbs_stand g n m content more a b h s l true =
       record { reply = refl; effects = refl; letter = l; saves = refl; node = record { name = h.name; up = h.up; count = h.count; supervisor = h.supervisor; state = s; newest = h.newest } }
@@ -115,7 +110,7 @@ module _ {K : Type 0} (k : Knowledge K) (view : View K) (laws : Laws k view) whe
     pub letter : o.letter ≡ l
     pub fits : passes_greatest o.node ≡ false
 
-  absorbs_letter : (g : Weigher) (m : Node Ops) (more : Ops) (b : Option (Message Ops)) (c : Bool) → (absorbs by_operations g m more b c).letter ≡ b
+  pub absorbs_letter : (g : Weigher) (m : Node Ops) (more : Ops) (b : Option (Message Ops)) (c : Bool) → (absorbs by_operations g m more b c).letter ≡ b
   absorbs_letter g m more b true = refl
   absorbs_letter g m more b false = refl
 

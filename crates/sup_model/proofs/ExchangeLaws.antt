@@ -1,13 +1,12 @@
 -- What one exchange of settling does: the receiver absorbs all that the sender absorbed, and nobody else absorbs anything.
-use Rattle.std.specs.Prelude.{ℕ, ◌≡◌, ◌⊎◌, ◌+◌, ◌-◌, ◌==◌, Bool, true, false, cond, not, List, [], ◌∷◌, ◌++◌, length, map, find, slice_get, Option, Some, None, Result, Ok, Err, unwrap_or, refl, if◌then◌else◌}
+use Rattle.std.specs.Prelude.{ℕ, ◌≡◌, ◌+◌, ◌-◌, ◌==◌, Bool, true, false, cond, not, List, [], ◌∷◌, ◌++◌, length, map, find, slice_get, Option, Some, None, Result, Ok, refl, if◌then◌else◌}
 use Rattle.std.specs.Option.{option_map}
 use Rattle.std.proofs.Common.{sym, ap, ◌∙◌, subst, arith}
 use mathlib.Core.Logic.{inl, inr}
-use mathlib.Core.Bool.{true≢false}
 use Rattle.std.proofs.lemmas.Bool.{ne_eqb}
 use Rattle.std.proofs.lemmas.Option.{none-some, same_Some}
 use Rattle.sup_specs.specs.Values.{Bytes}
-use Rattle.sup_tables.specs.Operations.{Covers, covers}
+use Rattle.sup_tables.specs.Operations.{covers}
 use Rattle.sup_tables.proofs.PointLaws.{text_itself, same_text}
 use Rattle.sup_replica.specs.declared.event.Act.TheVariants.{Event as Of}
 use Rattle.sup_replica.specs.declared.event.Event.TheVariants.{Ship}
@@ -15,12 +14,11 @@ use Rattle.sup_replica.specs.declared.done.Reply.TheVariants.{Sent as IsSent}
 use Rattle.sup_replica.specs.declared.refusal.Refusal.{Refusal}
 use Rattle.sup_replica.specs.declared.refusal.Refusal.TheVariants.{Down, UnknownNode, NoSuchMessage, BadMessage, WrongReceiver}
 use Rattle.sup_replica.specs.Checks.{refused_if, then_do}
-use Rattle.sup_replica.specs.Nodes.{Node, Message, Outcome, Kind, delta, push, ack, by_operations, is_named}
+use Rattle.sup_replica.specs.Nodes.{Node, Message, Outcome, delta, ack, by_operations, is_named}
 use Rattle.sup_replica.specs.Acts.{act_step, absorbs, takes, deliver, kept_by, answer_to}
 use Rattle.sup_replica.specs.Steps.{only}
 use Rattle.sup_model.specs.declared.step.Step.TheVariants.{Node as AtNode, Deliver as Delivery}
 use Rattle.sup_model.specs.Worlds.{Ops, World, Site, Stepped, step, site_of, with_site, message_of, or_refused, acted, target_is_here, posted, number_of}
-use Rattle.sup_model.specs.Runs.{IsCoveredShip}
 use Rattle.sup_model.proofs.Afters.{After, after-refused_if, after-then_do, after-or_refused}
 use Rattle.sup_anti_entropy.specs.Settling.{TookIn}
 use Rattle.sup_model.specs.Settles.{known_at, Sent, Exchanged}

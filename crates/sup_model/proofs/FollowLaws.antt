@@ -1,5 +1,5 @@
 -- The code's world, over tables, follows the model.
-use Rattle.std.specs.Prelude.{ℕ, ◌≡◌, ◌⊎◌, Bool, true, false, not, List, [], ◌∷◌, ◌++◌, map, Option, Some, None, Result, Ok, Err, refl, IsOk}
+use Rattle.std.specs.Prelude.{◌≡◌, true, false, not, List, [], ◌∷◌, map, Some, Result, Ok, Err, refl, IsOk}
 use Rattle.std.proofs.Common.{sym, ap, ◌∙◌, subst}
 use Rattle.std.proofs.lemmas.Option.{same_Some}
 use mathlib.Core.Logic.{inl, inr}
@@ -7,23 +7,21 @@ use Rattle.sup_specs.specs.Values.{Bytes}
 use Rattle.sup_tables.specs.States.{State}
 use Rattle.sup_replica.specs.declared.refusal.Refusal.{Refusal}
 use Rattle.sup_replica.specs.declared.refusal.Refusal.TheVariants.{UpToDate, OutOfMemory}
-use Rattle.sup_model.specs.Worlds.{Setting, Ops, World, Answer, Stepped, step, new}
+use Rattle.sup_model.specs.Worlds.{Ops, World, Stepped, step}
 use Rattle.sup_replica.specs.Nodes.{is_named}
 use Rattle.sup_model.specs.declared.step.Step.{Step}
 use Rattle.sup_model.specs.declared.step.Step.TheVariants.{Node as AtNode, Deliver as Delivery, Raw}
 use Rattle.sup_replica.specs.declared.event.Act.TheVariants.{Event as Of, Stop, Restart}
 use Rattle.sup_replica.specs.Refusals.{is_found_first}
-use Rattle.sup_replica.specs.Stations.{Codec}
 use Rattle.sup_model.specs.Runs.{MayBeUpToDate, world_after, answer_of, may_want, is_late}
-use Rattle.sup_anti_entropy.specs.Settling.{TookIn, Gathers, Spreads, Alike as Equal, AllAlike as AllEqual}
-use Rattle.sup_model.specs.Laws.{Alike}
+use Rattle.sup_anti_entropy.specs.Settling.{TookIn, Gathers, Spreads, AllAlike as AllEqual}
 use Rattle.sup_replica.specs.ByTables.{by_tables}
 use Rattle.sup_model.specs.TableViews.{table_view}
-use Rattle.sup_model.specs.Posts.{Real, RealAnswer, RealStepped, real_step, real_after, real_new}
+use Rattle.sup_model.specs.Posts.{RealStepped, real_step, real_after}
 use Rattle.sup_model.specs.Joint.{Joint, real_of, model_of, Holds}
-use Rattle.sup_model.specs.Refines.{WorldStands, Refined, real_answer_of, AnswersAlike}
-use Rattle.sup_model.specs.Settles.{known_at, Exchanged, Gathered, Spread, Settles}
-use Rattle.sup_model.specs.Follows.{WorldStandsFor, Follows, Makes, StepsFollow, NewStands, WorldsStand, RunsFollow, Apart, Distinct, AllAlike, Settled, SettlingSettles}
+use Rattle.sup_model.specs.Refines.{WorldStands, real_answer_of, AnswersAlike}
+use Rattle.sup_model.specs.Settles.{known_at, Gathered, Spread}
+use Rattle.sup_model.specs.Follows.{WorldStandsFor, Follows, StepsFollow, NewStands, WorldsStand, RunsFollow, Apart, Distinct, AllAlike, SettlingSettles}
 use Rattle.sup_model.proofs.TableLaws.{table_laws}
 use Rattle.sup_model.proofs.MailLaws.{Answers}
 use Rattle.sup_model.proofs.StepStands.{Stepping, step_stands}

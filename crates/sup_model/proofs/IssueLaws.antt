@@ -1,30 +1,26 @@
 -- What an issued operation adds, if anything, is under the next dot of its node, which it doesn't name.
-use Rattle.std.specs.Prelude.{◌≡◌, ℕ, ◌+◌, ◌≤◌, ◌<◌, Bool, true, false, cond, not, ◌||◌, ◌&&◌, List, [], ◌∷◌, ◌++◌, map, filter, refl, Option, Some, None, is_some, Result, Ok, Err, length, nat_le}
-use Rattle.std.specs.List.{list_any, list_all, cons_option}
+use Rattle.std.specs.Prelude.{◌≡◌, ◌+◌, ◌≤◌, Bool, true, false, cond, not, ◌||◌, List, [], ◌∷◌, map, filter, refl, Option, Some, None, is_some, Result, Ok}
 use Rattle.std.specs.Ordering.{eq_by_cmp}
 use Rattle.std.proofs.Common.{sym, ap, ◌∙◌, subst, arith}
 use Rattle.std.proofs.lemmas.Option.{none-some}
 use mathlib.Core.Bool.{true≢false}
 use Rattle.sup_specs.specs.declared.child.ChildSpec.{ChildSpec}
-use Rattle.sup_specs.specs.declared.child.MemberInfo.{MemberInfo}
 use Rattle.sup_specs.specs.declared.child.Status.TheVariants.{Open}
-use Rattle.sup_specs.specs.Values.{Bytes, text_cmp}
-use Rattle.sup_specs.specs.Rising.{rising, among}
-use Rattle.sup_specs.proofs.RisingLaws.{among-rising}
+use Rattle.sup_specs.specs.Values.{Bytes}
+use Rattle.sup_specs.specs.Rising.{among}
 use Rattle.sup_causal.specs.declared.dot.Dot.{Dot}
 use Rattle.sup_causal.specs.Dots.{dot_cmp, dot_eq}
 use Rattle.sup_causal.proofs.DotLemmas.{dot_eq-true}
 use Rattle.sup_tables.specs.declared.row.Row.{Row}
 use Rattle.sup_tables.specs.Rows.{Table, members, children, names, row_cmp, is_at}
-use Rattle.sup_tables.specs.Operations.{Operation, known, named, added, live, greatest}
-use Rattle.sup_tables.specs.Readers.{is_present, winner, live_dots, entries}
-use Rattle.sup_tables.specs.Makers.{put_member, drop_member, drain_over, put_child, replace_child, drop_child, put_name, drop_name, finish_child, removing}
-use Rattle.sup_tables.specs.RowLaws.{row_total, row_tie}
+use Rattle.sup_tables.specs.Operations.{Operation, added, greatest}
+use Rattle.sup_tables.specs.Readers.{is_present, winner, live_dots}
+use Rattle.sup_tables.specs.Makers.{put_member, drop_member, drain_over, put_child, replace_child, drop_child, put_name, drop_name, removing}
 use Rattle.sup_tables.proofs.AddLaws.{known_of_added, row_itself}
 use Rattle.sup_tables.proofs.CoverLaws.{live-parts}
 use Rattle.sup_replica.specs.declared.refusal.Refusal.{Refusal}
 use Rattle.sup_replica.specs.declared.refusal.Refusal.TheVariants.{AlreadyPresent, NotFound, AlreadyMember, NotMember, NameTaken, NoSuchChild, NameUnknown, DotsSpent, TableFull, AlreadyDraining}
-use Rattle.sup_replica.specs.Checks.{refused_if, then_do}
+use Rattle.sup_replica.specs.Checks.{refused_if}
 use Rattle.sup_replica.specs.Nodes.{Node, by_operations}
 use Rattle.sup_replica.specs.Steps.{reading}
 use Rattle.sup_replica.specs.Commands.{Reading, next, is_full, is_spent, drains, join, leave, drain, start, replace, delete, register, unregister}

@@ -2,23 +2,19 @@
 use Rattle.sup_replica.specs.Stations.{Codec}
 use Rattle.sup_model.specs.Posts.{reads}
 use Rattle.sup_placement.specs.Place.{Weigher}
-use Rattle.std.specs.Prelude.{ℕ, zero, suc, ◌≡◌, ◌+◌, ◌-◌, ◌==◌, ◌≤◌, ◌<◌, Bool, true, false, cond, not, List, [], ◌∷◌, ◌++◌, map, find, max, length, refl, Option, Some, None, Result, Ok, Err, nat_lt, nat_le, slice_get, is_some, if◌then◌else◌}
-use Rattle.std.proofs.Common.{sym, ap, ◌∙◌, subst, arith}
+use Rattle.std.specs.Prelude.{◌≡◌, true, false, cond, List, [], ◌∷◌, map, find, refl, Some, None, if◌then◌else◌}
+use Rattle.std.proofs.Common.{sym, ap, ◌∙◌, subst}
 use mathlib.Core.Bool.{true≢false}
 use mathlib.Core.Logic.{◌⊎◌, inl, inr}
-use Rattle.std.proofs.lemmas.Bool.{le-leb, lt-leb, leb-true}
 use Rattle.sup_specs.specs.Values.{Bytes}
-use Rattle.sup_model.specs.Worlds.{Setting, Ops, World, Site, with_site, site_of}
-use Rattle.sup_replica.specs.Nodes.{Knowledge, Node, Message, Kind, by_operations, is_named, delta as is_delta, push as is_push, ack as is_ack}
-use Rattle.sup_anti_entropy.specs.Joins.{Joins, newest_of}
-use Rattle.sup_anti_entropy.specs.Peers.{In, Letter, delta, push, ack, Peer, Has, Gives, Local, Between, Sound, past_with, changed, sends, forgets}
-use Rattle.sup_anti_entropy.proofs.PeerLaws.{Grows, Moves, Fresh, moves_sound}
+use Rattle.sup_model.specs.Worlds.{Site, with_site}
+use Rattle.sup_replica.specs.Nodes.{Knowledge, is_named}
+use Rattle.sup_anti_entropy.specs.Peers.{In}
+use Rattle.sup_anti_entropy.proofs.PeerLaws.{Moves, moves_sound}
 use Rattle.sup_model.specs.Laws.{View, Laws}
-use Rattle.sup_replica.specs.Stations.{Station, Mail, a_delta, a_push, an_ack}
-use Rattle.sup_model.specs.Posts.{Post, Real, with_post, post_of}
-use Rattle.sup_model.specs.Stands.{NodeStands}
+use Rattle.sup_model.specs.Posts.{Post, with_post}
 use Rattle.sup_model.specs.Clean.{Clean}
-use Rattle.sup_model.specs.Joint.{Trio, Joint, real_of, model_of, letter_of, peer, Peers, MailStands, AllMail, TrioStands, Holds}
+use Rattle.sup_model.specs.Joint.{Trio, Joint, real_of, model_of, peer, Peers, TrioStands, Holds}
 use Rattle.sup_model.proofs.CleanWorld.{in-put}
 use Rattle.sup_tables.proofs.PointLaws.{text_itself}
 

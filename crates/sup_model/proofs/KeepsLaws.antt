@@ -1,30 +1,25 @@
--- After any list of steps each up node keeps exactly what is placed on it.
+-- After any list of steps each up node keeps exactly what is placed on it, each child once.
 use Rattle.std.specs.Prelude.{◌≡◌, ℕ, zero, suc, ◌+◌, ◌==◌, Bool, true, false, cond, not, ◌||◌, ◌&&◌, List, [], ◌∷◌, ◌++◌, filter, map, find, Contains, Option, Some, None, Result, Ok, Err, refl, slice_get, length, ◌<◌, if◌then◌else◌, unwrap_or}
 use Rattle.std.specs.List.{list_any, list_all, AllByRecursion}
 use Rattle.std.proofs.Common.{sym, ap, ◌∙◌, subst, arith}
 use mathlib.Core.Bool.{true≢false}
 use Rattle.sup_specs.specs.Values.{Bytes}
-use Rattle.sup_specs.specs.declared.child.ExitReason.{ExitReason}
 use Rattle.sup_tables.specs.declared.row.Row.{Row}
 use Rattle.sup_tables.specs.Operations.{Operation, live, covers}
 use Rattle.sup_tables.proofs.CoverLaws.{covers-live}
 use Rattle.sup_tables.specs.Makers.{drop_member, finish_child}
-use Rattle.sup_local_sup.specs.declared.effect.Incarnation.{Incarnation}
-use Rattle.sup_local_sup.specs.declared.wanted.Wanted.{Wanted}
-use Rattle.sup_local_sup.specs.Keeping.{Kept, is_for, is_wanted, is_kept}
-use Rattle.sup_local_sup.specs.declared.effect.Effect.{Effect}
+use Rattle.sup_local_sup.specs.Keeping.{is_wanted, is_kept}
 use Rattle.std.specs.Str.{bytes_eq}
 use Rattle.std.specs.Map.{lookup, set_value}
-use Rattle.sup_causal.specs.Dots.{dot_eq}
-use Rattle.sup_local_sup.specs.declared.kept.Entry.{Entry}
 use Rattle.sup_local_sup.specs.declared.leaving.Leaving.{Leaving}
 use Rattle.sup_local_sup.specs.declared.leaving.Leaving.TheVariants.{Nobody, Finished as finished, GaveUp as gave_up}
 use Rattle.sup_local_sup.specs.declared.leaving.Ruling.{Ruling}
 use Rattle.sup_local_sup.specs.declared.leaving.Ruling.TheVariants.{Stale, Restart as Again, Finish, GiveUp}
-use Rattle.sup_local_sup.specs.Planning.{ruling, left, restart_kept, restarted_with}
-use Rattle.sup_local_sup.specs.Supervising.{Supervisor, renewed, with_all}
+use Rattle.sup_local_sup.specs.Planning.{ruling, left, restarted_with}
+use Rattle.sup_local_sup.specs.Supervising.{with_all}
 use Rattle.sup_local_sup.proofs.AgainLaws.{again_wanted, again_kept}
 use Rattle.sup_local_sup.proofs.KeptLaws.{none_more, none_less}
+use Rattle.sup_local_sup.proofs.OnceLaws.{kept_once}
 use Rattle.sup_replica.specs.declared.event.Event.{Event}
 use Rattle.sup_replica.specs.declared.event.Event.TheVariants.{Join, Leave, Drain, Start, Replace, Delete, Register, Unregister, Exit, Ship, Push, Deliver}
 use Rattle.sup_replica.specs.declared.event.Act.TheVariants.{Event as Of, Stop, Restart}
@@ -32,22 +27,21 @@ use Rattle.sup_replica.specs.declared.event.Act.{Act}
 use Rattle.sup_replica.specs.declared.done.Reply.{Reply}
 use Rattle.sup_replica.specs.declared.done.Reply.TheVariants.{Sent, Stopped, Boot, Finished, GaveUp}
 use Rattle.sup_replica.specs.declared.refusal.Refusal.{Refusal}
-use Rattle.sup_replica.specs.declared.refusal.Refusal.TheVariants.{Down, AlreadyUp, UnknownNode, StaleExit, BadMessage, WrongReceiver, CountSpent, KeepFailed, NoSuchMessage}
+use Rattle.sup_replica.specs.declared.refusal.Refusal.TheVariants.{Down, AlreadyUp, UnknownNode, BadMessage, WrongReceiver, CountSpent, KeepFailed, NoSuchMessage}
 use Rattle.sup_replica.specs.Checks.{refused_if, then_do}
 use Rattle.sup_placement.specs.Place.{Weigher}
-use Rattle.sup_model.specs.Worlds.{Setting, Ops, World, Site, Answer, Stepped, site_of, with_site, message_of, or_refused, acted, target_is_here, step, new}
-use Rattle.sup_replica.specs.Nodes.{Node, Kind, delta, push, ack, Message, Outcome, by_operations, is_named, wanted_at, fresh}
-use Rattle.sup_replica.specs.Nodes.{Told}
-use Rattle.sup_replica.specs.Steps.{wanted, reading, issues, command, exit_step, event_step, up_step, passes_greatest, with_own}
-use Rattle.sup_replica.specs.Commands as commands
-use Rattle.sup_replica.specs.Acts.{reconciled, stopped, booted, act_step, absorbs, takes, deliver, kept_by, answer_to, changes, keeps}
+use Rattle.sup_model.specs.Worlds.{Setting, Ops, World, Site, Answer, Stepped, site_of, message_of, or_refused, acted, target_is_here, step, new}
+use Rattle.sup_replica.specs.Nodes.{Node, Kind, delta, push, ack, Message, Outcome, by_operations, is_named, wanted_at}
+use Rattle.sup_replica.specs.Steps.{wanted, issues, command, exit_step, up_step, passes_greatest, with_own}
+use Rattle.sup_replica.specs.Acts.{reconciled, stopped, booted, act_step, absorbs, takes, deliver, kept_by, keeps}
 use Rattle.sup_replica.specs.Steps.{only, push_step}
 use Rattle.sup_model.specs.declared.step.Step.{Step}
 use Rattle.sup_model.specs.declared.step.Step.TheVariants.{Node as AtNode, Deliver as Delivery, Raw}
 use Rattle.sup_model.specs.Runs.{world_after, Allows, Run}
 use mathlib.Core.Logic.{inl, inr}
-use Rattle.sup_model.specs.Headline.{KeepsExactly, MainTheorem}
-use Rattle.sup_model.proofs.HeadlineLaws.{agree, stays}
+use Rattle.sup_model.specs.Headline.{KeepsExactly}
+use Rattle.sup_model.proofs.OnceLaws.{IsOnce, once_none, once_left, once_renewed}
+use Rattle.sup_model.proofs.WantedLaws.{wanted_rises}
 use Rattle.sup_model.proofs.Afters.{After, after-refused_if, after-then_do, after-or_refused}
 
 -- an up node keeps exactly what is wanted
@@ -58,49 +52,54 @@ abbrev pub GoodOutcome : Weigher → Outcome Ops → Type 0
 GoodOutcome s o = Good s o.node
 
 -- a node that has just looked at its tables is good
-pub reconciled_good : (s : Weigher) (n : Node Ops) → Good s (reconciled by_operations s n)
-reconciled_good s n up = record {
+pub reconciled_good : (s : Weigher) (n : Node Ops) → (n.up ≡ true → IsOnce n.supervisor.kept) → Good s (reconciled by_operations s n)
+reconciled_good s n once up = record {
   none_more = none_more n.supervisor.boot n.supervisor.given n.supervisor.kept (wanted by_operations s n);
   none_less = none_less n.supervisor.boot n.supervisor.given n.supervisor.kept (wanted by_operations s n);
+  once = kept_once n.supervisor.boot n.supervisor.given n.supervisor.kept (wanted by_operations s n) (wanted_rises s n.name (live n.known)) (once up);
 }
 
 -- and so is one that has just issued
-issues_good : (s : Weigher) (n : Node Ops) (reply : Reply) (leaving : Leaving) (own : Ops) → Good s (issues by_operations s n reply leaving own).node
-issues_good s n reply leaving own up =
+issues_good : (s : Weigher) (n : Node Ops) (reply : Reply) (leaving : Leaving) (own : Ops) → Good s n → Good s (issues by_operations s n reply leaving own).node
+issues_good s n reply leaving own good up =
     let v = left n.supervisor leaving in
     let ws = wanted by_operations s (with_own by_operations n own) in
-    record { none_more = none_more v.boot v.given v.kept ws; none_less = none_less v.boot v.given v.kept ws }
+    record {
+      none_more = none_more v.boot v.given v.kept ws;
+      none_less = none_less v.boot v.given v.kept ws;
+      once = kept_once v.boot v.given v.kept ws (wanted_rises s n.name (live (n.known ++ own))) (once_left n.supervisor.kept leaving (good up).once);
+    }
 
-command_good : (s : Weigher) (n : Node Ops) (issued : Result Operation Refusal) (reply : Operation → Reply) → After (GoodOutcome s) (command by_operations s n issued reply)
-command_good s n (Ok op) reply = issues_good s n (reply op) Nobody (op ∷ [])
-command_good s n (Err r) reply = tt
+command_good : (s : Weigher) (n : Node Ops) (issued : Result Operation Refusal) (reply : Operation → Reply) → Good s n → After (GoodOutcome s) (command by_operations s n issued reply)
+command_good s n (Ok op) reply good = issues_good s n (reply op) Nobody (op ∷ []) good
+command_good s n (Err r) reply good = tt
 
 -- a restart keeps the child and the dot of its entry
 pub renewed_good : (s : Weigher) (n : Node Ops) (id : Bytes) (now : ℕ) → Good s n → Good s (record n { supervisor = restarted_with with_all n.supervisor id now })
 renewed_good s n id now good up =
     let g = good up in
     let ws = wanted by_operations s n in
-    record { none_more = again_wanted n.supervisor id ws ∙ g.none_more; none_less = again_kept n.supervisor id ws ∙ g.none_less }
+    record { none_more = again_wanted n.supervisor id ws ∙ g.none_more; none_less = again_kept n.supervisor id ws ∙ g.none_less; once = once_renewed n.supervisor id g.once }
 
 exit_good : (s : Weigher) (n : Node Ops) (id : Bytes) (now : ℕ) (r : Ruling) → Good s n → After (GoodOutcome s) (exit_step by_operations s n id now r)
 exit_good s n id now Stale good = tt
 exit_good s n id now Again good = renewed_good s n id now good
-exit_good s n id now (Finish dot) good = issues_good s n (Finished dot) (finished id) (finish_child dot ∷ [])
-exit_good s n id now GiveUp good = let op = drop_member (live n.known) n.name in issues_good s n (GaveUp op.removes) (gave_up id) (op ∷ [])
+exit_good s n id now (Finish dot) good = issues_good s n (Finished dot) (finished id) (finish_child dot ∷ []) good
+exit_good s n id now GiveUp good = let op = drop_member (live n.known) n.name in issues_good s n (GaveUp op.removes) (gave_up id) (op ∷ []) good
 
 push_good : (s : Weigher) (n : Node Ops) (to : Bytes) (own : Option Ops) → Good s n → After (GoodOutcome s) (push_step n to own)
 push_good s n to None good = tt
 push_good s n to (Some own) good = good
 
 event_good : (s : Weigher) (n : Node Ops) (e : Event) (now : ℕ) → Good s n → After (GoodOutcome s) (up_step by_operations s n e now)
-event_good s n (Join info) now good = command_good s n _ _
-event_good s n (Leave m) now good = command_good s n _ _
-event_good s n (Drain m) now good = command_good s n _ _
-event_good s n (Start id spec) now good = command_good s n _ _
-event_good s n (Replace id spec) now good = command_good s n _ _
-event_good s n (Delete id) now good = command_good s n _ _
-event_good s n (Register name id) now good = command_good s n _ _
-event_good s n (Unregister name) now good = command_good s n _ _
+event_good s n (Join info) now good = command_good s n _ _ good
+event_good s n (Leave m) now good = command_good s n _ _ good
+event_good s n (Drain m) now good = command_good s n _ _ good
+event_good s n (Start id spec) now good = command_good s n _ _ good
+event_good s n (Replace id spec) now good = command_good s n _ _ good
+event_good s n (Delete id) now good = command_good s n _ _ good
+event_good s n (Register name id) now good = command_good s n _ _ good
+event_good s n (Unregister name) now good = command_good s n _ _ good
 event_good s n (Exit id inc reason) now good = exit_good s n id now (ruling n.supervisor id inc reason now) good
 event_good s n (Ship to) now good =
     let sent : Result (Outcome Ops) Refusal = Ok (only n Sent [] (Some (record { to = to; kind = delta; content = n.known }))) in
@@ -115,7 +114,7 @@ act_good s n Stop now good =
     after-refused_if (GoodOutcome s) (not n.up) Down ok (λ up. absurd (true≢false (sym up)))
 act_good s n Restart now good =
     let ok : Result (Outcome Ops) Refusal = Ok (keeps by_operations s (booted n) (Boot (n.supervisor.boot + 1)) None) in
-    after-refused_if (GoodOutcome s) n.up AlreadyUp ok (reconciled_good s (booted n))
+    after-refused_if (GoodOutcome s) n.up AlreadyUp ok (reconciled_good s (booted n) (λ _. once_none))
 
 -- what is covered leaves what is wanted
 known_good : (s : Weigher) (n : Node Ops) (more : Ops) → covers n.known more ≡ true → Good s n → Good s (record n { known = n.known ++ more })
@@ -123,11 +122,11 @@ known_good s n more e good up =
     let g = good up in
     let P = λ (rows : List Row). (list_all (is_wanted (wanted_at s n.name rows)) n.supervisor.kept ≡ true) × (list_all (is_kept n.supervisor.kept) (wanted_at s n.name rows) ≡ true) in
     let h : P (live (n.known ++ more)) = subst P (sym (covers-live n.known more e)) (g.none_more, g.none_less) in
-    record { none_more = h.0; none_less = h.1 }
+    record { none_more = h.0; none_less = h.1; once = g.once }
 
 absorbs_good : (s : Weigher) (n : Node Ops) (more : Ops) (letter : Option (Message Ops)) (b : Bool) → covers n.known more ≡ b → Good s n → Good s (absorbs by_operations s n more letter b).node
 absorbs_good s n more letter true e good = known_good s n more e good
-absorbs_good s n more letter false e good = reconciled_good s _
+absorbs_good s n more letter false e good = reconciled_good s (record n { known = n.known ++ more; count = n.count + 1 }) (λ up. (good up).once)
 
 takes_good : (s : Weigher) (n : Node Ops) (from : Bytes) (kind : Kind) (more : Ops) → Good s n → Good s (takes by_operations s n from kind more).node
 takes_good s n from ack more good = good
@@ -146,7 +145,7 @@ kept_by_good : (s : Weigher) (saves : Bool) (x : Result (Outcome Ops) Refusal) �
 kept_by_good s saves x good =
     after-then_do (GoodOutcome s) (GoodOutcome s) x _ good (λ o g. after-refused_if (GoodOutcome s) (passes_greatest o.node) CountSpent _ (after-refused_if (GoodOutcome s) (o.saves && not saves) KeepFailed (Ok o) g))
 
-each-find : {X : Type 0} (P : X → Type 0) (p : X → Bool) (xs : List X) (x : X) → AllByRecursion P xs → find p xs ≡ Some x → P x
+pub each-find : {X : Type 0} (P : X → Type 0) (p : X → Bool) (xs : List X) (x : X) → AllByRecursion P xs → find p xs ≡ Some x → P x
 each-find P p [] x h e = absurd (true≢false (ap Rattle.std.specs.Prelude.is_none e))
 each-find P p (y ∷ ys) x h e =
     elim (p y) as (λ b. cond b (Some y) (find p ys) ≡ Some x → P x) [
@@ -207,7 +206,7 @@ pub after_good : (w : World) (r : Result Stepped Refusal) → GoodWorld w → Af
 after_good w (Ok x) good h = h
 after_good w (Err refusal) good h = good
 
-allowed_good : (w : World) (s : Step) (answer : Result Answer Refusal) (w' : World) → Allows w s answer w' → GoodWorld w → GoodWorld w'
+pub allowed_good : (w : World) (s : Step) (answer : Result Answer Refusal) (w' : World) → Allows w s answer w' → GoodWorld w → GoodWorld w'
 allowed_good w s answer w' (inl h) good = subst GoodWorld (sym h.1) (after_good w (step w s) good (step_good w s good))
 allowed_good w s answer w' (inr (inl h)) good = subst GoodWorld (sym h.2) good
 allowed_good w s answer w' (inr (inr h)) good = subst GoodWorld (sym h.3) good
@@ -220,16 +219,7 @@ run_good w (s ∷ steps) [] w' run good = absurd run
 
 pub new_good : (setting : Setting) (is_message : Bytes → Bool) (names : List Bytes) → GoodWorld (new setting is_message names)
 new_good setting is_message [] = tt
-new_good setting is_message (name ∷ names) = (λ up. record { none_more = refl; none_less = refl }, new_good setting is_message names)
+new_good setting is_message (name ∷ names) = (λ up. record { none_more = refl; none_less = refl; once = once_none }, new_good setting is_message names)
 
-each-of : {X : Type 0} (P : X → Type 0) (xs : List X) → AllByRecursion P xs → (x : X) → Contains xs x → P x
+pub each-of : {X : Type 0} (P : X → Type 0) (xs : List X) → AllByRecursion P xs → (x : X) → Contains xs x → P x
 each-of P xs h x c = subst P c.2 (each-Contains P xs h c.0 x c.1)
-
-pub main : MainTheorem
-main setting is_message names steps answers w run =
-    let good = run_good (new setting is_message names) steps answers w run (new_good setting is_message names) in
-    record {
-      agree = λ a b _ _ same. agree w.weigher a.node b.node same;
-      stays = λ a _. stays a.node;
-      keeps = λ a c. each-of (λ (s : Site). Good w.weigher s.node) w.sites good a c;
-    }

@@ -1,7 +1,11 @@
 pub mod Afters
 pub mod HeadlineLaws
 pub mod TopLaws
+pub mod WantedLaws
+pub mod OnceLaws
 pub mod KeepsLaws
+pub mod EffectLaws
+pub mod StartLaws
 pub mod IssueLaws
 pub mod CleanLaws
 pub mod CleanWorld
@@ -24,3 +28,6 @@ pub mod MemoryLaws
 pub mod Unlikes
 pub mod RunLists
 pub mod Messages
+pub mod MainLaws
+pub mod NodeLaws
+pub mod StationLaws

@@ -1,47 +1,36 @@
 -- Stops, ships and deliveries, in both worlds.
 use Rattle.sup_model.specs.Posts.{post_step}
 use Rattle.sup_replica.specs.declared.refusal.Refusal.TheVariants.{BadMessage}
-use Rattle.std.specs.Prelude.{ℕ, zero, suc, ◌≡◌, ◌+◌, ◌-◌, ◌==◌, ◌≤◌, ◌<◌, Bool, true, false, cond, not, ◌&&◌, List, [], ◌∷◌, ◌++◌, map, find, max, length, refl, Option, Some, None, Result, Ok, Err, nat_lt, nat_le, slice_get, is_some, unwrap_or, if◌then◌else◌}
-use Rattle.std.proofs.Common.{sym, ap, ◌∙◌, subst, arith}
-use mathlib.Core.Bool.{true≢false}
-use mathlib.Core.Logic.{◌⊎◌, inl, inr}
-use Rattle.std.proofs.lemmas.Bool.{le-leb, lt-leb, leb-true}
-use Rattle.std.specs.Ordering.{eq_by_cmp}
+use Rattle.std.specs.Prelude.{ℕ, ◌≡◌, Bool, true, false, not, List, [], ◌∷◌, map, refl, Option, Some, None, Result, Ok, Err, unwrap_or}
+use Rattle.std.proofs.Common.{sym, ap, ◌∙◌, subst}
+use mathlib.Core.Logic.{inl, inr}
 use Rattle.std.proofs.lemmas.Option.{none-some}
-use Rattle.sup_specs.specs.Values.{Bytes, text_cmp}
-use Rattle.sup_tables.specs.Operations.{Operation, covers, Covers, NoClash}
+use Rattle.sup_specs.specs.Values.{Bytes}
+use Rattle.sup_tables.specs.Operations.{NoClash}
 use Rattle.sup_replica.specs.declared.event.Event.{Event}
-use Rattle.sup_replica.specs.declared.event.Event.TheVariants.{Join, Leave, Start, Replace, Delete, Register, Unregister, Exit, Ship, Push, Deliver}
+use Rattle.sup_replica.specs.declared.event.Event.TheVariants.{Deliver}
 use Rattle.sup_replica.specs.declared.event.Act.TheVariants.{Event as Of, Stop, Restart}
 use Rattle.sup_replica.specs.declared.event.Act.{Act as Deed}
-use Rattle.sup_replica.specs.declared.done.Reply.{Reply}
-use Rattle.sup_replica.specs.declared.done.Reply.TheVariants.{Sent, Acked, Stopped, Boot}
+use Rattle.sup_replica.specs.declared.done.Reply.TheVariants.{Stopped, Boot}
 use Rattle.sup_replica.specs.declared.refusal.Refusal.{Refusal}
-use Rattle.sup_replica.specs.declared.refusal.Refusal.TheVariants.{Down, AlreadyUp, UnknownNode, UpToDate, BadMessage, WrongReceiver, CountSpent, KeepFailed}
+use Rattle.sup_replica.specs.declared.refusal.Refusal.TheVariants.{Down, AlreadyUp, UpToDate, BadMessage}
 use Rattle.sup_replica.specs.Checks.{refused_if, then_do}
 use Rattle.sup_placement.specs.Place.{Weigher}
-use Rattle.sup_model.specs.Worlds.{Ops, World, Site}
-use Rattle.sup_replica.specs.Nodes.{Knowledge, Node, Message, Outcome, Kind, by_operations, is_named, delta as is_delta, push as is_push, ack as is_ack}
-use Rattle.sup_replica.specs.Steps.{reading, event_step, up_step, passes_greatest}
-use Rattle.sup_replica.specs.Acts.{reconciled, stopped, booted, act_step, absorbs, takes, deliver, kept_by, answer_to, changes, keeps}
+use Rattle.sup_model.specs.Worlds.{Ops}
+use Rattle.sup_replica.specs.Nodes.{Knowledge, Node, Message, Outcome, by_operations}
+use Rattle.sup_replica.specs.Steps.{passes_greatest}
+use Rattle.sup_replica.specs.Acts.{stopped, booted, act_step, kept_by, keeps}
 use Rattle.sup_replica.specs.Steps.{only}
-use Rattle.sup_model.proofs.Afters.{After, after-refused_if, after-then_do}
-use Rattle.sup_anti_entropy.specs.Joins.{Joins, newest_of, joined}
-use Rattle.sup_anti_entropy.specs.Peers.{In, Letter, delta, push, ack, Peer, Has, Gives, Local, Between, Sound, past_with, changed, sends, forgets}
-use Rattle.sup_anti_entropy.proofs.PeerLaws.{Grows, Moves, Fresh, moves_sound}
-use Rattle.sup_anti_entropy.proofs.StepLaws.{moves_change, moves_stay, moves_alike, moves_ack, moves_forget, moves_send, up_to_date, part_gives, whole_gives, taken_has, known_both_ways}
-use Rattle.sup_anti_entropy.specs.Peers.{Change}
-use Rattle.sup_model.specs.Laws.{View, Laws, Alike}
-use Rattle.sup_model.specs.Clean.{HasRow, Clean, Added}
-use Rattle.sup_replica.specs.Stations.{Station, Mail, a_delta, a_push, an_ack, Move, shipped, notes, volatile, pushed, moved, ship_step, own_step, volatile_step, station_step, as_message, taken_with, acknowledged, mail_step}
-use Rattle.sup_model.specs.Posts.{Post, Real, arrives}
-use Rattle.sup_model.specs.Stands.{NodeStands, MessageStands, OutcomeStands, Together, BothOrNone}
-use Rattle.sup_model.specs.Joint.{Trio, Joint, real_of, model_of, letter_of, peer, Peers, MailStands, AllMail, TrioStands, Holds}
-use Rattle.sup_model.proofs.TopLaws.{alike_of_Covers, Covers_of_alike}
-use Rattle.sup_tables.proofs.CoverTests.{Covers-from_test, test-from_Covers}
-use Rattle.sup_model.proofs.IssueLaws.{some_same}
-use Rattle.sup_model.proofs.SimLaws.{both-refused_if, both-then_do, act_stands, kept_stands}
-use Rattle.sup_model.proofs.ActLaws.{IsOwn, now_still, Act, Moved, of_moved, own_act, kept_after, kept_fits, trio_with, in-letters}
+use Rattle.sup_model.proofs.Afters.{After, after-refused_if}
+use Rattle.sup_anti_entropy.specs.Peers.{In, Peer, forgets}
+use Rattle.sup_anti_entropy.proofs.PeerLaws.{Moves, Fresh}
+use Rattle.sup_anti_entropy.proofs.StepLaws.{moves_forget}
+use Rattle.sup_model.specs.Laws.{View, Laws}
+use Rattle.sup_replica.specs.Stations.{Mail, Move, notes, volatile, pushed, moved, own_step, volatile_step, station_step}
+use Rattle.sup_model.specs.Stands.{MessageStands, OutcomeStands, Together, BothOrNone}
+use Rattle.sup_model.specs.Joint.{Trio, Joint, real_of, letter_of, peer, Peers, MailStands, Holds}
+use Rattle.sup_model.proofs.SimLaws.{act_stands, kept_stands}
+use Rattle.sup_model.proofs.ActLaws.{IsOwn, now_still, Act, Moved, of_moved, own_act, kept_after, kept_fits, trio_with}
 
 pub in-sites : {K : Type 0} (trios : List (Trio K)) (t : Trio K) → In trios t → In (map (λ (u : Trio K). u.site) trios) t.site
 in-sites [] t h = h

@@ -1,5 +1,5 @@
 -- Where want of memory may not stand in place of an answer.
-use Rattle.std.specs.Prelude.{◌≡◌, true, false, not, IsOk}
+use Rattle.std.specs.Prelude.{not, IsOk}
 use Rattle.std.proofs.Common.{sym, ap, ◌∙◌, subst}
 use mathlib.Core.Bool.{true≢false}
 use mathlib.Core.Logic.{inl, inr}

@@ -1,6 +1,5 @@
 -- Lists of operations are a lattice, and two that cover one another are alike.
-use Rattle.std.specs.Prelude.{◌≡◌, ◌≢◌, ◌+◌, true, false, not, ◌||◌, [], ◌++◌, filter, refl}
-use Rattle.std.specs.List.{list_any}
+use Rattle.std.specs.Prelude.{◌≡◌, true, false, not, ◌||◌, [], ◌++◌, filter, refl}
 use Rattle.std.proofs.Common.{sym, ◌∙◌}
 use mathlib.Core.Bool.{true≢false}
 use Rattle.std.proofs.lemmas.List.Folds.{list_any-append}

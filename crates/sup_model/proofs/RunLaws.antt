@@ -35,7 +35,7 @@ use Rattle.sup_model.specs.declared.step.Step.{Step}
 use Rattle.sup_model.specs.declared.step.Step.TheVariants.{Node as AtNode, Deliver as Delivery, Raw}
 use Rattle.sup_model.specs.Worlds.{Setting, Ops, World, Site, Answer, Stepped, site_of, message_of, or_refused, acted, posted, target_is_here, step, new}
 use Rattle.sup_model.specs.Runs.{world_after, answer_of, Allows, Run, ops_at, issued, all_issued, dot_of, new_dots}
-use Rattle.sup_model.specs.Headline.{NoDotTwice, RepliesTellDots}
+use Rattle.sup_model.specs.Headline.{RepliesTellDots}
 use Rattle.sup_model.specs.Clean.{Clean}
 use Rattle.sup_model.proofs.Afters.{After, after-refused_if, after-then_do, after-or_refused}
 use Rattle.sup_model.proofs.IssueLaws.{Adds, join_issued, drain_issued, start_issued, replace_issued, register_issued, reading_top}
@@ -237,7 +237,9 @@ run_apart w (s ∷ steps) [] w' clean run = absurd run
 pub replies_tell_dots : RepliesTellDots
 replies_tell_dots setting is_message names steps answers w run = told_dots (new setting is_message names) steps answers w run
 
-pub no_dot_twice : NoDotTwice
+-- no two operations of one run add the same dot
+pub no_dot_twice : (setting : Setting) (is_message : Bytes → Bool) (names : List Bytes) (steps : List Step) (answers : List (Result Answer Refusal)) (w : World) (run : Run (new setting is_message names) steps answers w)
+    → AllPairs (λ (d e : Dot). d ≢ e) (map (λ r. r.dot) (added (all_issued (new setting is_message names) steps answers w run)))
 no_dot_twice setting is_message names steps answers w run =
     let start = new setting is_message names in
     subst (AllPairs (λ (d e : Dot). d ≢ e)) (told_dots start steps answers w run) (run_apart start steps answers w (new_clean setting is_message names) run).pairs

@@ -1,30 +1,29 @@
 -- After any list of steps the code's world stands for the model's.
 use Rattle.sup_replica.specs.Stations.{Codec}
 use Rattle.sup_model.specs.Posts.{reads}
-use Rattle.std.specs.Prelude.{ℕ, zero, suc, ◌≡◌, ◌+◌, ◌≤◌, Bool, true, false, List, [], ◌∷◌, ◌++◌, map, refl, Option, Some, None, Result, Ok, Err, IsOk}
+use Rattle.std.specs.Prelude.{ℕ, ◌≡◌, true, List, [], ◌∷◌, ◌++◌, map, refl, Result, Ok, Err, IsOk}
 use Rattle.std.proofs.Common.{sym, ap, ◌∙◌, subst, arith}
 use mathlib.Core.Logic.{◌⊎◌, inl, inr}
 use Rattle.sup_specs.specs.Values.{Bytes}
 use Rattle.sup_replica.specs.declared.refusal.Refusal.{Refusal}
 use Rattle.sup_replica.specs.declared.refusal.Refusal.TheVariants.{UpToDate, OutOfMemory}
-use Rattle.sup_placement.specs.Place.{Weigher}
-use Rattle.sup_model.specs.Worlds.{Setting, Ops, World, Site, Answer, Stepped, step, new}
-use Rattle.sup_replica.specs.Nodes.{Knowledge, Node, Message, by_operations, fresh}
+use Rattle.sup_model.specs.Worlds.{Setting, Ops, World, Answer, Stepped, step, new}
+use Rattle.sup_replica.specs.Nodes.{Knowledge, Message, by_operations, fresh}
 use Rattle.sup_model.specs.declared.step.Step.{Step}
 use Rattle.sup_model.specs.Runs.{world_after, answer_of, MayBeUpToDate, Run, may_want, is_late}
-use Rattle.sup_anti_entropy.specs.Joins.{Joins, joined, newest_of}
-use Rattle.sup_anti_entropy.specs.Peers.{In, Letter, delta, push, ack, Peer, Has, Gives, Local, Between, Sound}
+use Rattle.sup_anti_entropy.specs.Joins.{joined}
+use Rattle.sup_anti_entropy.specs.Peers.{In, Local, Between}
 use Rattle.sup_anti_entropy.proofs.StepLaws.{newest-of_none}
 use Rattle.sup_model.specs.Laws.{View, Laws}
 use Rattle.sup_model.specs.Clean.{Clean}
-use Rattle.sup_replica.specs.Stations.{Station, Mail, a_delta, a_push, an_ack}
-use Rattle.sup_model.specs.Posts.{Post, Real, RealAnswer, RealStepped, real_step, real_after, real_run, real_new}
+use Rattle.sup_replica.specs.Stations.{Mail, a_delta, a_push, an_ack}
+use Rattle.sup_model.specs.Posts.{RealStepped, real_step, real_after, real_run, real_new}
 use Rattle.sup_model.specs.Stands.{NodeStands}
-use Rattle.sup_model.specs.Joint.{Trio, Joint, real_of, model_of, peer, Peers, MailStands, AllMail, TrioStands, Holds, AnswerStands}
+use Rattle.sup_model.specs.Joint.{Trio, Joint, real_of, model_of, peer, MailStands, AllMail, TrioStands, Holds}
 use Rattle.sup_model.specs.Refines.{real_answer_of, real_answers, AnswersAlike, AllAlike, Pair, Carries, CarriesAll, WorldStands, Refined}
 use Rattle.sup_model.proofs.CleanWorld.{new_clean}
 use Rattle.sup_model.proofs.MailLaws.{Answers}
-use Rattle.sup_model.proofs.DeliverLaws.{Comes, Arrival, Brings, brought, delta_arrival, push_arrival}
+use Rattle.sup_model.proofs.DeliverLaws.{Comes, brought, delta_arrival, push_arrival}
 use Rattle.sup_model.proofs.StepStands.{Stepping, step_stands}
 
 map-map : {X Y Z : Type 0} (f : Y → Z) (g : X → Y) (xs : List X) → map f (map g xs) ≡ map (λ x. f (g x)) xs

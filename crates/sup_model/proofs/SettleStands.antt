@@ -1,10 +1,9 @@
 -- Settling, over the model's operations: what one ship of settling does, and what all do.
-use Rattle.std.specs.Prelude.{◌≡◌, List, [], ◌∷◌, ◌++◌, refl}
-use Rattle.sup_tables.specs.Operations.{Operation, Covers}
-use Rattle.sup_tables.proofs.CoverLaws.{covers_itself}
+use Rattle.std.specs.Prelude.{List, [], ◌∷◌, ◌++◌}
+use Rattle.sup_tables.specs.Operations.{Covers}
 use Rattle.sup_model.specs.Worlds.{Ops}
-use Rattle.sup_anti_entropy.specs.Joins.{Joins, joined}
-use Rattle.sup_anti_entropy.specs.Settling.{TookIn, Gathers, Spreads, Alike as Equal, AllAlike}
+use Rattle.sup_anti_entropy.specs.Joins.{joined}
+use Rattle.sup_anti_entropy.specs.Settling.{TookIn, Gathers, Spreads, AllAlike}
 use Rattle.sup_anti_entropy.proofs.SettleLaws.{settled}
 use Rattle.sup_model.specs.Laws.{Alike}
 use Rattle.sup_model.proofs.OperationJoins.{operation_joins, covers_alike}

@@ -1,38 +1,34 @@
 -- A ship, in both worlds: the code sends what is missing, or nothing where nothing is.
-use Rattle.std.specs.Prelude.{ℕ, zero, suc, ◌≡◌, ◌+◌, ◌-◌, ◌==◌, ◌≤◌, ◌<◌, Bool, true, false, cond, not, ◌&&◌, List, [], ◌∷◌, ◌++◌, map, length, refl, Option, Some, None, Result, Ok, Err, nat_lt, nat_le, if◌then◌else◌}
-use Rattle.std.proofs.Common.{sym, ap, ◌∙◌, subst, arith}
-use mathlib.Core.Bool.{true≢false}
-use mathlib.Core.Logic.{◌⊎◌, inl, inr}
-use Rattle.std.proofs.lemmas.Bool.{le-leb, lt-leb, leb-true, eqb-true}
-use Rattle.sup_specs.specs.Values.{Bytes, text_cmp}
-use Rattle.sup_tables.specs.Operations.{Operation, covers, Covers, NoClash}
-use Rattle.sup_replica.specs.declared.event.Event.{Event}
+use Rattle.std.specs.Prelude.{ℕ, ◌≡◌, ◌-◌, ◌==◌, ◌≤◌, Bool, true, false, not, ◌&&◌, List, [], ◌∷◌, ◌++◌, map, length, refl, Option, Some, None, Result, Ok, nat_le, if◌then◌else◌}
+use Rattle.std.proofs.Common.{sym, ap, subst, arith}
+use mathlib.Core.Logic.{inl, inr}
+use Rattle.std.proofs.lemmas.Bool.{leb-true, eqb-true}
+use Rattle.sup_specs.specs.Values.{Bytes}
+use Rattle.sup_tables.specs.Operations.{Covers, NoClash}
 use Rattle.sup_replica.specs.declared.event.Act.TheVariants.{Event as Of}
 use Rattle.sup_replica.specs.declared.event.Event.TheVariants.{Ship}
 use Rattle.sup_replica.specs.declared.done.Reply.TheVariants.{Sent}
 use Rattle.sup_replica.specs.declared.refusal.Refusal.{Refusal}
-use Rattle.sup_replica.specs.declared.refusal.Refusal.TheVariants.{Down, UnknownNode, UpToDate, CountSpent, KeepFailed}
-use Rattle.sup_replica.specs.Checks.{refused_if, then_do}
-use Rattle.sup_model.specs.Worlds.{Ops, World, Site}
-use Rattle.sup_replica.specs.Nodes.{Knowledge, Node, Message, Outcome, by_operations, is_named, delta as is_delta}
+use Rattle.sup_replica.specs.declared.refusal.Refusal.TheVariants.{Down, UnknownNode, CountSpent, KeepFailed}
+use Rattle.sup_replica.specs.Checks.{refused_if}
+use Rattle.sup_model.specs.Worlds.{Ops}
+use Rattle.sup_replica.specs.Nodes.{Knowledge, Outcome, by_operations, is_named, delta as is_delta}
 use Rattle.sup_replica.specs.Acts.{act_step, kept_by}
 use Rattle.sup_replica.specs.Steps.{only}
 use Rattle.sup_replica.specs.Steps.{passes_greatest}
-use Rattle.sup_anti_entropy.specs.Joins.{Joins, newest_of, joined}
-use Rattle.sup_anti_entropy.specs.Peers.{In, Letter, delta, push, ack, Peer, Has, Gives, Local, Sound}
-use Rattle.sup_anti_entropy.proofs.PeerLaws.{Moves, Fresh}
+use Rattle.sup_anti_entropy.specs.Joins.{newest_of, joined}
+use Rattle.sup_anti_entropy.specs.Peers.{In, Peer, Gives}
+use Rattle.sup_anti_entropy.proofs.PeerLaws.{Fresh}
 use Rattle.sup_anti_entropy.proofs.StepLaws.{moves_stay, up_to_date, part_gives, whole_gives}
-use Rattle.sup_model.specs.Laws.{View, Laws, Alike}
-use Rattle.sup_model.specs.Clean.{HasRow, Clean, Added}
-use Rattle.sup_replica.specs.Stations.{Station, Mail, a_delta, a_push, an_ack, Move, mail_of_shipment, shipped, ship_step, station_step}
+use Rattle.sup_model.specs.Laws.{View, Laws}
+use Rattle.sup_replica.specs.Stations.{Mail, a_delta, Move, mail_of_shipment, shipped, ship_step, station_step}
 use Rattle.sup_anti_entropy.specs.Buffers.{Shipment}
-use Rattle.sup_model.specs.Stands.{NodeStands, OutcomeStands, Together, BothOrNone}
-use Rattle.sup_model.specs.Joint.{Trio, Joint, model_of, letter_of, peer, Peers, AllValid, MailStands, TrioStands, Holds}
+use Rattle.sup_model.specs.Joint.{Trio, Joint, model_of, letter_of, peer, Peers, AllValid, Holds}
 use Rattle.sup_model.proofs.TopLaws.{Covers_of_alike}
 use Rattle.sup_model.proofs.IssueLaws.{some_same}
 use Rattle.sup_model.proofs.CleanWorld.{no_clash}
-use Rattle.sup_model.proofs.ActLaws.{Act, trio_with, in-drop, sem-length, sem-newest}
-use Rattle.sup_model.proofs.MailLaws.{Answers, in-sites, kept-refused_if}
+use Rattle.sup_model.proofs.ActLaws.{Act, in-drop, sem-length, sem-newest}
+use Rattle.sup_model.proofs.MailLaws.{Answers, in-sites}
 
 module _ {K : Type 0} (k : Knowledge K) (view : View K) (laws : Laws k view) where
   -- the operations of two nodes clash nowhere

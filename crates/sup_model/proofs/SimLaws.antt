@@ -2,50 +2,40 @@
 use Rattle.sup_local_sup.proofs.HeldLaws.{ruling_alike, renewed_kept, renewed_effects}
 use Rattle.sup_local_sup.specs.declared.wanted.Wanted.{Wanted}
 use Rattle.sup_local_sup.specs.Keeping.{newly, kept_after, effects_of}
-use Rattle.std.specs.Map.{lookup}
-use Rattle.std.specs.Str.{bytes_eq}
-use Rattle.sup_local_sup.specs.Planning.{ruling, left, restart_kept, restarted_with, restart_effects, leaving_after, leaving_effects, last_stops, kept_of_leaving, forgets as forgetting}
+use Rattle.sup_local_sup.specs.Planning.{ruling, left, last_stops}
 use Rattle.sup_local_sup.specs.declared.leaving.Ruling.TheVariants.{Stale, Restart as Again, Finish, GiveUp}
 use Rattle.sup_local_sup.specs.declared.leaving.Ruling.{Ruling}
 use Rattle.sup_local_sup.specs.declared.leaving.Leaving.TheVariants.{Nobody, Finished as finished, GaveUp as gave_up}
 use Rattle.sup_local_sup.specs.declared.leaving.Leaving.{Leaving}
-use Rattle.std.specs.Prelude.{◌≡◌, ◌≢◌, ℕ, zero, suc, ◌+◌, ◌≤◌, ◌<◌, Bool, true, false, cond, not, ◌||◌, ◌&&◌, List, [], ◌∷◌, ◌++◌, refl, Option, Some, None, Result, Ok, Err, nat_lt, if◌then◌else◌, length}
+use Rattle.std.specs.Prelude.{◌≡◌, ℕ, ◌+◌, ◌≤◌, Bool, true, false, not, ◌||◌, ◌&&◌, List, [], ◌∷◌, ◌++◌, refl, Option, Some, None, Result, Ok, Err, nat_lt, length}
 use Rattle.std.proofs.Common.{sym, ap, ◌∙◌, subst, arith}
-use mathlib.Core.Bool.{true≢false}
-use mathlib.Core.Logic.{◌⊎◌, inl, inr}
-use Rattle.sup_specs.specs.Values.{Bytes, text_cmp}
-use Rattle.sup_specs.specs.Rising.{rising, among}
+use Rattle.sup_specs.specs.Values.{Bytes}
 use Rattle.sup_causal.specs.declared.dot.Dot.{Dot}
 use Rattle.sup_tables.specs.declared.row.Row.{Row}
-use Rattle.sup_tables.specs.Rows.{row_cmp}
-use Rattle.sup_tables.specs.Operations.{Operation, known, named, added, live, greatest, covers, Covers, NoClash}
-use Rattle.sup_tables.specs.Makers.{finish_child, drop_member, removing}
-use Rattle.sup_local_sup.specs.declared.effect.Effect.{Effect}
-use Rattle.sup_local_sup.specs.Supervising.{Supervisor, wanted_after, wanted_effects, with_all, forgotten, others}
+use Rattle.sup_tables.specs.Operations.{Operation, live, greatest, NoClash}
+use Rattle.sup_tables.specs.Makers.{finish_child, drop_member}
+use Rattle.sup_local_sup.specs.Supervising.{Supervisor, wanted_after, wanted_effects, others}
 use Rattle.sup_replica.specs.declared.event.Event.{Event}
 use Rattle.sup_replica.specs.declared.event.Event.TheVariants.{Join, Leave, Drain, Start, Replace, Delete, Register, Unregister, Exit, Ship, Push, Deliver}
 use Rattle.sup_replica.specs.declared.event.Act.TheVariants.{Event as Of, Stop, Restart}
 use Rattle.sup_replica.specs.declared.event.Act.{Act}
 use Rattle.sup_replica.specs.declared.done.Reply.{Reply}
-use Rattle.sup_replica.specs.declared.done.Reply.TheVariants.{Added, Replaced, Removed, Restarted, Finished, GaveUp, Sent, Absorbed, Known, Acked, Stopped, Boot}
+use Rattle.sup_replica.specs.declared.done.Reply.TheVariants.{Added, Replaced, Removed, Finished, GaveUp, Sent, Stopped, Boot}
 use Rattle.sup_replica.specs.declared.refusal.Refusal.{Refusal}
-use Rattle.sup_replica.specs.declared.refusal.Refusal.TheVariants.{Down, AlreadyUp, UnknownNode, StaleExit, BadMessage, WrongReceiver, CountSpent, KeepFailed, NothingToPush}
+use Rattle.sup_replica.specs.declared.refusal.Refusal.TheVariants.{Down, AlreadyUp, UnknownNode, CountSpent, KeepFailed}
 use Rattle.sup_specs.specs.declared.limits.TheConstants.{MAX}
 use Rattle.sup_replica.specs.Checks.{refused_if, then_do}
 use Rattle.sup_placement.specs.Place.{Weigher}
 use Rattle.sup_model.specs.Worlds.{Ops}
-use Rattle.sup_replica.specs.Nodes.{Knowledge, Node, Kind, delta, push, ack, Message, Outcome, by_operations, is_named, wanted_at}
-use Rattle.sup_replica.specs.Nodes.{Told}
-use Rattle.sup_replica.specs.Steps.{wanted, reading, issues, command, exit_step, event_step, up_step, passes_greatest, with_own}
+use Rattle.sup_replica.specs.Nodes.{Knowledge, Node, delta, Outcome, by_operations, is_named, wanted_at}
+use Rattle.sup_replica.specs.Steps.{wanted, reading, issues, command, exit_step, up_step, passes_greatest, with_own}
 use Rattle.sup_replica.specs.Commands.{Reading, next, join, leave, drain, start, replace, delete, register, unregister}
-use Rattle.sup_replica.specs.Acts.{reconciled, stopped, booted, act_step, absorbs, takes, deliver, kept_by, answer_to, changes, keeps}
+use Rattle.sup_replica.specs.Acts.{reconciled, stopped, booted, act_step, kept_by, changes, keeps}
 use Rattle.sup_replica.specs.Steps.{only, push_step}
 use Rattle.sup_model.proofs.Afters.{After}
 use Rattle.sup_model.specs.Clean.{HasRow}
-use Rattle.sup_model.specs.Laws.{View, Laws, Alike, IsOperation}
-use Rattle.sup_model.specs.Stands.{Together, BothOrNone, NodeStands, MessageStands, OutcomeStands, SupervisorStands}
-use Rattle.sup_model.proofs.TopLaws.{alike_of_Covers, Covers_of_alike}
-use Rattle.sup_tables.proofs.CoverTests.{Covers-from_test, test-from_Covers}
+use Rattle.sup_model.specs.Laws.{View, Laws}
+use Rattle.sup_model.specs.Stands.{Together, BothOrNone, NodeStands, OutcomeStands, SupervisorStands}
 use Rattle.sup_model.proofs.IssueLaws.{Issued, Adds, some_same, join_issued, leave_issued, drain_issued, start_issued, replace_issued, delete_issued, register_issued, unregister_issued, removing_issued, added-greatest, reading_top}
 use Rattle.sup_model.proofs.CleanLaws.{row-append, row-one}
 

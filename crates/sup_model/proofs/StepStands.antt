@@ -1,37 +1,33 @@
 -- One step of both worlds.
 use Rattle.sup_model.specs.Posts.{reads, post_step}
-use Rattle.std.specs.Prelude.{ℕ, zero, suc, ◌≡◌, ◌+◌, ◌-◌, ◌==◌, ◌≤◌, ◌<◌, Bool, true, false, cond, not, ◌&&◌, List, [], ◌∷◌, ◌++◌, map, find, length, refl, Option, Some, None, Result, Ok, Err, slice_get, is_some, unwrap_or, if◌then◌else◌}
-use Rattle.std.proofs.Common.{sym, ap, ◌∙◌, subst, arith}
-use mathlib.Core.Bool.{true≢false}
+use Rattle.std.specs.Prelude.{ℕ, ◌≡◌, ◌-◌, ◌==◌, Bool, true, false, not, refl, Option, Some, None, Result, Ok, Err, slice_get, is_some, unwrap_or, if◌then◌else◌}
+use Rattle.std.proofs.Common.{sym, ap, ◌∙◌, subst}
 use mathlib.Core.Logic.{◌⊎◌, inl, inr}
 use Rattle.sup_specs.specs.Values.{Bytes}
 use Rattle.sup_tables.specs.Operations.{Covers}
 use Rattle.sup_tables.proofs.PointLaws.{same_text}
-use Rattle.sup_replica.specs.declared.event.Event.{Event}
 use Rattle.sup_replica.specs.declared.event.Event.TheVariants.{Join, Leave, Drain, Start, Replace, Delete, Register, Unregister, Exit, Ship, Push, Deliver}
 use Rattle.sup_replica.specs.declared.event.Act.TheVariants.{Event as Of, Stop, Restart}
 use Rattle.sup_replica.specs.declared.event.Act.{Act as Deed}
 use Rattle.sup_replica.specs.declared.refusal.Refusal.{Refusal}
-use Rattle.sup_replica.specs.declared.refusal.Refusal.TheVariants.{Down, UnknownNode, UpToDate, BadMessage, NoSuchMessage}
+use Rattle.sup_replica.specs.declared.refusal.Refusal.TheVariants.{Down, UnknownNode, BadMessage, NoSuchMessage}
 use Rattle.sup_replica.specs.Checks.{refused_if, then_do}
-use Rattle.sup_model.specs.Worlds.{Ops, World, Site, Answer, Stepped, site_of, message_of, or_refused, acted, target_is_here, step, new}
-use Rattle.sup_replica.specs.Nodes.{Knowledge, Node, Message, Outcome, by_operations, is_named, fresh}
+use Rattle.sup_model.specs.Worlds.{Ops, Site, Stepped, site_of, message_of, or_refused, acted, target_is_here, step}
+use Rattle.sup_replica.specs.Nodes.{Knowledge, Message, Outcome, by_operations}
 use Rattle.sup_replica.specs.Acts.{act_step, deliver, kept_by}
-use Rattle.sup_replica.specs.Steps.{passes_greatest}
 use Rattle.sup_model.specs.declared.step.Step.{Step}
 use Rattle.sup_model.specs.declared.step.Step.TheVariants.{Node as AtNode, Deliver as Delivery, Raw}
-use Rattle.sup_model.specs.Runs.{MayBeUpToDate, IsCoveredShip}
+use Rattle.sup_model.specs.Runs.{MayBeUpToDate}
 use Rattle.sup_model.proofs.Afters.{After}
 use Rattle.sup_anti_entropy.specs.Peers.{In}
 use Rattle.sup_model.specs.Laws.{View, Laws}
 use Rattle.sup_model.specs.Clean.{Clean}
-use Rattle.sup_replica.specs.Stations.{Station, Mail, a_delta, a_push, an_ack, Move, receiver_of, station_step}
-use Rattle.sup_model.specs.Posts.{Post, Real, RealAnswer, RealStepped, post_of, mail_of, real_acted, target_here, arrives, real_step}
-use Rattle.sup_model.specs.Stands.{NodeStands, Together, BothOrNone}
-use Rattle.sup_model.specs.Joint.{Trio, Joint, real_of, model_of, peer, Peers, MailStands, AllMail, TrioStands, Holds, AnswerStands}
-use Rattle.sup_model.proofs.IssueLaws.{some_same}
+use Rattle.sup_replica.specs.Stations.{Mail, a_delta, a_push, an_ack, Move, receiver_of, station_step}
+use Rattle.sup_model.specs.Posts.{Post, RealStepped, post_of, mail_of, real_acted, target_here, arrives, real_step}
+use Rattle.sup_model.specs.Stands.{Together, BothOrNone}
+use Rattle.sup_model.specs.Joint.{Trio, Joint, real_of, model_of, MailStands, TrioStands, Holds, AnswerStands}
 use Rattle.sup_model.proofs.CleanWorld.{get-in, step_clean}
-use Rattle.sup_model.proofs.JointLaws.{with_trio, Goes, goes_holds, Names, real_put, model_put, Found, Missing, looked_up}
+use Rattle.sup_model.proofs.JointLaws.{with_trio, Goes, goes_holds, real_put, model_put, Found, Missing, looked_up}
 use Rattle.sup_model.proofs.ActLaws.{Act, act_goes, trio_with, numbers_same, mail_at}
 use Rattle.sup_model.proofs.MailLaws.{Answers, answers_of, act_together, bytes_together, stop_together, restart_together}
 use Rattle.sup_model.proofs.ShipLaws.{ship_together}

@@ -1,5 +1,5 @@
 -- States of tables meet the laws that the world asks of them.
-use Rattle.std.specs.Prelude.{◌≡◌, ℕ, ◌∷◌, [], List, None, refl}
+use Rattle.std.specs.Prelude.{◌≡◌, [], List, None}
 use Rattle.std.proofs.Common.{sym, ap, ◌∙◌, subst}
 use mathlib.Core.Path.{fun_ext}
 use Rattle.sup_specs.specs.Values.{Bytes}

@@ -1,5 +1,5 @@
 -- A known dot is no greater than the greatest; and what covering is, as operations that are alike.
-use Rattle.std.specs.Prelude.{◌≡◌, ℕ, ◌≤◌, true, List, ◌++◌}
+use Rattle.std.specs.Prelude.{◌≡◌, ◌≤◌, true, List, ◌++◌}
 use Rattle.std.proofs.Common.{sym}
 use Rattle.sup_causal.specs.declared.dot.Dot.{Dot}
 use Rattle.sup_tables.specs.Operations.{Operation, known, Covers, greatest}

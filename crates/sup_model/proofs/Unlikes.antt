@@ -1,5 +1,5 @@
 -- Refusals that a step of the model never is: no check of a ship or a delivery says that the receiver is up to date.
-use Rattle.std.specs.Prelude.{◌≡◌, ℕ, ◌==◌, Bool, true, false, not, ◌&&◌, List, [], Option, Some, None, Result, Ok, Err, refl}
+use Rattle.std.specs.Prelude.{◌≡◌, ℕ, ◌==◌, Bool, true, false, not, ◌&&◌, [], Option, Some, None, Result, Ok, Err, refl}
 use Rattle.std.proofs.Common.{subst}
 use Rattle.sup_specs.specs.Values.{Bytes}
 use Rattle.sup_replica.specs.declared.event.Event.TheVariants.{Ship}

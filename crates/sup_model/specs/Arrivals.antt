@@ -1,5 +1,5 @@
 -- Bytes at a station, beside the letters of a world (this project).
-use Rattle.std.specs.Prelude.{ℕ, ◌≡◌, Bool, not, Option, Some, None, Err}
+use Rattle.std.specs.Prelude.{ℕ, ◌≡◌, Bool, not, Some, None, Err}
 use Rattle.sup_specs.specs.Values.{Bytes}
 use Rattle.sup_tables.specs.States.{State}
 use Rattle.sup_placement.specs.Place.{Weigher}

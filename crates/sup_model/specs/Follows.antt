@@ -1,5 +1,5 @@
 -- The clauses of the world's calls (this project): what the code's world stands for, that a step follows the model, and that settling settles.
-use Rattle.std.specs.Prelude.{ℕ, ◌≡◌, ◌⊎◌, Bool, true, false, List, [], ◌∷◌, ◌++◌, map, Option, Some, Result, Ok, Err}
+use Rattle.std.specs.Prelude.{ℕ, ◌≡◌, ◌⊎◌, true, false, List, [], ◌∷◌, ◌++◌, map, Some, Result, Err}
 use Rattle.sup_specs.specs.Values.{Bytes}
 use Rattle.sup_replica.specs.declared.refusal.Refusal.{Refusal}
 use Rattle.sup_replica.specs.declared.refusal.Refusal.TheVariants.{OutOfMemory}
@@ -13,7 +13,7 @@ use Rattle.sup_anti_entropy.specs.Joins.{joined}
 use Rattle.sup_model.specs.Laws.{Alike}
 use Rattle.sup_replica.specs.ByTables.{by_tables}
 use Rattle.sup_model.specs.TableViews.{table_view}
-use Rattle.sup_model.specs.Posts.{Real, RealAnswer, RealStepped, reads, real_step, real_after, real_new}
+use Rattle.sup_model.specs.Posts.{Real, RealAnswer, reads, real_step, real_after, real_new}
 use Rattle.sup_model.specs.Joint.{Joint, real_of, model_of, Holds}
 use Rattle.sup_model.specs.Refines.{real_answer_of, AnswersAlike, WorldStands, Refined}
 use Rattle.sup_model.specs.Settles.{known_at, Settles}

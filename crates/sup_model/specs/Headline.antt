@@ -1,20 +1,29 @@
 -- The main theorem, said of the model world (this project).
-use Rattle.std.specs.Prelude.{ℕ, ◌≡◌, ◌≢◌, ◌↔◌, Bool, true, false, List, map, Contains, AllPairs, Result}
-use Rattle.std.specs.List.{list_all}
+use Rattle.std.specs.Prelude.{◌≡◌, ◌≢◌, Bool, true, false, List, [], map, Contains, AllPairs, Result}
+use Rattle.std.specs.List.{list_all, IsDistinct}
+use Rattle.std.specs.Map.{keys_of}
+use Rattle.std.specs.Str.{bytes_eq}
 use Rattle.sup_specs.specs.Values.{Bytes}
 use Rattle.sup_causal.specs.declared.dot.Dot.{Dot}
 use Rattle.sup_tables.specs.declared.row.Row.{Row}
 use Rattle.sup_tables.specs.Rows.{table_of, key_of}
-use Rattle.sup_tables.specs.Operations.{Operation, known, named, added, live, SameOperations, Covers}
+use Rattle.sup_tables.specs.States.{State}
+use Rattle.sup_tables.specs.Operations.{known, named, added, live, SameOperations}
 use Rattle.sup_tables.specs.Readers.{eligible, entries}
 use Rattle.sup_placement.specs.Place.{Weigher, place}
-use Rattle.sup_local_sup.specs.Keeping.{is_wanted, is_kept, is_for, Kept}
-use Rattle.sup_model.specs.Worlds.{Setting, Ops, World, Site, Answer, new}
+use Rattle.sup_local_sup.specs.Keeping.{is_wanted, is_kept}
+use Rattle.sup_replica.specs.declared.refusal.Refusal.{Refusal}
+use Rattle.sup_replica.specs.ByTables.{by_tables}
 use Rattle.sup_replica.specs.Nodes.{Node, by_operations}
 use Rattle.sup_replica.specs.Steps.{wanted}
 use Rattle.sup_model.specs.declared.step.Step.{Step}
-use Rattle.sup_replica.specs.declared.refusal.Refusal.{Refusal}
+use Rattle.sup_model.specs.Follows.{WorldStandsFor}
+use Rattle.sup_model.specs.Posts.{Real}
+use Rattle.sup_model.specs.Refines.{WorldStands}
 use Rattle.sup_model.specs.Runs.{Run, all_issued, new_dots}
+use Rattle.sup_model.specs.Starts.{started_at}
+use Rattle.sup_model.specs.TableViews.{table_view}
+use Rattle.sup_model.specs.Worlds.{Setting, Ops, World, Site, Answer, new}
 
 -- nodes that absorbed the same operations agree: the same known dots and live entries, so the same winners and losers, and each child on one same member
 pub record Agree (weigher : Weigher) (a b : Node Ops) : Type 0 where
@@ -30,25 +39,26 @@ Stays n = (r : Row) → Contains (added n.known) r → named n.known r.dot ≡ f
 pub record KeepsExactly (s : Weigher) (n : Node Ops) : Type 0 where
   pub none_more : list_all (is_wanted (wanted by_operations s n)) n.supervisor.kept ≡ true
   pub none_less : list_all (is_kept n.supervisor.kept) (wanted by_operations s n) ≡ true
+  pub once : IsDistinct bytes_eq (keys_of n.supervisor.kept)
 
--- after any list of steps from a new world
-pub record Headline (w : World) : Type 0 where
+-- what holds of the world that these steps, answered so, lead to from a new one; its nodes issued these operations
+pub record Headline (steps : List Step) (answers : List (Result Answer Refusal)) (w : World) (issued : Ops) : Type 0 where
+  -- what the code has of a node stands for what the node absorbed, wherever the code's world stands for this one
+  pub stands : (real : Real State) → WorldStandsFor real w → WorldStands by_tables table_view real w
   pub agree : (a b : Site) → Contains w.sites a → Contains w.sites b → SameOperations a.node.known b.node.known → Agree w.weigher a.node b.node
   pub stays : (a : Site) → Contains w.sites a → Stays a.node
   pub keeps : (a : Site) → Contains w.sites a → a.node.up ≡ true → KeepsExactly w.weigher a.node
+  -- in the order in which its effects started them
+  pub starts : (a : Site) → Contains w.sites a → keys_of a.node.supervisor.kept ≡ started_at a.node.name [] steps answers
+  -- no two operations add the same dot
+  pub once : AllPairs (λ (d e : Dot). d ≢ e) (map (λ r. r.dot) (added issued))
 
 -- after any list of steps from a new world, answered as they may be, want of memory and ships that are up to date among them
 abbrev pub MainTheorem : Type 0
 MainTheorem =
     (setting : Setting) (is_message : Bytes → Bool) (names : List Bytes) (steps : List Step) (answers : List (Result Answer Refusal)) (w : World)
-    → Run (new setting is_message names) steps answers w → Headline w
-
--- no two operations of one run add the same dot
-abbrev pub NoDotTwice : Type 0
-NoDotTwice =
-    (setting : Setting) (is_message : Bytes → Bool) (names : List Bytes) (steps : List Step) (answers : List (Result Answer Refusal)) (w : World)
     (run : Run (new setting is_message names) steps answers w)
-    → AllPairs (λ (d e : Dot). d ≢ e) (map (λ r. r.dot) (added (all_issued (new setting is_message names) steps answers w run)))
+    → Headline steps answers w (all_issued (new setting is_message names) steps answers w run)
 
 -- the dots that its replies tell are those of the operations that it adds, one after another
 abbrev pub RepliesTellDots : Type 0

@@ -1,19 +1,15 @@
 -- The code's world beside the model's, node by node, and what holds between them after every step (this project).
-use Rattle.std.specs.Prelude.{ℕ, ◌≡◌, ◌≤◌, Bool, true, false, List, [], ◌∷◌, ◌++◌, map, Option, Some, None, Result, Ok, Err, if◌then◌else◌}
+use Rattle.std.specs.Prelude.{ℕ, ◌≡◌, ◌≤◌, false, List, [], ◌∷◌, map}
 use Rattle.sup_specs.specs.Values.{Bytes}
-use Rattle.sup_replica.specs.declared.refusal.Refusal.{Refusal}
-use Rattle.sup_replica.specs.declared.refusal.Refusal.TheVariants.{UpToDate}
 use Rattle.sup_placement.specs.Place.{Weigher}
-use Rattle.sup_model.specs.Worlds.{Ops, World, Site, Answer, Stepped}
-use Rattle.sup_replica.specs.Nodes.{Knowledge, Node, Message, Kind, by_operations, is_named, delta as is_delta, push as is_push, ack as is_ack}
+use Rattle.sup_model.specs.Worlds.{Ops, World, Site, Answer}
+use Rattle.sup_replica.specs.Nodes.{Message, delta as is_delta, push as is_push, ack as is_ack}
 use Rattle.sup_replica.specs.Steps.{passes_greatest}
-use Rattle.sup_model.specs.declared.step.Step.{Step}
-use Rattle.sup_model.specs.Runs.{MayBeUpToDate}
 use Rattle.sup_anti_entropy.specs.Peers.{In, Letter, delta, push, ack, Peer, Sound}
 use Rattle.sup_model.specs.Laws.{View}
-use Rattle.sup_replica.specs.Stations.{Station, Codec, Mail, a_delta, a_push, an_ack}
-use Rattle.sup_model.specs.Posts.{Post, Real, RealAnswer, RealStepped, reads}
-use Rattle.sup_model.specs.Stands.{NodeStands, BothOrNone}
+use Rattle.sup_replica.specs.Stations.{Codec, Mail, a_delta, a_push, an_ack}
+use Rattle.sup_model.specs.Posts.{Post, Real, RealAnswer, reads}
+use Rattle.sup_model.specs.Stands.{NodeStands}
 use Rattle.sup_model.specs.Clean.{Clean}
 
 -- one node: what the code keeps, the model's node, and, for proofs alone, the state that it had at each count

@@ -1,5 +1,6 @@
 pub mod Worlds
 pub mod Runs
+pub mod Starts
 pub mod Headline
 pub mod Laws
 pub mod Posts
@@ -14,3 +15,5 @@ pub mod Shipments
 pub mod Arrivals
 pub mod ChildRestarts
 pub mod Memory
+pub mod OneNode
+pub mod OneStation

@@ -1,5 +1,5 @@
 -- The world of the code (this project): stations, and every message that each ever sent.
-use Rattle.std.specs.Prelude.{ℕ, ◌≡◌, ◌+◌, ◌-◌, ◌==◌, Bool, true, false, not, List, [], ◌∷◌, ◌++◌, length, map, find, is_some, slice_get, Option, Some, None, Result, Ok, Err, unwrap_or, if◌then◌else◌}
+use Rattle.std.specs.Prelude.{ℕ, ◌+◌, ◌-◌, ◌==◌, Bool, true, not, List, [], ◌∷◌, ◌++◌, length, map, find, is_some, slice_get, Option, Some, None, Result, Ok, Err, unwrap_or, if◌then◌else◌}
 use Rattle.sup_specs.specs.Values.{Bytes}
 use Rattle.sup_local_sup.specs.declared.effect.Effect.{Effect}
 use Rattle.sup_replica.specs.declared.event.Event.TheVariants.{Ship, Push, Deliver}
@@ -11,7 +11,7 @@ use Rattle.sup_replica.specs.declared.refusal.Refusal.TheVariants.{Down, Unknown
 use Rattle.sup_replica.specs.Checks.{refused_if, then_do}
 use Rattle.sup_placement.specs.Place.{Weigher}
 use Rattle.sup_model.specs.Worlds.{or_refused, Setting}
-use Rattle.sup_replica.specs.Nodes.{Knowledge, Node, is_named, fresh}
+use Rattle.sup_replica.specs.Nodes.{Knowledge, is_named, fresh}
 use Rattle.sup_model.specs.declared.step.Step.{Step}
 use Rattle.sup_model.specs.declared.step.Step.TheVariants.{Node as AtNode, Deliver as Delivery, Raw}
 use Rattle.sup_replica.specs.Stations.{Station, Mail, Codec, Move, receiver_of, station_step, mail_step}

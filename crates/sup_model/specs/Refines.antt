@@ -1,9 +1,9 @@
 -- The code's world stands for the model's after any list of steps (this project).
-use Rattle.std.specs.Prelude.{ℕ, ◌≡◌, Bool, true, List, [], ◌∷◌, ◌++◌, map, Option, Some, None, Result, Ok, Err}
+use Rattle.std.specs.Prelude.{ℕ, ◌≡◌, List, [], ◌∷◌, ◌++◌, map, Result, Ok, Err}
 use Rattle.sup_specs.specs.Values.{Bytes}
 use Rattle.sup_replica.specs.declared.refusal.Refusal.{Refusal}
 use Rattle.sup_model.specs.Worlds.{Setting, Ops, World, Site, Answer, new}
-use Rattle.sup_replica.specs.Nodes.{Knowledge, Node, Message}
+use Rattle.sup_replica.specs.Nodes.{Knowledge, Message}
 use Rattle.sup_model.specs.declared.step.Step.{Step}
 use Rattle.sup_model.specs.Runs.{Run}
 use Rattle.sup_anti_entropy.specs.Peers.{In}

@@ -1,5 +1,5 @@
 -- The steps of settling (this project), as steps of the model world: an exchange is a ship that the receiver knew all of, or one that is delivered and acknowledged at once.
-use Rattle.std.specs.Prelude.{ℕ, ◌≡◌, ◌⊎◌, Bool, true, List, [], ◌∷◌, Option, Some, None, Result, Ok}
+use Rattle.std.specs.Prelude.{ℕ, ◌≡◌, ◌⊎◌, true, List, [], ◌∷◌, Option, Some, None, Ok}
 use Rattle.std.specs.Option.{option_map}
 use Rattle.sup_specs.specs.Values.{Bytes}
 use Rattle.sup_replica.specs.declared.event.Act.TheVariants.{Event as Of}

@@ -1,9 +1,8 @@
 -- What a node, an outcome and a letter of the code stand for in the model (this project).
 use Rattle.sup_local_sup.specs.Supervising.{Supervisor}
-use Rattle.std.specs.Prelude.{ℕ, ◌≡◌, Bool, List, [], ◌∷◌, Option, Some, None, Result, Ok, Err}
+use Rattle.std.specs.Prelude.{◌≡◌, Option, Some, None, Result, Ok, Err}
 use Rattle.sup_replica.specs.declared.refusal.Refusal.{Refusal}
-use Rattle.sup_replica.specs.Nodes.{Knowledge, Node, Message, Outcome}
-use Rattle.sup_replica.specs.Nodes.{Told}
+use Rattle.sup_replica.specs.Nodes.{Node, Message, Outcome}
 use Rattle.sup_model.specs.Worlds.{Ops}
 use Rattle.sup_model.specs.Laws.{View}
 

@@ -1,5 +1,5 @@
 -- The model world (this project): nodes, and every message that each ever sent, of which any may come, once, often or never.
-use Rattle.std.specs.Prelude.{ℕ, ◌+◌, ◌-◌, ◌==◌, Bool, true, false, not, List, [], ◌∷◌, ◌++◌, length, map, find, filter, is_some, slice_get, Option, Some, None, Result, Ok, Err, unwrap_or, if◌then◌else◌}
+use Rattle.std.specs.Prelude.{ℕ, ◌+◌, ◌-◌, ◌==◌, Bool, true, not, List, [], ◌∷◌, ◌++◌, length, map, find, is_some, slice_get, Option, Some, None, Result, Ok, Err, unwrap_or, if◌then◌else◌}
 use Rattle.sup_specs.specs.Values.{Bytes}
 use Rattle.sup_tables.specs.Operations.{Operation}
 use Rattle.sup_replica.specs.declared.event.Event.TheVariants.{Ship, Push}

@@ -1,21 +1,24 @@
 //! Laws of the model world and of the code's world beside it, each the contract of a function that does nothing.
-ghost use Rattle.sup_model.specs.Headline.{MainTheorem, NoDotTwice, RepliesTellDots};
+ghost use Rattle.sup_model.specs.Headline.{MainTheorem, RepliesTellDots};
 ghost use Rattle.sup_model.specs.Follows.{StepsFollow, NewStands, WorldsStand, RunsFollow, SettlingSettles};
 ghost use Rattle.sup_model.specs.Arrivals.{BytesArrive, OtherBytesAreRefused};
 ghost use Rattle.sup_model.specs.ChildRestarts.{RestartsStay};
 ghost use Rattle.sup_model.specs.Memory.{StopsAreAnswered, FirstChecksComeFirst};
+ghost use Rattle.sup_model.specs.OneNode.{ActsStand, DeliveriesStand};
+ghost use Rattle.sup_model.specs.OneStation.{PlainActsStand, ShipsStand, MailStands};
 ghost use Rattle.sup_model.specs.Shipments.{ShipmentIsEnough};
 
-/// After any list of steps from a new world, answered as they may be: nodes that absorbed the same operations agree, adds
-/// that no absorbed removal names stay, and each running node keeps exactly the children that are placed on it.
+/// After any list of steps from a new world, answered as they may be: what the code has of a node stands for the operations
+/// that the node absorbed; nodes that absorbed the same operations agree; adds that no absorbed removal names stay; each
+/// running node keeps exactly the children that are placed on it, each once, in the order in which its effects started them;
+/// and no two operations add the same dot.
 pub fn main_theorem()
     ensures { MainTheorem }
 {}
 
-/// No two operations of one run add the same dot, and each reply tells the dot that its operation adds.
-pub fn no_dot_twice()
-    ensures once { NoDotTwice }
-    ensures told { RepliesTellDots }
+/// The dots that the replies of a run tell are those that its operations add, in their order.
+pub fn replies_tell_dots()
+    ensures { RepliesTellDots }
 {}
 
 /// A step of the code's world follows the model: its answer is one that the model allows, and the world stands for the
@@ -65,4 +68,20 @@ pub fn bytes_come_as_they_are_read()
 pub fn memory_is_wanted_late()
     ensures stop { StopsAreAnswered }
     ensures first { FirstChecksComeFirst }
+{}
+
+/// A node whose state stands for operations answers an act, and a delta or a push that stands for operations, as the
+/// definition of one node over operations does: the same refusal, or the same reply and effects; and then its state stands
+/// for the operations that it has by then.
+pub fn a_node_answers_as_its_definition()
+    ensures acts { ActsStand }
+    ensures deliveries { DeliveriesStand }
+{}
+
+/// So does a station, but for which deltas a ship sends; and a ship that isn't refused is up to date exactly where all changes
+/// are acknowledged.
+pub fn a_station_answers_as_its_node()
+    ensures acts { PlainActsStand }
+    ensures ships { ShipsStand }
+    ensures mail { MailStands }
 {}

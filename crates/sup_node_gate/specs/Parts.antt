@@ -1,24 +1,28 @@
 -- A station as a pass's view has it: plain parts, of which contracts make what they see of a station (this project).
-use Rattle.std.specs.Prelude.{◌≡◌, List, Option}
+use Rattle.std.specs.Prelude.{◌≡◌, ℕ, Bool, true, List, Option}
 use Rattle.std.specs.Option.{option_map}
 use Rattle.sup_specs.specs.Values.{Bytes}
 use Rattle.sup_node.specs.NodeStates.{station_in}
 use Rattle.sup_station.specs.declared.station.Station.{Station}
-use Rattle.sup_station.specs.Stills.{Still}
+use Rattle.sup_node_gate.specs.Histories.{Counted}
 use Rattle.sup_node_gate.specs.declared.view.Holding.{Holding}
 use Rattle.sup_node_gate.specs.declared.view.Parts.{Parts}
 
--- the parts of a station, where this is what its keeper keeps
-abbrev pub parts_of : {K W : Type 0} {g : _} {h : _} → (K → Bytes) → Station K W g h → Parts
-parts_of kept s = record { name = s.name; config = s.config; node = option_map (λ n. n.state) s.node; kept = kept s.keeper }
+-- the parts of a station, where this is what its keeper keeps, how often it has failed and whether it is sound
+abbrev pub parts_of : {K W : Type 0} {g : _} {h : _} → (K → Bytes) → (K → ℕ) → (K → Bool) → Station K W g h → Parts
+parts_of kept failures sound s = record { name = s.name; config = s.config; node = option_map (λ n. n.state) s.node; kept = kept s.keeper; failures = failures s.keeper; sound = sound s.keeper }
 
 -- the station of these parts
-abbrev pub still_in : Parts → Still
-still_in p = record { name = p.name; config = p.config; node = option_map station_in p.node; kept = p.kept }
+abbrev pub counted_in : Parts → Counted
+counted_in p = record { still = record { name = p.name; config = p.config; node = option_map station_in p.node; kept = p.kept }; failures = p.failures }
 
-abbrev pub still_at : Holding → Still
-still_at h = still_in h.parts
+abbrev pub counted_at : Holding → Counted
+counted_at h = counted_in h.parts
 
--- the same history and the same station, whatever parts make it
+-- sound, if that was
+abbrev pub StaysSound : Parts → Parts → Type 0
+StaysSound old new = old.sound ≡ true → new.sound ≡ true
+
+-- the same history and the same station, whatever parts make it; it is sound if that is
 abbrev pub IsLike : Holding → Holding → Type 0
-IsLike h k = (h.history ≡ k.history) × (still_at h ≡ still_at k)
+IsLike h k = (h.history ≡ k.history) × (counted_at h ≡ counted_at k) × StaysSound k.parts h.parts

@@ -34,7 +34,7 @@ pub(crate) struct Waiting {
 }
 
 impl Keeper for Waiting {
-    ghost use Rattle.std.specs.Prelude.{not};
+    ghost use Rattle.std.specs.Prelude.{not, true};
 
     ghost kept = { λ k. k.inner.bytes };
 
@@ -43,6 +43,8 @@ impl Keeper for Waiting {
     ghost failing = { λ k. k.inner.failing };
 
     ghost sound = { λ k. not k.inner.failing };
+
+    ghost readable = { λ _. true };
 
     fn save(&mut self, bytes: &[u8]) -> Result<(), KeepFault> {
         if self.lamp.load(Ordering::SeqCst) == HOLDS {

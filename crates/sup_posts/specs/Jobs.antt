@@ -9,6 +9,7 @@ use Rattle.sup_station.specs.Opening.{kept_by}
 use Rattle.sup_node_gate.specs.declared.gate.Pass.{Pass}
 use Rattle.sup_node_gate.specs.declared.entry.Entry.{Entry}
 use Rattle.sup_node_gate.specs.Gates.{IsOf, view_of}
+use Rattle.sup_node_gate.specs.InMemory.{failures_by, sound_by}
 use Rattle.sup_links.specs.Image.{image}
 use Rattle.sup_links.specs.Ends.{AreOneLink, script_of, put_of, is_closed, taken_of, has_ended}
 use Rattle.sup_plan.specs.Calls.{call_of, asked, letters_to, deliveries}
@@ -27,7 +28,7 @@ Seat W h = Pass Kept W InMemory.ghosts h
 module _ {W : Type 0} {h : WeighGhosts W} where
   -- the pass is of the gate of the node at this place
   abbrev pub IsSeatAt : List (Post W h) → ℕ → Seat W h → Type 0
-  IsSeatAt posts at seat = (post : Post W h) × (slice_get posts at ≡ Some post) × IsOf kept_by post.gate seat
+  IsSeatAt posts at seat = (post : Post W h) × (slice_get posts at ≡ Some post) × IsOf kept_by failures_by sound_by post.gate seat
 
   -- a link that nothing went through yet, and a pass of the gate of the node that it leads to
   pub record IsLane (posts : List (Post W h)) (lane : Lane W h) : Type 0 where
@@ -49,7 +50,7 @@ module _ {W : Type 0} {h : WeighGhosts W} where
     pub to : arrived.to ≡ lane.to
     pub post : Post W h
     pub stands : slice_get posts lane.to ≡ Some post
-    pub seat : IsOf kept_by post.gate arrived.seat
+    pub seat : IsOf kept_by failures_by sound_by post.gate arrived.seat
     pub put : List Bytes
     pub letters : Sublist (letters_to post.name entries) put
     pub delivered : Sublist (image (script_of lane.entry) put) (deliveries (view_of arrived.seat).seen)

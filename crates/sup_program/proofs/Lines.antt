@@ -19,12 +19,13 @@ use Rattle.sup_world.specs.declared.settled.Settled.{Settled}
 use Rattle.sup_world.specs.Carrying.{carried, letter_of, Knows}
 use Rattle.sup_world.specs.Following.{StandsFor, Follows, Steps}
 use Rattle.sup_world.specs.Seen.{Seen, CanFail}
+use Rattle.sup_world.specs.Settlements.{SettlesBy}
 use Rattle.sup_world.specs.Settling.{SettlesTo}
 use Rattle.sup_world.specs.Telling.{Shows}
 use Rattle.sup_lines.specs.declared.line.Line.{Line}
 use Rattle.sup_lines.specs.declared.line.Line.TheVariants as line
-use Rattle.sup_text.specs.Answers.{refusal_text, settled_text}
-use Rattle.sup_program.specs.Prints.{Scene, Does, TellsMessages, said_of, image_text, letter_text, message_text}
+use Rattle.sup_text.specs.Answers.{refusal_text}
+use Rattle.sup_program.specs.Prints.{Scene, Does, TellsMessages, said_of, said_settled, image_text, letter_text, message_text}
 use Rattle.sup_program.specs.Playing.{MaySpeak, Speaks}
 use Rattle.sup_world.proofs.Counts.{carried_same}
 
@@ -58,29 +59,15 @@ step_speaks weigher peers model step sites new result can f steps =
       refl,
     )
 
--- what is printed where settling answers so
-abbrev pub settled_said : Result Settled Refusal → List ℕ
-settled_said (Ok settled) = settled_text settled.messages settled.effects.items
-settled_said (Err refusal) = refusal_text refusal
-
-pub settle_speaks : (weigher : Weigher) (peers : List Bytes) (model : World) (sites new : List Seen) (result : Result Settled Refusal) → SettlesTo weigher model result new → (speaks : Speaks weigher peers (record { model = model; sites = sites }) line.Settle new) × (speaks.said ≡ settled_said result)
-settle_speaks weigher peers model sites new (Ok settled) s = (
+-- settling says what is printed of its answer
+pub settle_speaks : (weigher : Weigher) (peers : List Bytes) (model : World) (sites new : List Seen) (result : Result Settled Refusal) → SettlesTo weigher model result new → SettlesBy weigher sites result new
+    → (speaks : Speaks weigher peers (record { model = model; sites = sites }) line.Settle new) × (speaks.said ≡ said_settled result)
+settle_speaks weigher peers model sites new result s by = (
   record {
-    said = settled_text settled.messages settled.effects.items;
+    said = said_settled result;
     after = s.after;
     prints = record {
-      does = inl (record { answers = s.ends.0; settles = s.ends.1; says = rw (s.ends.2.messages, s.ends.2.effects) refl });
-      stands = s.stands;
-    };
-  },
-  refl,
-)
-settle_speaks weigher peers model sites new (Err refusal) s = (
-  record {
-    said = refusal_text refusal;
-    after = s.after;
-    prints = record {
-      does = inr (record { refusal = refusal; stops = s.ends; says = refl });
+      does = record { result = result; steps = by; ends = s.ends; says = refl };
       stands = s.stands;
     };
   },

@@ -1,5 +1,5 @@
 -- What the lines of a script print, one after another (this project).
-use Rattle.std.specs.Prelude.{◌≡◌, ◌<◌, ℕ, Bool, List, [], ◌∷◌, ◌++◌, length, take, IsSorted, IsPermutation}
+use Rattle.std.specs.Prelude.{◌≡◌, ◌<◌, ℕ, Bool, List, Result, [], ◌∷◌, ◌++◌, length, take, IsSorted, IsPermutation}
 use Rattle.std.specs.Io.KnownBytes.{Appends}
 use Rattle.sup_specs.specs.Values.{Bytes, text_cmp}
 use Rattle.sup_tables.specs.States.{State}
@@ -12,8 +12,11 @@ use Rattle.sup_jobs.specs.Tells.{IsCutShort}
 use Rattle.sup_jobs.specs.declared.fault.Fault.{Fault}
 use Rattle.sup_jobs.specs.declared.fault.Fault.TheVariants.{BadLine, BadInput, BadImage, Device, OutOfMemory}
 use Rattle.sup_model.specs.Posts.{real_new}
-use Rattle.sup_model.specs.Worlds.{Setting, new}
+use Rattle.sup_model.specs.Worlds.{Setting, World, Answer, new}
+use Rattle.sup_model.specs.declared.step.Step.{Step}
 use Rattle.sup_model.specs.Headline.{Headline}
+use Rattle.sup_model.specs.Runs.{Run, all_issued}
+use Rattle.sup_replica.specs.declared.refusal.Refusal.{Refusal}
 use Rattle.sup_world.specs.Newness.{setting_in}
 use Rattle.sup_world.specs.Seen.{Seen}
 use Rattle.sup_world.specs.Telling.{Shows}
@@ -59,11 +62,18 @@ module _ (weigher : Weigher) (peers : List Bytes) where
   PrintsUntil s lines before written Device = PrintsShortFrom s lines before written
   PrintsUntil s lines before written OutOfMemory = PrintsBeforeFrom s lines before written
 
--- whatever is played from a new world, it is a run of the model, and the main theorem holds of the world after it
+-- some steps of the model lead from one world to the other, and the headline holds of that
+pub record LedTo (start after : World) : Type 0 where
+  pub steps : List Step
+  pub answers : List (Result Answer Refusal)
+  pub is_run : Run start steps answers after
+  pub headline : Headline steps answers after (all_issued start steps answers after is_run)
+
+-- whatever is played from a new world, so after any lines, it is a run of the model, and the headline holds of the world after it
 abbrev pub PlayedWorldsKeep : Type 0
 PlayedWorldsKeep =
     (weigher : Weigher) (peers : List Bytes) (setting : Setting) (is_message : Bytes → Bool) (names : List Bytes) (sites : List Seen) (lines : List Line) (printed : List ℕ)
-    (after : Scene) → Plays weigher peers (record { model = new setting is_message names; sites = sites }) lines printed after → Headline after.model
+    (after : Scene) → Plays weigher peers (record { model = new setting is_message names; sites = sites }) lines printed after → LedTo (new setting is_message names) after.model
 
 -- names in their order
 pub record AreInOrder (names ordered : List Bytes) : Type 0 where
@@ -86,7 +96,7 @@ pub record PrintsAll (weigher : Weigher) (config : Config) (names : List Bytes) 
   pub sites : List Seen
   pub opens : IsOpening weigher config names sites
   pub prints : (is_message : Bytes → Bool) → TellsMessages is_message → PrintsAllFrom weigher peers (opening weigher config names is_message sites) lines before written
-  pub headline : (is_message : Bytes → Bool) (tells : TellsMessages is_message) → Headline (prints is_message tells).final.model
+  pub headline : (is_message : Bytes → Bool) (tells : TellsMessages is_message) → LedTo (opening weigher config names is_message sites).model (prints is_message tells).final.model
 
 -- from such a world, as far as the fault let it
 pub record PrintsPart (weigher : Weigher) (config : Config) (names : List Bytes) (lines : List Line) (fault : Fault) (before written : KnownBytes) : Type 0 where

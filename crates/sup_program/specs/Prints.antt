@@ -1,5 +1,5 @@
 -- What a line of a script prints, and the world that it leaves (this project).
-use Rattle.std.specs.Prelude.{◌≡◌, ◌⊎◌, ◌++◌, ℕ, Bool, is_some, List, Option, Some, None, Result, Ok, Err, codes, if◌then◌else◌}
+use Rattle.std.specs.Prelude.{◌≡◌, ◌++◌, ℕ, Bool, is_some, List, Option, Some, None, Result, Ok, Err, codes, if◌then◌else◌}
 use Rattle.sup_specs.specs.Values.{Bytes}
 use Rattle.sup_tables.specs.States.{State}
 use Rattle.sup_tables.specs.Operations.{live}
@@ -18,7 +18,9 @@ use Rattle.sup_world.specs.Carrying.{seen_at, letter_of}
 use Rattle.sup_world.specs.Following.{IsAsOf, StandsFor, Steps}
 use Rattle.sup_world.specs.Seen.{Seen}
 use Rattle.sup_world.specs.Telling.{Shows}
-use Rattle.sup_world.specs.Settling.{messages_of, effects_of, IsSettling, IsCutShort}
+use Rattle.sup_world.specs.declared.settled.Settled.{Settled}
+use Rattle.sup_world.specs.Settlements.{SettlesBy}
+use Rattle.sup_world.specs.Settling.{EndsSettling}
 use Rattle.sup_lines.specs.declared.line.Line.{Line}
 use Rattle.sup_lines.specs.declared.line.Line.TheVariants as line
 use Rattle.sup_text.specs.Answers.{answer_text, refusal_text, settled_text}
@@ -48,20 +50,17 @@ pub record PrintsStep (weigher : Weigher) (s : Scene) (step : Step) (said : List
   pub steps : (real : Real State) → Shows weigher s.sites real → TellsMessages (reads real.codec) → Steps weigher real step answer after.sites
   pub says : said ≡ said_of answer
 
--- the running nodes settled: how many messages their exchanges sent, and what is to be done
-pub record PrintsAllSettled (w : World) (said : List ℕ) (after : World) : Type 0 where
-  pub answers : List (Result Expected Refusal)
-  pub settles : IsSettling w answers after
-  pub says : said ≡ settled_text (messages_of answers) (effects_of answers)
+-- what is printed of settling
+abbrev pub said_settled : Result Settled Refusal → List ℕ
+said_settled (Ok settled) = settled_text settled.messages settled.effects.items
+said_settled (Err refusal) = refusal_text refusal
 
--- settling was cut short: why
-pub record PrintsCutShort (w : World) (said : List ℕ) (after : World) : Type 0 where
-  pub refusal : Refusal
-  pub stops : IsCutShort w refusal after
-  pub says : said ≡ refusal_text refusal
-
-abbrev pub PrintsSettled : World → List ℕ → World → Type 0
-PrintsSettled w said after = PrintsAllSettled w said after ⊎ PrintsCutShort w said after
+-- the running nodes settled, or began to, by steps of the world: how many messages their exchanges sent, and what is to be done; or why they ended early
+pub record PrintsSettled (weigher : Weigher) (s : Scene) (said : List ℕ) (after : Scene) : Type 0 where
+  pub result : Result Settled Refusal
+  pub steps : SettlesBy weigher s.sites result after.sites
+  pub ends : EndsSettling s.model result after.model
+  pub says : said ≡ said_settled result
 
 -- what a node shows, nothing while it is down
 abbrev pub shown_by : Site → Option Shown
@@ -103,7 +102,7 @@ module _ (weigher : Weigher) (peers : List Bytes) where
   -- From this world the line prints this and leads to that world. To show a node, an image or a message is no step.
   abbrev pub Does : Scene → Line → List ℕ → Scene → Type 0
   Does s (line.Step step) said after = PrintsStep weigher s step said after
-  Does s line.Settle said after = PrintsSettled s.model said after.model
+  Does s line.Settle said after = PrintsSettled weigher s said after
   Does s (line.Show name) said after = (after ≡ s) × (said ≡ node_text s.model name)
   Does s (line.Inspect name) said after = (after ≡ s) × TellsNode weigher peers name (seen_at s.sites name) said
   Does s (line.Image name) said after = (after ≡ s) × (said ≡ image_text (seen_at s.sites name))

@@ -7,6 +7,7 @@ use Rattle.sup_placement.specs.declared.weigh.Weigh.{Ghosts as WeighGhosts}
 use Rattle.sup_replica.specs.Configs.{Config}
 use Rattle.sup_station.specs.Opening.{Opens, kept_by}
 use Rattle.sup_node_gate.specs.Gates.{IsOf, bound_of, view_of, opening_of}
+use Rattle.sup_node_gate.specs.InMemory.{failures_by, sound_by}
 use Rattle.sup_node_gate.specs.Histories.{IsHistory, IsPrefix}
 use Rattle.sup_links.specs.Ends.{script_of, room_of}
 use Rattle.sup_plan.specs.Parts.{commands_of, script_between}
@@ -47,12 +48,12 @@ IsFaultOf results fault = IsGravest results fault ⊎ (All IsOk results × (faul
 module _ {W : Type 0} {h : WeighGhosts W} where
   -- the pass is of the post's gate
   abbrev pub IsSeatOf : Post W h → Seat W h → Type 0
-  IsSeatOf post seat = IsOf kept_by post.gate seat
+  IsSeatOf post seat = IsOf kept_by failures_by sound_by post.gate seat
 
   -- a node's post before the run, whose history may have so many entries at most
   pub record IsPostOf (config : Config) (most : ℕ) (name : Bytes) (post : Post W h) : Type 0 where
     pub named : post.name ≡ name
-    pub opens : Opens name config (opening_of kept_by post.gate)
+    pub opens : Opens name config (opening_of kept_by failures_by sound_by post.gate).still
     pub bound : bound_of post.gate ≡ most
 
   -- the link leads to the node at this place, by the plan's script
@@ -93,7 +94,7 @@ module _ {W : Type 0} {h : WeighGhosts W} where
   -- the history of a post's node, which has room for it
   pub record IsHistoryOf (g : Weigher) (post : Post W h) (history : History) : Type 0 where
     pub named : history.node ≡ post.name
-    pub replays : IsHistory g (opening_of kept_by post.gate) history.entries.items
+    pub replays : IsHistory g (opening_of kept_by failures_by sound_by post.gate) history.entries.items
     pub within : length history.entries.items ≤ bound_of post.gate
 
   -- the second pass has seen what the first has

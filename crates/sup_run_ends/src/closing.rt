@@ -23,7 +23,7 @@ fn close<W: Weigh>(post: Post<W>, seat: Seat<W>) -> Result<History, ThreadFault>
         outbox: _,
     } = post;
     // No turn is held by then: each call has returned. A contract doesn't say so.
-    let Some((_, entries)) = gate.close(seat) else {
+    let Ok((_, entries)) = gate.try_close(seat) else {
         return Err(ThreadFault::OutOfMemory);
     };
     Ok(History {

@@ -40,6 +40,8 @@ impl Keeper for Unreadable {
 
     ghost sound = { λ _. false };
 
+    ghost readable = { λ _. false };
+
     fn save(&mut self, _bytes: &[u8]) -> Result<(), KeepFault> {
         Err(self.fails())
     }

@@ -1,8 +1,9 @@
 //! A node that two threads share.
 ghost use Rattle.std.specs.Prelude.{IfSome};
 ghost use Rattle.sup_node_gate.specs.Gates.{IsOf};
+ghost use Rattle.sup_node_gate.specs.InMemory.{failures_by, sound_by};
 ghost use Rattle.sup_station.specs.Opening.{kept_by};
-ghost use Rattle.sup_station.specs.Stills.{still_of};
+ghost use Rattle.sup_node_gate.specs.Histories.{counted_of};
 ghost use Rattle.sup_uses.specs.Sharing.{IsReplayed};
 
 use std::alloc::Global;
@@ -23,7 +24,7 @@ pub fn share<R: Threads + Wait + Sync>(
     left: &[Act],
     right: &[Act],
 ) -> Option<(Station<MemKeeper, FlatWeigh>, Vec<Entry>)>
-    ensures { IfSome result (λ r. IsReplayed (still_of kept_by station) (still_of kept_by r.0) r.1.items) }
+    ensures { IfSome result (λ r. IsReplayed (counted_of kept_by failures_by station) (counted_of kept_by failures_by r.0) r.1.items) }
 {
     let Ok((gate, pass)) = NodeGate::new(alloc, station, 1000) else {
         return None;
@@ -46,8 +47,8 @@ fn works<R: Wait>(
     pass: Pass<MemKeeper, FlatWeigh>,
     acts: &[Act],
 ) -> Pass<MemKeeper, FlatWeigh>
-    requires { IsOf kept_by gate.now pass }
-    ensures { IsOf kept_by gate.now result }
+    requires { IsOf kept_by failures_by sound_by gate.now pass }
+    ensures { IsOf kept_by failures_by sound_by gate.now result }
 {
     let mut pass = pass;
     for act in acts {

@@ -7,6 +7,8 @@ ghost use Rattle.sup_world.specs.Carrying.{carried, has_bytes, lets_save, Knows}
 ghost use Rattle.sup_world.specs.Exchanges.{Makes, Ships, Comes, Goes, ends, running};
 ghost use Rattle.sup_world.specs.Following.{StandsFor};
 ghost use Rattle.sup_world.specs.Seen.{sites_of, FailedNoMore};
+ghost use Rattle.sup_world.specs.Pairs.{arrival};
+ghost use Rattle.sup_world.specs.Settlements.{MakesOne, ShipsOne, MakesPairs, SettlesBy};
 ghost use Rattle.sup_world.specs.Settling.{SettlesTo};
 
 use crate::settled::Settled;
@@ -28,7 +30,8 @@ pub(crate) enum Way {
 impl<W: Weigh> World<W> {
     /// Has the running nodes exchange all that they know, in the order of their names: each of the others ships to the first,
     /// then the first to each of the others; each message comes and is acknowledged at once. No save fails, and a ship to a
-    /// node that knows all is passed over. Then each of them has absorbed all that any of them had (definition "settle").
+    /// node that knows all is passed over. Then each of them has absorbed all that any of them had (definition "settle"). What
+    /// is told is that of these steps, which are the world's own, and so lead on as any steps do.
     ///
     /// # Errors
     ///
@@ -36,6 +39,7 @@ impl<W: Weigh> World<W> {
     pub fn settle(&mut self) -> Result<Settled, Refusal>
         ensures follows { (model : Model) → StandsFor W.weight_of (sites_of self.old) model
             → SettlesTo W.weight_of model result (sites_of self.new) }
+        ensures steps { SettlesBy W.weight_of (sites_of self.old) result (sites_of self.new) }
         ensures counted { AllZip FailedNoMore (sites_of self.old) (sites_of self.new) }
     {
         let names = self.up_names()?;
@@ -57,6 +61,7 @@ impl<W: Weigh> World<W> {
     ) -> Result<(), Refusal>
         ensures goes { (model : Model) → StandsFor W.weight_of (sites_of self.old) model
             → Goes W.weight_of model (map (ends way first.now) others.now) tally.old result tally.new (sites_of self.new) }
+        ensures steps { MakesPairs W.weight_of (sites_of self.old) (map (ends way first.now) others.now) tally.old result tally.new (sites_of self.new) }
         ensures counted { AllZip FailedNoMore (sites_of self.old) (sites_of self.new) }
     {
         for other in others {
@@ -72,6 +77,7 @@ impl<W: Weigh> World<W> {
     fn exchange(&mut self, from: &NodeName, to: &NodeName, tally: &mut Tally) -> Result<(), Refusal>
         ensures goes { (model : Model) → StandsFor W.weight_of (sites_of self.old) model
             → Goes W.weight_of model ((from.now, to.now) ∷ []) tally.old result tally.new (sites_of self.new) }
+        ensures steps { MakesPairs W.weight_of (sites_of self.old) ((from.now, to.now) ∷ []) tally.old result tally.new (sites_of self.new) }
         ensures counted { AllZip FailedNoMore (sites_of self.old) (sites_of self.new) }
     {
         let Some(shipped) = self.ship(from, to, tally)? else {
@@ -93,6 +99,7 @@ impl<W: Weigh> World<W> {
     ) -> Result<Option<u64>, Refusal>
         ensures ships { (model : Model) → StandsFor W.weight_of (sites_of self.old) model
             → Ships W.weight_of model from.now to.now tally.old result tally.new (sites_of self.new) }
+        ensures steps { ShipsOne W.weight_of (sites_of self.old) from.now to.now tally.old result tally.new (sites_of self.new) }
         ensures counted { AllZip FailedNoMore (sites_of self.old) (sites_of self.new) }
     {
         let step = Step::Node {
@@ -116,6 +123,7 @@ impl<W: Weigh> World<W> {
     ) -> Result<Option<u64>, Refusal>
         ensures comes { (model : Model) → StandsFor W.weight_of (sites_of self.old) model
             → Comes W.weight_of model from.now number tally.old result tally.new (sites_of self.new) }
+        ensures steps { MakesOne W.weight_of (sites_of self.old) (arrival from.now number) tally.old result tally.new (sites_of self.new) }
         ensures counted { AllZip FailedNoMore (sites_of self.old) (sites_of self.new) }
     {
         let step = Step::Deliver {
@@ -135,6 +143,7 @@ impl<W: Weigh> World<W> {
         requires saves { lets_save step.now ≡ true }
         ensures makes { (model : Model) → StandsFor W.weight_of (sites_of self.old) model → Knows model.is_message step.now
             → Makes W.weight_of model (carried (sites_of self.old) step.now) tally.old result tally.new (sites_of self.new) }
+        ensures steps { MakesOne W.weight_of (sites_of self.old) step.now tally.old result tally.new (sites_of self.new) }
         ensures counted { AllZip FailedNoMore (sites_of self.old) (sites_of self.new) }
     {
         let answer = self.step(step)?;

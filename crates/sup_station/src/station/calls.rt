@@ -42,6 +42,8 @@ impl<K: Keeper, W: Weigh> Station<K, W> {
         ensures uncounted { IfOk result (λ s. K.failures (keeper_of s) ≡ K.failures keeper) }
         ensures failing { K.failing keeper ≡ true → IsErr result }
         ensures sound { IfErr result (λ r. K.sound keeper ≡ true → r.reason ≢ KeepFailed) }
+        ensures stays_sound { IfOk result (λ s. K.sound keeper ≡ true → K.sound (keeper_of s) ≡ true) }
+        ensures stays_readable { IfOk result (λ s. K.readable keeper ≡ true → K.readable (keeper_of s) ≡ true) }
     {
         let mut keeper = keeper;
         match open(alloc, name, config, &mut keeper) {
@@ -104,8 +106,10 @@ impl<K: Keeper, W: Weigh> Station<K, W> {
         ensures uncounted { OnOk result (K.failures (keeper_of self.new) ≡ K.failures (keeper_of self.old)) }
         ensures stays_failing { K.failing (keeper_of self.new) ≡ K.failing (keeper_of self.old) }
         ensures stays_sound { K.sound (keeper_of self.new) ≡ K.sound (keeper_of self.old) }
+        ensures stays_readable { K.readable (keeper_of self.new) ≡ K.readable (keeper_of self.old) }
         ensures sound { K.sound (keeper_of self.old) ≡ true → result ≢ Err KeepFailed }
         ensures failing { K.failing (keeper_of self.old) ≡ true → result ≢ Err KeepFailed }
+        ensures readable { K.readable (keeper_of self.old) ≡ true → result ≢ Err KeepFailed }
         ensures steady { (K.failing (keeper_of self.old) ≡ true) ⊎ (K.sound (keeper_of self.old) ≡ true) → K.failures (keeper_of self.new) ≡ K.failures (keeper_of self.old) }
     {
         match act {
@@ -131,6 +135,8 @@ impl<K: Keeper, W: Weigh> Station<K, W> {
         ensures uncounted { OnOk result (K.failures (keeper_of self.new) ≡ K.failures (keeper_of self.old)) }
         ensures failing { K.failing (keeper_of self.old) ≡ true → is_saved prepared ≡ true → IsErr result }
         ensures sound { K.sound (keeper_of self.old) ≡ true → result ≢ Err KeepFailed }
+        ensures stays_sound { K.sound (keeper_of self.old) ≡ true → K.sound (keeper_of self.new) ≡ true }
+        ensures stays_readable { K.readable (keeper_of self.old) ≡ true → K.readable (keeper_of self.new) ≡ true }
         ensures steady { K.sound (keeper_of self.old) ≡ true → K.failures (keeper_of self.new) ≡ K.failures (keeper_of self.old) }
     {
         let Prepared { next, text } = prepared;
@@ -155,6 +161,9 @@ impl<K: Keeper, W: Weigh> Station<K, W> {
         ensures failing { K.failing (keeper_of self.old) ≡ true → ComesToSave W.weight_of (still_of K.kept self.old) (still_of K.kept self.old).node act now → IsUnsaved result }
         ensures sound { K.sound (keeper_of self.old) ≡ true → result ≢ Err KeepFailed }
         ensures unsaved { (K.failing (keeper_of self.old) ≡ true) ⊎ (K.sound (keeper_of self.old) ≡ true) → result ≡ Err KeepFailed → FailsToSave W.weight_of (still_of K.kept self.old) (still_of K.kept self.old).node act now }
+        ensures order { K.readable (keeper_of self.old) ≡ true → result ≡ Err KeepFailed → FailsToSave W.weight_of (still_of K.kept self.old) (still_of K.kept self.old).node act now }
+        ensures stays_sound { K.sound (keeper_of self.old) ≡ true → K.sound (keeper_of self.new) ≡ true }
+        ensures stays_readable { K.readable (keeper_of self.old) ≡ true → K.readable (keeper_of self.new) ≡ true }
         ensures steady { K.sound (keeper_of self.old) ≡ true → K.failures (keeper_of self.new) ≡ K.failures (keeper_of self.old) }
     {
         let prepared = self.prepare(&act, now, weigher)?;

@@ -68,8 +68,10 @@ impl<K: Keeper, W: Weigh> Station<K, W> {
         ensures uncounted { OnOk result (K.failures (keeper_of self.new) ≡ K.failures (keeper_of self.old)) }
         ensures stays_failing { K.failing (keeper_of self.new) ≡ K.failing (keeper_of self.old) }
         ensures stays_sound { K.sound (keeper_of self.new) ≡ K.sound (keeper_of self.old) }
+        ensures stays_readable { K.readable (keeper_of self.new) ≡ K.readable (keeper_of self.old) }
         ensures sound { K.sound (keeper_of self.old) ≡ true → result ≢ Err KeepFailed }
         ensures failing { K.failing (keeper_of self.old) ≡ true → result ≢ Err KeepFailed }
+        ensures readable { K.readable (keeper_of self.old) ≡ true → result ≢ Err KeepFailed }
         ensures steady { (K.failing (keeper_of self.old) ≡ true) ⊎ (K.sound (keeper_of self.old) ≡ true) → K.failures (keeper_of self.new) ≡ K.failures (keeper_of self.old) }
     {
         if self.node.is_some() {

@@ -38,6 +38,8 @@ pub(super) fn save_text<K: Keeper>(keeper: &mut K, text: &[u8]) -> Result<(), Re
     ensures uncounted { OnOk result (K.failures keeper.new ≡ K.failures keeper.old) }
     ensures failing { K.failing keeper.old ≡ true → IsErr result }
     ensures sound { K.sound keeper.old ≡ true → result ≢ Err KeepFailed }
+    ensures stays_sound { K.sound keeper.old ≡ true → K.sound keeper.new ≡ true }
+    ensures stays_readable { K.readable keeper.old ≡ true → K.readable keeper.new ≡ true }
     ensures steady { K.sound keeper.old ≡ true → K.failures keeper.new ≡ K.failures keeper.old }
 {
     match keeper.save(text) {

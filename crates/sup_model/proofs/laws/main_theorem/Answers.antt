@@ -1,5 +1,5 @@
 -- The headline.
-use Rattle.sup_model.proofs.KeepsLaws.{main}
+use Rattle.sup_model.proofs.MainLaws.{main}
 use Rattle.sup_model.proofs.laws.main_theorem.Goals as goal
 
 pub returns : goal.returns

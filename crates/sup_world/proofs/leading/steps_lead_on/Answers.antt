@@ -1,0 +1,6 @@
+-- A run that leads on.
+use Rattle.sup_world.proofs.Reaching.{leads_on}
+use Rattle.sup_world.proofs.leading.steps_lead_on.Goals as goal
+
+pub returns : goal.returns
+returns c = leads_on
