@@ -1,6 +1,7 @@
 //! Joins that are planned beside a map: the functions that it is to get.
 
 ghost use Rattle.std.specs.Prelude.{◌≡◌, true, IsSome, IfSome, IfOk};
+ghost use Rattle.std.specs.BTreeMap.{IsOrdered};
 ghost use Rattle.sup_specs.specs.Rising.{among};
 ghost use Rattle.sup_causal.specs.declared.dot.Dot.{Dot as DotValue};
 ghost use Rattle.sup_causal.specs.Join.{lesser};
@@ -16,7 +17,7 @@ use crate::place::Place;
 use crate::touched::{push_keys, touched};
 use std::alloc::{AllocError, Global};
 use std::collections::{BTreeMap, BTreeSet};
-use sup_causal::CausalContext;
+use sup_causal::{CausalContext, keys_rise};
 use sup_dot_store::DotFun;
 use sup_specs::Plain;
 
@@ -24,6 +25,21 @@ use sup_specs::Plain;
 #[derive(Drop)]
 pub struct PlannedMap<K: Plain, V: Plain> {
     pub(crate) changed: BTreeMap<K, DotFun<V>>,
+}
+
+impl<K: Plain, V: Plain> PlannedMap<K, V> {
+    ghost use Rattle.sup_indexed.specs.Contents.{functions_planned};
+
+    /// The functions, by key: as a list they stand in the order of the keys. One may have no value, and one may be the same as
+    /// stands under its key.
+    pub fn functions(&self) -> &BTreeMap<K, DotFun<V>>
+        ensures functions { result.now ≡ functions_planned self.now }
+        ensures ordered { IsOrdered K.cmp result.now }
+    {
+        // For its clause alone: the keys rise.
+        keys_rise(&self.changed);
+        &self.changed
+    }
 }
 
 impl<K: Plain, V: Plain> IndexedMap<K, V> {

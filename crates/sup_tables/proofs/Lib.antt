@@ -27,3 +27,5 @@ pub mod PlannedJoins
 pub mod TouchedLaws
 pub mod OpenLaws
 pub mod AfterLaws
+pub mod TableSteps
+pub mod EditedRows

@@ -4,6 +4,7 @@
 mod adding;
 mod after;
 mod delta;
+mod edits;
 pub mod fault;
 mod from_rows;
 mod joining;

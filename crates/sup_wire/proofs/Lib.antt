@@ -15,4 +15,9 @@ pub mod OneCut
 pub mod Formed
 pub mod Written
 pub mod Promises
+pub mod TextReads
+pub mod ImageTextLaws
+pub mod FrontLaws
+pub mod LentTexts
+pub mod TextProps
 pub mod Sealed

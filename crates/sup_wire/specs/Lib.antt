@@ -7,3 +7,5 @@ pub mod FieldReads
 pub mod RowReads
 pub mod DraftReads
 pub mod Writing
+pub mod RowTexts
+pub mod ImageTexts

@@ -8,6 +8,7 @@ ghost use Rattle.sup_wire.specs.declared.image.Image.{Image};
 ghost use Rattle.sup_wire.specs.Drafts.{IsDraftOf, IsDraftOfImage, SaysMessage, SaysImage, IsWholeMessage, IsWholeImage};
 ghost use Rattle.sup_wire.specs.DraftReads.{NoJson};
 ghost use Rattle.sup_wire.specs.Faults.{IsJson, Says, IsTextOf, IsTextAfter, IsFault, IsOrMemory, IsInRange, IsImageInRange};
+ghost use Rattle.sup_wire.specs.ImageTexts.{IsTextFor};
 ghost use Rattle.sup_wire.specs.Lent.{IsLentOf};
 
 use crate::fault::WireFault;
@@ -16,11 +17,12 @@ use crate::lent_image::LentImage;
 use crate::message::Message;
 use crate::reading::images::image_of;
 use crate::reading::messages::message_of;
-use crate::writing::images::{write_image, write_lent_image};
+use crate::writing::images::{image_text_after, lent_text_after};
 use crate::writing::messages::write_message;
 use json::Writer;
 use serde_json::{Category, Value};
 use std::alloc::{AllocError, Global};
+use sup_array_text::ArrayText;
 
 // The JSON value of a text.
 fn json_of(alloc: Global, text: &[u8]) -> Result<Value, WireFault>
@@ -104,8 +106,8 @@ pub fn encode_image(alloc: Global, image: &Image) -> Result<Vec<u8>, AllocError>
     ensures once { IfOk result (λ text. (other : Bytes) → IsTextOf IsDraftOfImage IsImageInRange other image.now → other ≡ text.items) }
     ensures whole { IfOk result (λ _. IsWholeImage image.now) }
 {
-    let text = encode_image_after(Vec::new(alloc), image)?;
-    Ok(text)
+    let text = text_of(alloc, image)?;
+    Ok(text.into_text())
 }
 
 /// The text of an image, written behind what the buffer has. An `Err` where a growth was refused; the buffer is then
@@ -114,9 +116,8 @@ pub fn encode_image_after(front: Vec<u8>, image: &Image) -> Result<Vec<u8>, Allo
     ensures text { IfOk result (λ all. IsTextAfter IsDraftOfImage IsImageInRange front.items all.items image.now) }
     ensures whole { IfOk result (λ _. IsWholeImage image.now) }
 {
-    let mut out = Writer::new(front);
-    write_image(&mut out, image)?;
-    Ok(out.into_inner())
+    let text = image_text_after(front, image)?;
+    Ok(text.into_text())
 }
 
 /// The text of an image that is lent, the same that [`encode_image`] writes of the image. An `Err` where a growth was
@@ -127,7 +128,15 @@ pub fn encode_lent_image(alloc: Global, image: &LentImage<'_>) -> Result<Vec<u8>
     // What is written is what `decode_image` reads.
     ensures says { IfOk result (λ text. (i : Image) → IsLentOf image.now i → HasDotsOf i.state.context i.state.rows → IsImageInRange i → Says IsDraftOfImage text.items i) }
 {
-    let mut out = Writer::new(Vec::new(alloc));
-    write_lent_image(&mut out, image)?;
-    Ok(out.into_inner())
+    let text = lent_text_after(Vec::new(alloc), image)?;
+    Ok(text.into_text())
+}
+
+/// The text of an image, as [`encode_image`] gives it, with the texts of its rows. An `Err` where a growth was refused.
+pub fn text_of(alloc: Global, image: &Image) -> Result<ArrayText, AllocError>
+    ensures text { IfOk result (λ t. IsTextFor image.now t) }
+    ensures whole { IfOk result (λ _. IsWholeImage image.now) }
+{
+    let text = image_text_after(Vec::new(alloc), image)?;
+    Ok(text)
 }

@@ -1,73 +1,87 @@
 //! Whole images.
-ghost use Rattle.std.specs.Prelude.{◌≡◌, ◌<◌, ◌^◌, IfOk, OnOk, codes, ◌++◌};
-ghost use Rattle.serde_json.specs.Data.{string};
+ghost use Rattle.std.specs.Prelude.{◌≡◌, ◌<◌, ◌^◌, ◌++◌, IfOk, map};
+ghost use Rattle.std.specs.List.{AllByRecursion};
+ghost use Rattle.sup_array_text.specs.Arrays.{shown, whole};
+ghost use Rattle.sup_tables.specs.Lent.{rows_lent};
 ghost use Rattle.sup_tables.specs.States.{HasDotsOf};
 ghost use Rattle.sup_wire.specs.declared.image.Image.{Image};
-ghost use Rattle.sup_wire.specs.Drafts.{image, IsDraftOfImage, IsWholeImage};
-ghost use Rattle.sup_wire.specs.Faults.{IsImageInRange};
-ghost use Rattle.sup_wire.specs.Forms.{count_value, value_of, IsName, AreWritten};
+ghost use Rattle.sup_wire.specs.Drafts.{IsDraftOfImage, IsWholeImage};
+ghost use Rattle.sup_wire.specs.Faults.{IsTextAfter, IsImageInRange};
+ghost use Rattle.sup_wire.specs.Forms.{IsName, IsWritten, AreWritten};
 ghost use Rattle.sup_wire.specs.Lent.{IsLentOf};
-ghost use Rattle.sup_wire.specs.Writing.{Adds, WritesDraft, tokens_of, field_tokens, parts_lent};
+ghost use Rattle.sup_wire.specs.RowTexts.{AreRows, row_text};
+ghost use Rattle.sup_wire.specs.ImageTexts.{image_front, image_back};
+ghost use Rattle.sup_wire.specs.Writing.{parts_lent};
 
 use crate::image::Image;
 use crate::lent_image::LentImage;
-use crate::writing::context::write_context;
-use crate::writing::fields::{number_field, text_field, version_field};
+use crate::row_item::RowItem;
+use crate::writing::fronts::front_after;
 use crate::writing::lending::{LentParts, lent_parts, lent_rows};
-use crate::writing::rows::write_rows;
-use json::Writer;
 use std::alloc::AllocError;
+use sup_array_text::{ArrayBuilding, ArrayText};
 use sup_specs::NodeName;
+use sup_tables::LentRow;
 
-// The first fields, of boot and count.
-fn first_fields(out: &mut Writer, boot: u64, count: u64) -> Result<(), AllocError>
-    ensures { OnOk result (Adds out.old out.new (field_tokens (codes "boot") (count_value boot) ++ field_tokens (codes "count") (count_value count))) }
-{
-    number_field(out, "boot", boot)?;
-    number_field(out, "count", count)
-}
+// Room for a row, before it is known how long its text is.
+const ROW: usize = 128;
 
-// The fields of the kind and of the node.
-fn node_fields(out: &mut Writer, node: &NodeName) -> Result<(), AllocError>
-    ensures name { OnOk result (IsName node.now) }
-    ensures adds { OnOk result (Adds out.old out.new (field_tokens (codes "kind") (string (codes "image")) ++ field_tokens (codes "node") (string node.now))) }
-{
-    text_field(out, "kind", "image")?;
-    text_field(out, "node", node.as_str())
-}
-
-fn write_parts(
-    out: &mut Writer,
+// The text of an image by its parts, behind what the buffer has.
+pub(crate) fn text_by(
+    front: Vec<u8>,
     node: &NodeName,
     boot: u64,
     count: u64,
     parts: &LentParts<'_>,
-) -> Result<(), AllocError>
+) -> Result<ArrayText, AllocError>
     ensures boot { boot < 2 ^ 64 }
     ensures count { count < 2 ^ 64 }
-    ensures node { OnOk result (IsName node.now) }
-    ensures written { OnOk result (AreWritten (parts_lent parts.now)) }
-    ensures adds { OnOk result (Adds out.old out.new (tokens_of (value_of (image node.now boot count (parts_lent parts.now))))) }
+    ensures name { IfOk result (λ t. IsName node.now) }
+    ensures written { IfOk result (λ t. AreWritten (parts_lent parts.now)) }
+    ensures text { IfOk result (λ t. t ≡ shown (front.items ++ whole (image_front node.now boot count (parts_lent parts.now)) (map row_text (parts_lent parts.now).rows) image_back) (map row_text (parts_lent parts.now).rows)) }
 {
-    out.begin_object()?;
-    first_fields(out, boot, count)?;
-    out.key("ctx")?;
-    write_context(out, parts)?;
-    node_fields(out, node)?;
-    out.key("rows")?;
-    write_rows(out, parts.rows)?;
-    version_field(out)?;
-    out.end_object()
+    let front = front_after(front, node, boot, count, parts)?;
+    let rows = parts.rows;
+    let begun = ArrayBuilding::new(front, rows.len(), rows.len().saturating_mul(ROW))?;
+    let made = with_texts(begun, rows)?;
+    let text = closed(made)?;
+    Ok(text)
 }
 
-// An image that is lent.
-pub(crate) fn write_lent_image(out: &mut Writer, image: &LentImage<'_>) -> Result<(), AllocError>
-    ensures { OnOk result ((i : Image) → IsLentOf image.now i → HasDotsOf i.state.context i.state.rows → WritesDraft IsDraftOfImage IsImageInRange out.old out.new i) }
+// What stands behind the rows too.
+pub(crate) fn closed(made: ArrayBuilding) -> Result<ArrayText, AllocError>
+    ensures { IfOk result (λ t. t ≡ shown (whole made.front made.items image_back) made.items) }
 {
-    // For the clause: the context's counters are in their limits.
+    let text = made.closed(b",\"v\":2}")?;
+    Ok(text)
+}
+
+// With the texts of these rows.
+fn with_texts(made: ArrayBuilding, rows: &[LentRow<'_>]) -> Result<ArrayBuilding, AllocError>
+    ensures front { IfOk result (λ all. all.front ≡ made.front) }
+    ensures items { IfOk result (λ all. all.items ≡ made.items ++ map row_text (rows_lent rows.now)) }
+    ensures written { IfOk result (λ all. AllByRecursion IsWritten (rows_lent rows.now)) }
+{
+    let mut all = made;
+    for row in rows {
+        all = all.with_item(&RowItem { row: *row })?;
+    }
+    Ok(all)
+}
+
+// The text of an image that is lent, behind what the buffer has.
+pub(crate) fn lent_text_after(
+    front: Vec<u8>,
+    image: &LentImage<'_>,
+) -> Result<ArrayText, AllocError>
+    ensures text { IfOk result (λ t. (i : Image) → IsLentOf image.now i → HasDotsOf i.state.context i.state.rows → IsTextAfter IsDraftOfImage IsImageInRange front.items t.text i) }
+    ensures rows { IfOk result (λ t. (i : Image) → IsLentOf image.now i → IsWholeImage i → AreRows i.state.rows t.items) }
+{
+    // For the clauses: the context's counters are in their limits.
     image.context.counted();
     let parts = lent_parts(image.context, &image.rows)?;
-    write_parts(out, &image.node, image.boot, image.count, &parts)
+    let text = text_by(front, &image.node, image.boot, image.count, &parts)?;
+    Ok(text)
 }
 
 // Lends an image.
@@ -85,11 +99,13 @@ fn lent_image(image: &Image) -> Result<LentImage<'_>, AllocError>
     })
 }
 
-// An image.
-pub(crate) fn write_image(out: &mut Writer, image: &Image) -> Result<(), AllocError>
-    ensures draft { OnOk result (WritesDraft IsDraftOfImage IsImageInRange out.old out.new image.now) }
-    ensures whole { OnOk result (IsWholeImage image.now) }
+// The text of an image, behind what the buffer has.
+pub(crate) fn image_text_after(front: Vec<u8>, image: &Image) -> Result<ArrayText, AllocError>
+    ensures text { IfOk result (λ t. IsTextAfter IsDraftOfImage IsImageInRange front.items t.text image.now) }
+    ensures rows { IfOk result (λ t. AreRows image.now.state.rows t.items) }
+    ensures whole { IfOk result (λ t. IsWholeImage image.now) }
 {
     let lent = lent_image(image)?;
-    write_lent_image(out, &lent)
+    let text = lent_text_after(front, &lent)?;
+    Ok(text)
 }

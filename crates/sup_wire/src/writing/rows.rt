@@ -65,7 +65,7 @@ fn write_name(out: &mut Writer, name: &Name, dot: &Dot, id: &ChildId) -> Result<
 }
 
 // A row.
-fn write_row(out: &mut Writer, row: &LentRow<'_>) -> Result<(), AllocError>
+pub(crate) fn write_row(out: &mut Writer, row: &LentRow<'_>) -> Result<(), AllocError>
     ensures formed { OnOk result (IsWritten (row_lent row.now)) }
     ensures adds { OnOk result (Adds out.old out.new (tokens_of (row_value Two (row_lent row.now)))) }
 {

@@ -1,0 +1,4 @@
+pub mod PlaceReads
+pub mod Searches
+pub mod EditTexts
+pub mod NextLaws

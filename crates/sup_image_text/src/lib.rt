@@ -1,0 +1,22 @@
+//! The text of the next image, put together from the texts of the last one's rows: what stands before the rows is written anew, rows
+//! that stay are copied, and those that come are written.
+//!
+//! ```rust
+//! use sup_image_text::{NextImage, RowChange, text_after};
+//!
+//! // The text of the last image, with its rows' texts.
+//! let texts = sup_wire::text_of(alloc, &image)?;
+//! let rows = RowChange::Edits(tables.lent_edits_after(alloc, &plan)?);
+//! // The same bytes as `sup_wire::encode_image` gives of the next image.
+//! let next = text_after(alloc, &texts, &NextImage { heading, rows })?;
+//! ```
+#![tactic(auto)]
+
+mod editing;
+pub mod next;
+pub mod next_image;
+mod places;
+mod searching;
+
+pub use next::{is_few, text_after};
+pub use next_image::{NextImage, RowChange};

@@ -1,0 +1,65 @@
+//! The text of the next image.
+ghost use Rattle.std.specs.Prelude.{◌≡◌, ◌↔◌, ◌<◌, ◌/◌, List, IsTrue, IfOk};
+ghost use Rattle.sup_tables.specs.declared.row.Row.{Row};
+ghost use Rattle.sup_wire.specs.declared.image.Image.{Image as ImageValue};
+ghost use Rattle.sup_wire.specs.Drafts.{IsWholeImage};
+ghost use Rattle.sup_wire.specs.RowTexts.{AreRows};
+ghost use Rattle.sup_wire.specs.ImageTexts.{IsHeaded, IsTextFor};
+ghost use Rattle.sup_image_text.specs.Next.{IsEdited, IsNext};
+
+use crate::editing::edited;
+use crate::next_image::{NextImage, RowChange};
+use std::alloc::{AllocError, Global};
+use sup_array_text::ArrayText;
+use sup_edits::Edit;
+use sup_tables::LentRow;
+use sup_wire::{Heading, image_front, image_text};
+
+/// The text of the image that comes of another, of which this is the text. It changes nothing, and takes all memory: what it
+/// gives takes the old text's place by a move.
+///
+/// # Errors
+///
+/// Refused only for memory.
+pub fn text_after(
+    alloc: Global,
+    texts: &ArrayText,
+    next: &NextImage<'_>,
+) -> Result<ArrayText, AllocError>
+    ensures { IfOk result (λ t. (old : List Row) (new : ImageValue) → AreRows old texts.now.items → IsNext old new next.now → IsTextFor new t) }
+{
+    match &next.rows {
+        RowChange::Edits(edits) => {
+            let text = edited_text(alloc, texts, edits, &next.heading)?;
+            Ok(text)
+        }
+        RowChange::All(rows) => {
+            let text = image_text(alloc, &next.heading, rows)?;
+            Ok(text)
+        }
+    }
+}
+
+// Of the last image's rows, of which some go and to which some come.
+fn edited_text(
+    alloc: Global,
+    texts: &ArrayText,
+    edits: &[Edit<LentRow<'_>>],
+    heading: &Heading<'_>,
+) -> Result<ArrayText, AllocError>
+    ensures { IfOk result (λ t. (old : List Row) (new : ImageValue) → AreRows old texts.now.items → IsEdited old new.state.rows edits.now → IsHeaded new heading.now → IsWholeImage new → IsTextFor new t) }
+{
+    let front = image_front(alloc, heading)?;
+    let text = edited(alloc, texts, edits, front)?;
+    Ok(text)
+}
+
+// An edit, with its search, takes as long as some 32 rows that are written.
+const SEARCH: usize = 32;
+
+/// Whether so few edits come to so many rows that one by one they take less time than all rows written anew.
+pub fn is_few(edits: usize, rows: usize) -> bool
+    ensures { IsTrue result ↔ (edits < rows / 32) }
+{
+    edits < rows / SEARCH
+}

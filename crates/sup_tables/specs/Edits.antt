@@ -1,0 +1,25 @@
+-- The rows that come and go once a plan is carried out: under each key that the plan may change all rows go, and those come that are to stand
+-- (this project).
+use Rattle.std.specs.Prelude.{List, [], ◌∷◌, ◌++◌, map, Option, Some, None}
+use Rattle.std.specs.Map.{lookup}
+use Rattle.std.specs.BTreeMap.{is_at}
+use Rattle.std.specs.declared.cmp.Ordering.{Ordering}
+use Rattle.sup_edits.specs.declared.edit.Edit.{Edit}
+use Rattle.sup_edits.specs.declared.edit.Edit.TheVariants.{Comes, Goes}
+use Rattle.sup_causal.specs.declared.dot.Dot.{Dot}
+use Rattle.sup_dot_store.specs.declared.dot_fun.DotFun.{DotFun}
+use Rattle.sup_dot_store.specs.Contents.{values_of}
+use Rattle.sup_tables.specs.Stored.{values_under}
+
+-- the rows of a key, by dot
+abbrev pub rows_at : {V R : Type 0} → (Dot → V → R) → List (Dot × V) → List R
+rows_at make es = map (λ e. make e.0 e.1) es
+
+-- the edits of a key by what stands there and what is to stand
+abbrev pub key_edits : {V R : Type 0} → (Dot → V → R) → Option (DotFun V) → DotFun V → List (Edit R)
+key_edits make old new = map Goes (rows_at make (values_under old)) ++ map Comes (rows_at make (values_of new).entries)
+
+-- the edits of a table by the functions that are to change, and those that stand
+abbrev pub table_edits : {K V R : Type 0} → (K → K → Ordering) → (K → Dot → V → R) → List (K × DotFun V) → List (K × DotFun V) → List (Edit R)
+table_edits cmp make [] es = []
+table_edits cmp make (p ∷ ps) es = key_edits (make p.0) (lookup (is_at (cmp p.0)) es) p.1 ++ table_edits cmp make ps es

@@ -1,0 +1,106 @@
+//! The rows that come and go once a plan is carried out, lent.
+ghost use Rattle.std.specs.Prelude.{◌≡◌, ◌++◌, map, IfOk, OnOk};
+ghost use Rattle.std.specs.Option.{option_copied};
+ghost use Rattle.std.specs.BTreeMap.{IsOrdered};
+ghost use Rattle.sup_edits.specs.declared.edit.Edit.TheVariants.{Comes, Goes};
+ghost use Rattle.sup_edits.specs.Edits.{edited, edit_of};
+ghost use Rattle.sup_indexed.specs.Contents.{functions_of, functions_planned};
+ghost use Rattle.sup_tables.specs.Rows.{row_of, place_cmp, AreInOrder};
+ghost use Rattle.sup_tables.specs.States.{State, HasDotsOf};
+ghost use Rattle.sup_tables.specs.Stored.{values_under};
+ghost use Rattle.sup_tables.specs.Lent.{row_lent};
+ghost use Rattle.sup_tables.specs.Planned.{IsPlanFor};
+ghost use Rattle.sup_tables.specs.Edits.{rows_at, table_edits};
+
+use crate::lent::LentRow;
+use crate::planning::PlannedTables;
+use crate::row::Entered;
+use crate::tables::{Table, Tables};
+use std::alloc::{AllocError, Global};
+use sup_dot_store::{DotFun, ShortValues};
+use sup_edits::Edit;
+use sup_indexed::PlannedMap;
+use sup_specs::Plain;
+
+impl Tables {
+    /// The rows that go and those that come once the plan is carried out, losers among them, in the order of their places. Of a
+    /// key that the plan may change all rows go, and those come that stand there then. No row is copied, and no other key is
+    /// looked at. An `Err` where a growth was refused.
+    pub fn lent_edits_after<'a>(
+        &'a self,
+        alloc: Global,
+        plan: &'a PlannedTables,
+    ) -> Result<Vec<Edit<LentRow<'a>>>, AllocError>
+        ensures rows { IfOk result (λ edits. (new : State) → IsPlanFor plan.now self.now new → new.rows ≡ edited place_cmp (map (edit_of row_lent) edits.items) self.now.rows) }
+        ensures in_order { IfOk result (λ edits. (new : State) → IsPlanFor plan.now self.now new → AreInOrder new.rows) }
+        ensures covered { IfOk result (λ edits. (new : State) → IsPlanFor plan.now self.now new → HasDotsOf new.context new.rows) }
+    {
+        // For its clause: tables are in their one form.
+        self.context();
+        let store = self.stores();
+        let mut edits = Vec::new(alloc);
+        lend_edits(&mut edits, &store.first, &plan.members)?;
+        lend_edits(&mut edits, &store.second.first, &plan.children)?;
+        lend_edits(&mut edits, &store.second.second, &plan.names)?;
+        Ok(edits)
+    }
+}
+
+// Lends the edits of a table, behind those that are lent already.
+fn lend_edits<'a, K: Plain, V: Entered<K>>(
+    edits: &mut Vec<Edit<LentRow<'a>>>,
+    table: &'a Table<K, V>,
+    plan: &'a PlannedMap<K, V>,
+) -> Result<(), AllocError>
+    ensures ordered { OnOk result (IsOrdered K.cmp (functions_planned plan.now)) }
+    ensures edits { OnOk result (map (edit_of row_lent) edits.new.items ≡ map (edit_of row_lent) edits.old.items ++ table_edits K.cmp (λ k d v. row_of d (V.says k v)) (functions_planned plan.now).entries (functions_of table.now).entries) }
+{
+    for (key, function) in plan.functions() {
+        lend_gone(edits, key, table.get(key))?;
+        lend_coming(edits, key, function.values())?;
+    }
+    Ok(())
+}
+
+// Lends the rows of a key as ones that go.
+fn lend_gone<'a, K: Plain, V: Entered<K>>(
+    edits: &mut Vec<Edit<LentRow<'a>>>,
+    key: &'a K,
+    function: Option<&'a DotFun<V>>,
+) -> Result<(), AllocError>
+    ensures { OnOk result (map (edit_of row_lent) edits.new.items ≡ map (edit_of row_lent) edits.old.items ++ map Goes (rows_at (λ d v. row_of d (V.says key.now v)) (values_under (option_copied function.entry)))) }
+{
+    match function {
+        None => Ok(()),
+        Some(function) => lend_going(edits, key, function.values()),
+    }
+}
+
+fn lend_going<'a, K, V: Entered<K>>(
+    edits: &mut Vec<Edit<LentRow<'a>>>,
+    key: &'a K,
+    values: &'a ShortValues<V>,
+) -> Result<(), AllocError>
+    ensures { OnOk result (map (edit_of row_lent) edits.new.items ≡ map (edit_of row_lent) edits.old.items ++ map Goes (rows_at (λ d v. row_of d (V.says key.now v)) values.now.entries)) }
+{
+    for (dot, value) in values {
+        let entry = V::lent(key, value);
+        edits.push(Edit::Goes(LentRow { dot, entry }))?;
+    }
+    Ok(())
+}
+
+// Lends rows of a key as ones that come.
+fn lend_coming<'a, K, V: Entered<K>>(
+    edits: &mut Vec<Edit<LentRow<'a>>>,
+    key: &'a K,
+    values: &'a ShortValues<V>,
+) -> Result<(), AllocError>
+    ensures { OnOk result (map (edit_of row_lent) edits.new.items ≡ map (edit_of row_lent) edits.old.items ++ map Comes (rows_at (λ d v. row_of d (V.says key.now v)) values.now.entries)) }
+{
+    for (dot, value) in values {
+        let entry = V::lent(key, value);
+        edits.push(Edit::Comes(LentRow { dot, entry }))?;
+    }
+    Ok(())
+}

@@ -1,0 +1,50 @@
+-- An image's text by its parts: what stands before its rows, the rows' texts as an array, and what stands behind them (this project).
+use Rattle.std.specs.Prelude.{◌≡◌, ℕ, List, [], ◌∷◌, ◌++◌, codes, decimal}
+use Rattle.std.specs.List.{AllByRecursion}
+use Rattle.json.specs.Print.{quoted}
+use Rattle.serde_json.specs.Written.{compact_text}
+use Rattle.sup_specs.specs.Values.{Bytes}
+use Rattle.sup_causal.specs.declared.dot.Dot.{Dot}
+use Rattle.sup_causal.specs.Dots.{Context, has}
+use Rattle.sup_causal.specs.Cut.{IsVector, IsCloud}
+use Rattle.sup_array_text.specs.Arrays.{Shown}
+use Rattle.sup_wire.specs.declared.image.Image.{Image}
+use Rattle.sup_wire.specs.declared.heading.Heading.{Heading}
+use Rattle.sup_wire.specs.Drafts.{Parts, IsDraftOfImage}
+use Rattle.sup_wire.specs.Faults.{IsTextOf, IsImageInRange}
+use Rattle.sup_wire.specs.Forms.{IsName, context_value}
+use Rattle.sup_wire.specs.RowTexts.{AreRows}
+
+-- a key, its value's text and a comma
+abbrev pub field_text : Bytes → Bytes → Bytes
+field_text name text = quoted name ++ 58 ∷ (text ++ 44 ∷ [])
+
+abbrev pub image_front : Bytes → ℕ → ℕ → Parts → Bytes
+image_front node boot count p =
+    123 ∷ (field_text (codes "boot") (decimal boot) ++ (field_text (codes "count") (decimal count) ++ (field_text (codes "ctx") (compact_text (context_value p))
+    ++ (field_text (codes "kind") (quoted (codes "image")) ++ (field_text (codes "node") (quoted node) ++ (quoted (codes "rows") ++ 58 ∷ []))))))
+
+abbrev pub image_back : Bytes
+image_back = 44 ∷ (quoted (codes "v") ++ 58 ∷ (decimal 2 ++ 125 ∷ []))
+
+-- the text stands before the rows of an image with this heading
+pub record IsFront (h : Heading) (text : Bytes) : Type 0 where
+  pub parts : Parts
+  pub is_vector : IsVector (has h.context.now) parts.vector
+  pub is_cloud : IsCloud (has h.context.now) parts.cloud
+  pub name : IsName h.node
+  pub vector_names : AllByRecursion (λ e. IsName e.0) parts.vector
+  pub cloud_names : AllByRecursion (λ d. IsName d.node) parts.cloud
+  pub is : text ≡ image_front h.node h.boot h.count parts
+
+-- an image has this heading
+pub record IsHeaded (i : Image) (h : Heading) : Type 0 where
+  pub node : i.node ≡ h.node
+  pub boot : i.boot ≡ h.boot
+  pub count : i.count ≡ h.count
+  pub context : i.state.context ≡ h.context.now
+
+-- the text is the image's one text, and the items are its rows' texts
+pub record IsTextFor (i : Image) (t : Shown) : Type 0 where
+  pub text : IsTextOf IsDraftOfImage IsImageInRange t.text i
+  pub rows : AreRows i.state.rows t.items

@@ -1,0 +1,60 @@
+//! The parts that an image's text is put together of.
+ghost use Rattle.std.specs.Prelude.{◌≡◌, ◌<◌, ◌^◌, IfOk};
+ghost use Rattle.sup_array_text.specs.Arrays.{shown, whole};
+ghost use Rattle.sup_tables.specs.Lent.{rows_lent};
+ghost use Rattle.sup_wire.specs.declared.image.Image.{Image};
+ghost use Rattle.sup_wire.specs.Drafts.{IsWholeImage};
+ghost use Rattle.sup_wire.specs.ImageTexts.{IsFront, IsHeaded, IsTextFor, image_back};
+
+use crate::heading::Heading;
+use crate::writing::fronts::front_after;
+use crate::writing::images::{closed, text_by};
+use crate::writing::lending::lent_parts;
+use std::alloc::{AllocError, Global};
+use sup_array_text::{ArrayBuilding, ArrayText};
+use sup_tables::LentRow;
+
+/// What stands before the rows of an image. An `Err` where a growth was refused.
+pub fn image_front(alloc: Global, heading: &Heading<'_>) -> Result<Vec<u8>, AllocError>
+    ensures boot { IfOk result (λ text. heading.now.boot < 2 ^ 64) }
+    ensures count { IfOk result (λ text. heading.now.count < 2 ^ 64) }
+    ensures text { IfOk result (λ text. IsFront heading.now text.items) }
+{
+    let parts = lent_parts(heading.context, &[])?;
+    let text = front_after(
+        Vec::new(alloc),
+        &heading.node,
+        heading.boot,
+        heading.count,
+        &parts,
+    )?;
+    Ok(text)
+}
+
+/// The text of an image, with what stands behind its rows. An `Err` where a growth was refused.
+pub fn closed_image(made: ArrayBuilding) -> Result<ArrayText, AllocError>
+    ensures { IfOk result (λ t. t ≡ shown (whole made.front made.items image_back) made.items) }
+{
+    closed(made)
+}
+
+/// The text of an image with this heading and these rows, all of it written anew. An `Err` where a growth was refused.
+pub fn image_text(
+    alloc: Global,
+    heading: &Heading<'_>,
+    rows: &[LentRow<'_>],
+) -> Result<ArrayText, AllocError>
+    ensures { IfOk result (λ t. (i : Image) → IsHeaded i heading.now → rows_lent rows.now ≡ i.state.rows → IsWholeImage i → IsTextFor i t) }
+{
+    // For the clause: the context's counters are in their limits.
+    heading.context.counted();
+    let parts = lent_parts(heading.context, rows)?;
+    let text = text_by(
+        Vec::new(alloc),
+        &heading.node,
+        heading.boot,
+        heading.count,
+        &parts,
+    )?;
+    Ok(text)
+}
