@@ -47,11 +47,10 @@ impl<K: Keeper, W: Weigh> Station<K, W> {
     {
         let mut keeper = keeper;
         match open(alloc, name, config, &mut keeper) {
-            Ok((node, text)) => Ok(Station {
+            Ok(node) => Ok(Station {
                 name,
                 config,
                 node: Some(node),
-                texts: Some(text),
                 keeper,
                 alloc,
             }),
@@ -69,7 +68,6 @@ impl<K: Keeper, W: Weigh> Station<K, W> {
             name,
             config,
             node,
-            texts: None,
             keeper,
             alloc,
         }
@@ -143,14 +141,8 @@ impl<K: Keeper, W: Weigh> Station<K, W> {
     {
         let Prepared { next, text } = prepared;
         match text {
-            None => change_to(&mut self.node, &mut self.texts, next),
-            Some(text) => save_and_change(
-                &mut self.keeper,
-                &mut self.node,
-                &mut self.texts,
-                next,
-                text,
-            ),
+            None => change_to(&mut self.node, next),
+            Some(text) => save_and_change(&mut self.keeper, &mut self.node, next, &text),
         }
     }
 
