@@ -41,7 +41,7 @@ use Rattle.sup_model.specs.Runs.{world_after, Allows, Run}
 use mathlib.Core.Logic.{inl, inr}
 use Rattle.sup_model.specs.Headline.{KeepsExactly}
 use Rattle.sup_model.proofs.OnceLaws.{IsOnce, once_none, once_left, once_renewed}
-use Rattle.sup_model.proofs.WantedLaws.{wanted_rises}
+use Rattle.sup_replica.proofs.WantedLaws.{wanted_rises}
 use Rattle.sup_model.proofs.Afters.{After, after-refused_if, after-then_do, after-or_refused}
 
 -- an up node keeps exactly what is wanted

@@ -1,7 +1,6 @@
 pub mod Afters
 pub mod HeadlineLaws
 pub mod TopLaws
-pub mod WantedLaws
 pub mod OnceLaws
 pub mod KeepsLaws
 pub mod EffectLaws

@@ -42,7 +42,7 @@ use Rattle.sup_model.proofs.CleanLaws.{kept_by_after}
 use Rattle.sup_model.proofs.EffectLaws.{all_stopped, keys_without, restart_starts, started_append, wanted_starts}
 use Rattle.sup_model.proofs.KeepsLaws.{Good, GoodWorld, each-find, allowed_good}
 use Rattle.sup_model.proofs.OnceLaws.{IsOnce, once_left, once_none}
-use Rattle.sup_model.proofs.WantedLaws.{wanted_rises}
+use Rattle.sup_replica.proofs.WantedLaws.{wanted_rises}
 
 abbrev ids_at : Node Ops → List Bytes
 ids_at n = keys_of n.supervisor.kept

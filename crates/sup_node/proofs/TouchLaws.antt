@@ -35,7 +35,8 @@ use Rattle.sup_local_sup.proofs.KeepingLaws.{exact_from_eq}
 use Rattle.sup_local_sup.specs.Changing.{now_list, news, is_named, by_id, IsOwn, AreChanges, IsReplaced, left_of, leaving_of}
 use Rattle.sup_replica.specs.Nodes.{is_placed_on, wanted_of, wanted_row, wanted_at}
 use Rattle.sup_node.specs.Placed.{keeps, wanted_by, wanted_under, change_of, Reaches, ended_of}
-use Rattle.sup_node.proofs.PlacingLaws.{first_of, key_there}
+use Rattle.sup_replica.proofs.WantedLaws.{first_of}
+use Rattle.sup_node.proofs.PlacingLaws.{key_there}
 
 -- ---- lists
 

@@ -1,6 +1,6 @@
 use Rattle.std.proofs.Common.{sym, subst}
 use Rattle.sup_local_sup.specs.Keeping.{IdsRise}
-use Rattle.sup_node.proofs.PlacingLaws.{wanted_rises}
+use Rattle.sup_replica.proofs.WantedLaws.{wanted_rises}
 use Rattle.sup_node.proofs.placing.wanted_at.Goals as goal
 
 pub returns-clause-rise : goal.returns-clause-rise
