@@ -1,9 +1,9 @@
 //! The program's run, from its words and input to its output and status.
 
 ghost use Rattle.std.specs.Prelude.{◌≡◌, ◌≢◌, [], IfErr, IfOk};
+ghost use Rattle.std.specs.IoError.{error_kind};
 ghost use Rattle.sup_placement.specs.Weights.{sha256_weight};
 ghost use Rattle.sup_replica.specs.Configs.{default};
-ghost use Rattle.std.specs.IoError.{error_kind};
 ghost use Rattle.sup_program.specs.Performing.{WantsMemory};
 ghost use Rattle.sup_supdraw.specs.Drawing.{DrawsTo, DrawsWith, Refuses, RefusesWithout, TellsUsage};
 
@@ -19,8 +19,8 @@ use sup_replica::Config;
 pub const USAGE: u8 = 2;
 
 /// Runs the program, which takes no words, and answers its exit status: 0, or 1 where the input is bad, `USAGE` where there are words or
-/// they are no text, and 3 where the device or memory ended it, or memory for the words was refused. Members are weighed by SHA-256, and the nodes have the default settings.
-/// Faults of the error writer are passed over.
+/// they are no text, and 3 where the device or memory ended it, or memory for the words was refused. Members are weighed by SHA-256, and
+/// the nodes have the default settings. Faults of the error writer are passed over.
 pub fn run_with<R: Read, W: Write, E: Write>(
     alloc: Global,
     words: io::Result<Vec<String>>,
