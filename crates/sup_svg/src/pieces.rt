@@ -10,6 +10,8 @@ use sup_specs::NodeName;
 
 /// A piece, which has a text of its own.
 pub trait Piece {
+    ghost use Rattle.sup_svg.specs.declared.grid.Grid.{Grid};
+
     // Its text on this grid of these nodes.
     ghost drawn: { Grid → List Bytes → Self → List ℕ };
 
