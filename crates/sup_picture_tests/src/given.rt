@@ -37,33 +37,20 @@ pub(crate) fn came(rt: &impl Abort, from: &str, number: u64, at: &str, way: Way,
     }
 }
 
-pub(crate) fn began(
-    rt: &(impl Abort + AllocGlobal),
-    at: &str,
-    id: &str,
-    k: u64,
-    row: u64,
-) -> Change {
-    let run = ChildRun {
+/// The run of a child with this number, in its node's first boot.
+pub(crate) fn run(rt: &(impl Abort + AllocGlobal), id: &str, k: u64) -> ChildRun {
+    ChildRun {
         child: child(rt, id),
         boot: 1,
         k,
-    };
+    }
+}
+
+pub(crate) fn began(rt: &impl Abort, at: &str, run: ChildRun, row: u64) -> Change {
     changed(rt, at, Turn::Began(run), row)
 }
 
-pub(crate) fn ended(
-    rt: &(impl Abort + AllocGlobal),
-    at: &str,
-    id: &str,
-    k: u64,
-    row: u64,
-) -> Change {
-    let run = ChildRun {
-        child: child(rt, id),
-        boot: 1,
-        k,
-    };
+pub(crate) fn ended(rt: &impl Abort, at: &str, run: ChildRun, row: u64) -> Change {
     changed(rt, at, Turn::Ended(run), row)
 }
 

@@ -1,14 +1,14 @@
 //! Bars of children, and gaps of nodes.
-use crate::given::{began, changed, ended};
+use crate::given::{began, changed, ended, run};
 use sup_picture::{Turn, bars_of, children_of, gaps_of};
 
 #[test]
 fn a_bar_lasts_until_its_run_ends_or_its_node_stops(rt: HostRuntime) {
     let changes = vec![in rt.alloc();
-        began(&rt, "a", "web", 1, 1),
-        began(&rt, "a", "db", 2, 2),
-        began(&rt, "b", "web", 1, 3),
-        ended(&rt, "a", "web", 1, 4),
+        began(&rt, "a", run(&rt, "web", 1), 1),
+        began(&rt, "a", run(&rt, "db", 2), 2),
+        began(&rt, "b", run(&rt, "web", 1), 3),
+        ended(&rt, "a", run(&rt, "web", 1), 4),
         changed(&rt, "a", Turn::Down, 6),
     ]
     .expect(&rt, "room");
@@ -25,9 +25,10 @@ fn a_bar_lasts_until_its_run_ends_or_its_node_stops(rt: HostRuntime) {
 #[test]
 fn a_run_that_ends_in_its_first_row_has_a_bar_of_no_height(rt: HostRuntime) {
     let changes = vec![in rt.alloc();
-        began(&rt, "a", "web", 1, 5),
-        ended(&rt, "a", "web", 1, 5),
-    ].expect(&rt, "room");
+        began(&rt, "a", run(&rt, "web", 1), 5),
+        ended(&rt, "a", run(&rt, "web", 1), 5),
+    ]
+    .expect(&rt, "room");
     let bars = bars_of(rt.alloc(), changes.as_slice()).expect(&rt, "room");
     assert!(rt; bars.len() == 1);
     assert!(rt; bars[0].ended == Some(5));

@@ -1,12 +1,17 @@
 -- The program supdraw (this project): the picture of a script, or a front of its text, and how it ends.
-use Rattle.std.specs.Prelude.{◌≡◌, ℕ, List, drop, Result, Ok, Err, codes}
+use Rattle.std.specs.Prelude.{◌≡◌, ◌≢◌, ℕ, List, drop, Result, Ok, Err, codes}
 use Rattle.std.specs.Io.KnownBytes.{Appends, Keeps}
+use Rattle.std.specs.IoError.{error_kind}
+use Rattle.std.specs.declared.io.Error.{Error}
+use Rattle.std.specs.declared.io.ErrorKind.TheVariants as kind
 use Rattle.sup_placement.specs.Place.{Weigher}
 use Rattle.sup_replica.specs.Configs.{Config}
 use Rattle.sup_lines.specs.Script.{ScriptText, numbered_lines, script_of}
 use Rattle.sup_jobs.specs.declared.fault.Ended.{Ended}
 use Rattle.sup_jobs.specs.Ends.{KnownBytes, Job, Does}
 use Rattle.sup_jobs.specs.Tells.{IsCutShort, Tells}
+use Rattle.sup_program.specs.Performing.{WantsMemory}
+use Rattle.sup_program.specs.Runs.{EndsWith}
 use Rattle.sup_drawing.specs.Drawn.{Draws}
 use Rattle.sup_drawing.specs.Lines.{Captions}
 
@@ -55,3 +60,8 @@ TellsUsage errors_before errors_written ended = (ended.status ≡ 2) × Tells en
 
 abbrev pub Refuses : KnownBytes → KnownBytes → ℕ → Type 0
 Refuses errors_before errors_written status = (ended : Ended) × (ended.status ≡ status) × TellsUsage errors_before errors_written ended
+
+-- The words can't be had: they are no text, or memory was refused to them.
+pub record RefusesWithout (error : Error) (errors_before errors_written : KnownBytes) (status : ℕ) : Type 0 where
+  pub usage : error_kind error ≢ kind.OutOfMemory → Refuses errors_before errors_written status
+  pub memory : error_kind error ≡ kind.OutOfMemory → EndsWith status (WantsMemory errors_before errors_written)

@@ -1,23 +1,26 @@
 //! The program's run, from its words and input to its output and status.
 
 ghost use Rattle.std.specs.Prelude.{◌≡◌, ◌≢◌, [], IfErr, IfOk};
+ghost use Rattle.std.specs.IoError.{error_kind};
 ghost use Rattle.sup_placement.specs.Weights.{sha256_weight};
 ghost use Rattle.sup_replica.specs.Configs.{default};
-ghost use Rattle.sup_supdraw.specs.Drawing.{DrawsTo, DrawsWith, Refuses, TellsUsage};
+ghost use Rattle.sup_program.specs.Performing.{WantsMemory};
+ghost use Rattle.sup_supdraw.specs.Drawing.{DrawsTo, DrawsWith, Refuses, RefusesWithout, TellsUsage};
 
 use crate::script::draw;
 use std::alloc::Global;
-use std::io::{self, Read, Write};
+use std::io::{self, ErrorKind, Read, Write};
 use sup_jobs::{Ended, put_all};
 use sup_placement::Sha256Weigh;
+use sup_program::run::want_of_memory;
 use sup_replica::Config;
 
-/// The exit status where there are words after the program's name.
+/// The exit status where there are words after the program's name, or they are no text.
 pub const USAGE: u8 = 2;
 
-/// Runs the program, which takes no words, and answers its exit status: 0, or 1 where the input is bad, `USAGE` where there are words, or
-/// they can't be had, and 3 where the device or memory ended it. Members are weighed by SHA-256, and the nodes have the default settings.
-/// Faults of the error writer are passed over.
+/// Runs the program, which takes no words, and answers its exit status: 0, or 1 where the input is bad, `USAGE` where there are words or
+/// they are no text, and 3 where the device or memory ended it, or memory for the words was refused. Members are weighed by SHA-256, and
+/// the nodes have the default settings. Faults of the error writer are passed over.
 pub fn run_with<R: Read, W: Write, E: Write>(
     alloc: Global,
     words: io::Result<Vec<String>>,
@@ -28,11 +31,14 @@ pub fn run_with<R: Read, W: Write, E: Write>(
     ensures draws { IfOk words (λ given. given.items ≡ [] → DrawsWith sha256_weight default (R.remaining reader.old) (R.remaining reader.new)
         (W.contents writer.old) (W.contents writer.new) (E.contents errors.old) (E.contents errors.new) result) }
     ensures refuses { IfOk words (λ given. given.items ≢ [] → Refuses (E.contents errors.old) (E.contents errors.new) result) }
-    ensures without { IfErr words (λ _. Refuses (E.contents errors.old) (E.contents errors.new) result) }
+    ensures without { IfErr words (λ error. RefusesWithout error (E.contents errors.old) (E.contents errors.new) result) }
 {
     match words {
         Ok(words) => run(alloc, words.as_slice(), reader, writer, errors),
-        Err(_) => refuse(errors).status,
+        Err(error) => {
+            let ended = without_words(&error, errors);
+            ended.status
+        }
     }
 }
 
@@ -72,6 +78,19 @@ fn draw_plain<R: Read, W: Write, E: Write>(
         writer,
         errors,
     )
+}
+
+// Words that are no text are refused as words that there are. Want of memory is told as such.
+fn without_words<E: Write>(error: &io::Error, errors: &mut E) -> Ended
+    ensures usage { error_kind error.now ≢ ErrorKind.OutOfMemory
+        → TellsUsage (E.contents errors.old) (E.contents errors.new) result }
+    ensures memory { error_kind error.now ≡ ErrorKind.OutOfMemory
+        → WantsMemory (E.contents errors.old) (E.contents errors.new) result }
+{
+    if error.kind() == ErrorKind::OutOfMemory {
+        return want_of_memory(errors);
+    }
+    refuse(errors)
 }
 
 // Tells how the program is called.

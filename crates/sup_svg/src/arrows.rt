@@ -1,29 +1,20 @@
 //! The arrows of messages.
 
 ghost use Rattle.std.specs.Prelude.{◌≡◌, ◌≤◌, IfOk, string_bytes};
-ghost use Rattle.std.specs.List.{flat_map};
 ghost use Rattle.sup_svg.specs.Pieces.{arrow_text, came_text, line_text, lost_text, lost_x, path_text, start_y, title_text, way_class};
 
 use crate::grid::{Grid, y_of};
+use crate::pieces::Piece;
 use std::alloc::{AllocError, Global};
 use sup_picture::{Arrow, End, Message, Way};
 use sup_specs::NodeName;
 
-/// The arrows between these nodes.
-pub fn arrows_text(
-    alloc: Global,
-    grid: &Grid,
-    nodes: &[NodeName],
-    arrows: &[Arrow],
-) -> Result<String, AllocError>
-    ensures { IfOk result (λ s. string_bytes s ≡ flat_map (arrow_text grid.now nodes.now) arrows.now) }
-{
-    let mut text = String::new(alloc);
-    for arrow in arrows {
-        let piece = arrow_text(alloc, grid, nodes, arrow)?;
-        text.push_str(piece.as_str())?;
+impl Piece for Arrow {
+    ghost drawn = { arrow_text };
+
+    fn text(&self, alloc: Global, grid: &Grid, nodes: &[NodeName]) -> Result<String, AllocError> {
+        arrow_text(alloc, grid, nodes, self)
     }
-    Ok(text)
 }
 
 // An arrow.

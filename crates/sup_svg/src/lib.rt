@@ -6,6 +6,7 @@ mod bars;
 mod escape;
 mod grid;
 mod lanes;
+mod pieces;
 mod rows;
 mod style;
 pub mod svg;

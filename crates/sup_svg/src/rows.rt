@@ -1,30 +1,21 @@
 //! The rows: each a line of the script, and its mark.
 
 ghost use Rattle.std.specs.Prelude.{◌≡◌, ◌≤◌, IfOk, string_bytes};
-ghost use Rattle.std.specs.List.{flat_map};
 ghost use Rattle.sup_svg.specs.Pieces.{band_text, circle_text, dot_text, label_text, mark_text, row_text, stripe_text, told_text};
 
 use crate::escape::{escaped, first_line};
 use crate::grid::{Grid, y_of};
+use crate::pieces::Piece;
 use std::alloc::{AllocError, Global};
 use sup_picture::{Mark, Row};
 use sup_specs::NodeName;
 
-/// The rows of these nodes.
-pub fn rows_text(
-    alloc: Global,
-    grid: &Grid,
-    nodes: &[NodeName],
-    rows: &[Row],
-) -> Result<String, AllocError>
-    ensures { IfOk result (λ s. string_bytes s ≡ flat_map (row_text grid.now nodes.now) rows.now) }
-{
-    let mut text = String::new(alloc);
-    for row in rows {
-        let piece = row_text(alloc, grid, nodes, row)?;
-        text.push_str(piece.as_str())?;
+impl Piece for Row {
+    ghost drawn = { row_text };
+
+    fn text(&self, alloc: Global, grid: &Grid, nodes: &[NodeName]) -> Result<String, AllocError> {
+        row_text(alloc, grid, nodes, self)
     }
-    Ok(text)
 }
 
 // A row: its line in the margin, and its mark.

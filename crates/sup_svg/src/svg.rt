@@ -4,11 +4,10 @@ ghost use Rattle.std.specs.Prelude.{◌≡◌, IfOk, string_bytes};
 ghost use Rattle.sup_svg.specs.Pieces.{back_text, front_text, root_text};
 ghost use Rattle.sup_svg.specs.Svg.{svg_text};
 
-use crate::arrows::arrows_text;
 use crate::bars::bars_text;
 use crate::grid::{Grid, grid_of, y_of};
 use crate::lanes::{gaps_text, lanes_text};
-use crate::rows::rows_text;
+use crate::pieces::pieces_text;
 use crate::style::STYLE;
 use std::alloc::{AllocError, Global};
 use sup_picture::Picture;
@@ -33,9 +32,9 @@ pub fn svg_of(alloc: Global, picture: &Picture) -> Result<String, AllocError>
     text.push_str(gaps.as_str())?;
     let bars = bars_text(alloc, &grid, nodes, children, rows, picture.bars.as_slice())?;
     text.push_str(bars.as_str())?;
-    let arrows = arrows_text(alloc, &grid, nodes, picture.arrows.as_slice())?;
+    let arrows = pieces_text(alloc, &grid, nodes, picture.arrows.as_slice())?;
     text.push_str(arrows.as_str())?;
-    let marks = rows_text(alloc, &grid, nodes, picture.rows.as_slice())?;
+    let marks = pieces_text(alloc, &grid, nodes, picture.rows.as_slice())?;
     text.push_str(marks.as_str())?;
     text.push_str("</svg>\n")?;
     Ok(text)
