@@ -1,4 +1,5 @@
-//! Copies of acts, where there is room for them. Those of answers are printed in the tests of texts.
+//! Copies of acts, where there is room for them. Those of answers are printed in the tests of
+//! texts.
 use std::process::Abort;
 use sup_local_sup::Incarnation;
 use sup_replica::{Act, Event, MessageText};

@@ -1,11 +1,12 @@
-//! A reader that is interrupted at every other question, an answerer that says what it heard, a writer that takes so much and no more,
-//! and a host that writes down what happens.
+//! A reader that is interrupted at every other question, an answerer that says what it heard, a
+//! writer that takes so much and no more, and a host that writes down what happens.
 
 use std::alloc::{AllocError, Global};
 use std::io::{self, ErrorKind, Read, Write};
 use sup_talk::Answerer;
 
-/// Gives its bytes one by one, is interrupted before each, and fails behind the last if it's told to.
+/// Gives its bytes one by one, is interrupted before each, and fails behind the last if it's told
+/// to.
 #[derive(Drop)]
 pub struct Stutter {
     pub bytes: Vec<u8>,

@@ -1,5 +1,5 @@
 //! Walks through many changes, in which the next image's text is put together of the last one's.
-use crate::acts::{delta, node};
+use crate::walked_acts::{delta, node};
 use std::process::Abort;
 use std::test::Fail;
 use sup_array_text::ArrayText;
@@ -47,7 +47,8 @@ fn mixed(at: u64) -> u64 {
     spread >> 33
 }
 
-// Walks so many changes from no rows on, and expects every tenth text to be the one that is written anew.
+// Walks so many changes from no rows on, and expects every tenth text to be the one that is written
+// anew.
 fn walk(rt: &(impl Abort + AllocGlobal), steps: u64, seed: u64) {
     let mut state = Tables::empty(rt.alloc());
     state.index_rows();

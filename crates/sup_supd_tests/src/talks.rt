@@ -5,7 +5,7 @@ use std::io::BufReader;
 use std::process::Abort;
 use sup_talk::{LINE_LIMIT, Streams, TalkEnd, TalkFault, talk};
 
-fn talks(
+fn talked(
     rt: &(impl Abort + AllocGlobal),
     bytes: Vec<u8>,
     fails: bool,
@@ -36,7 +36,7 @@ fn an_interrupted_reader_is_asked_again_and_a_line_that_nobody_ended_is_passed_o
     rt: HostRuntime,
 ) {
     let bytes = b"one\n\ntwo\nthr".to_vec(rt.alloc()).expect(&rt, "room");
-    let (text, end) = talks(&rt, bytes, false, 100);
+    let (text, end) = talked(&rt, bytes, false, 100);
     assert_eq!(rt; text.as_slice(), b"one!!two!".as_slice());
     assert_eq!(rt; end, Ok(TalkEnd::Ended));
 }
@@ -44,7 +44,7 @@ fn an_interrupted_reader_is_asked_again_and_a_line_that_nobody_ended_is_passed_o
 #[test]
 fn a_reader_that_fails_ends_the_talk_behind_the_last_answer(rt: HostRuntime) {
     let bytes = b"one\nt".to_vec(rt.alloc()).expect(&rt, "room");
-    let (text, end) = talks(&rt, bytes, true, 100);
+    let (text, end) = talked(&rt, bytes, true, 100);
     assert_eq!(rt; text.as_slice(), b"one!".as_slice());
     assert_eq!(rt; end, Err(TalkFault::Device));
 }
@@ -54,7 +54,7 @@ fn a_writer_that_fails_has_got_a_front_of_the_answer_and_no_line_is_heard_behind
     rt: HostRuntime,
 ) {
     let bytes = b"one\ntwo\nthree\n".to_vec(rt.alloc()).expect(&rt, "room");
-    let (text, end) = talks(&rt, bytes, false, 6);
+    let (text, end) = talked(&rt, bytes, false, 6);
     assert_eq!(rt; text.as_slice(), b"one!tw".as_slice());
     assert_eq!(rt; end, Err(TalkFault::Device));
 }
@@ -62,7 +62,7 @@ fn a_writer_that_fails_has_got_a_front_of_the_answer_and_no_line_is_heard_behind
 #[test]
 fn an_answerer_that_is_over_hears_no_more(rt: HostRuntime) {
     let bytes = b"one\nend\ntwo\n".to_vec(rt.alloc()).expect(&rt, "room");
-    let (text, end) = talks(&rt, bytes, false, 100);
+    let (text, end) = talked(&rt, bytes, false, 100);
     assert_eq!(rt; text.as_slice(), b"one!end!".as_slice());
     assert_eq!(rt; end, Ok(TalkEnd::Over));
 }

@@ -3,12 +3,18 @@ use std::process::Abort;
 use sup_still::Still;
 use sup_wire::WireFault;
 
-const IMAGE: &[u8] =
-    b"{\"boot\":1,\"count\":2,\"ctx\":{\"cloud\":[],\"vector\":{\"a\":2}},\"kind\":\"image\",\"node\":\"a\",\"rows\":[[\"member\",\"a\",[\"a\",1],{\"label\":\"\"}],[\"child\",\"web\",[\"a\",2],{\"arg\":\"\",\"kind\":\"worker\",\"restart\":\"permanent\",\"shutdown\":5000}]],\"v\":1}";
+const IMAGE: &[u8] = b"\
+    {\"boot\":1,\"count\":2,\"ctx\":{\"cloud\":[],\"vector\":{\"a\":2}},\"kind\":\"image\",\
+    \"node\":\"a\",\"rows\":[[\"member\",\"a\",[\"a\",1],{\"label\":\"\"}],[\"child\",\"web\",\
+    [\"a\",2],{\"arg\":\"\",\"kind\":\"worker\",\"restart\":\"permanent\",\"shutdown\":5000}]],\
+    \"v\":1}";
 
 // The same in version 2.
-const NEW_IMAGE: &[u8] =
-    b"{\"boot\":1,\"count\":2,\"ctx\":{\"cloud\":[],\"vector\":{\"a\":2}},\"kind\":\"image\",\"node\":\"a\",\"rows\":[[\"member\",\"a\",[\"a\",1],{\"label\":\"\",\"status\":\"open\"}],[\"child\",\"web\",[\"a\",2],{\"arg\":\"\",\"kind\":\"worker\",\"restart\":\"permanent\",\"shutdown\":5000}]],\"v\":2}";
+const NEW_IMAGE: &[u8] = b"\
+    {\"boot\":1,\"count\":2,\"ctx\":{\"cloud\":[],\"vector\":{\"a\":2}},\"kind\":\"image\",\
+    \"node\":\"a\",\"rows\":[[\"member\",\"a\",[\"a\",1],{\"label\":\"\",\"status\":\"open\"}],\
+    [\"child\",\"web\",[\"a\",2],{\"arg\":\"\",\"kind\":\"worker\",\"restart\":\"permanent\",\
+    \"shutdown\":5000}]],\"v\":2}";
 
 fn expect_told(rt: &(impl Abort + AllocGlobal), text: &[u8]) {
     let still = Still::read(rt.alloc(), text).expect(rt, "an image");
@@ -40,7 +46,9 @@ fn a_text_that_is_no_image_is_told_by_its_first_fault(rt: HostRuntime) {
     expect_fault(&rt, b"{\"v\":9}", WireFault::BadVersion);
     expect_fault(
         &rt,
-        b"{\"boot\":1,\"count\":0,\"ctx\":{\"cloud\":[[\"a\",1]],\"vector\":{}},\"kind\":\"image\",\"node\":\"a\",\"rows\":[],\"v\":1}",
+        b"\
+        {\"boot\":1,\"count\":0,\"ctx\":{\"cloud\":[[\"a\",1]],\"vector\":{}},\"kind\":\"image\",\
+        \"node\":\"a\",\"rows\":[],\"v\":1}",
         WireFault::NotCanonical,
     );
 }
