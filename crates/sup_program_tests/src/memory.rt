@@ -97,6 +97,8 @@ fn a_refused_allocation_ends_a_placement_or_changes_nothing(rt: HostRuntime) {
     let words = ["place", "--weigh", "flat"];
     let ended = run_lean(&rt, &words, PLACED, &mut printed, &mut errors);
     expect_front(&rt, ended, &printed, &errors, b"web a\n");
+    // The whole text stands before anything is written.
+    assert!(rt; ended.status == 0 || ended.written == 0);
 }
 
 // A step that is refused for memory prints that, and the run goes on as if it weren't there.
