@@ -8,10 +8,28 @@ use std::thread::Threads;
 use sup_supctl::run::run;
 
 /// A script of steps, and what it prints: answers, effects and letters.
-const STEPS: &[u8] = b"nodes a b\njoin b\nstart b web\nship b a\nsettle\nshow a\nwhere a www\n";
+const STEPS: &[u8] = b"\
+nodes a b
+join b
+start b web
+ship b a
+settle
+show a
+where a www
+";
 
-const STEPS_OUTPUT: &[u8] =
-    b"ok (b,1)\nok (b,2)\n  b start web 1.1\nok sent\n  sent b 1 to a delta 2 part\nok settled 4\nnode a boot 1\nmember b (b,1) label=\nchild web (b,2) worker permanent 5000 arg= on b\nwww unknown\n";
+const STEPS_OUTPUT: &[u8] = b"\
+ok (b,1)
+ok (b,2)
+  b start web 1.1
+ok sent
+  sent b 1 to a delta 2 part
+ok settled 4
+node a boot 1
+member b (b,1) label=
+child web (b,2) worker permanent 5000 arg= on b
+www unknown
+";
 
 /// A reader that is interrupted so often, then gives a byte at a time, and then ends or fails.
 #[derive(Drop)]
@@ -112,6 +130,28 @@ fn a_reader_that_fails_behind_a_bad_line_is_a_device_fault(rt: HostRuntime) {
         ends: false,
     };
     expect_run(&rt, &mut reader, 3, b"", b"device\n");
+}
+
+#[test]
+fn a_placement_whose_reader_fails_is_a_device_fault(rt: HostRuntime) {
+    let mut reader = Slow {
+        bytes: b"members b a\nweb\n",
+        interrupts: 0,
+        ends: false,
+    };
+    let mut written = Vec::new(rt.alloc());
+    let mut told = Vec::new(rt.alloc());
+    let words = ["place", "--weigh", "flat"];
+    let status = run(
+        &rt,
+        rt.alloc(),
+        &words,
+        &mut reader,
+        &mut written,
+        &mut told,
+    );
+    assert!(rt; status == 3 && written.is_empty());
+    assert!(rt; told.as_slice() == b"device\n".as_slice());
 }
 
 // Expects the front of a simulation's output that there is room for.

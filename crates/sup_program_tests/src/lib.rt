@@ -1,12 +1,9 @@
-//! The tests of the program over the world of stations: its worked rows, its words and options, inputs that are bad or of the
-//! greatest length, and devices and memory that fail. A crate with tests is proved twice, once without and once with them:
-//! here there is nothing to prove without them.
+//! The tests of `sup_supctl`, `sup_program` and `sup_placing` that are no script with its output:
+//! words of the command line, inputs of the greatest length, threads, and devices and memory that
+//! fail. Scripts with their outputs are cases of `sup_rows`. A crate with tests is proved twice,
+//! once without and once with them: here there is nothing to prove without them.
 #![tactic(auto)]
 
-#[cfg(test)]
-mod bad_lines;
-#[cfg(test)]
-mod children;
 #[cfg(test)]
 mod clusters;
 #[cfg(test)]
@@ -18,23 +15,9 @@ mod memory;
 #[cfg(test)]
 mod options;
 #[cfg(test)]
-mod placements;
-#[cfg(test)]
 mod plain;
 #[cfg(test)]
-mod refusals;
-#[cfg(test)]
-mod restarts;
-#[cfg(test)]
 mod runs;
-#[cfg(test)]
-mod saves;
-#[cfg(test)]
-mod scripts;
-#[cfg(test)]
-mod settlings;
-#[cfg(test)]
-mod travels;
 #[cfg(test)]
 mod usage;
 #[cfg(test)]

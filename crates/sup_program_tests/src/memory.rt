@@ -1,5 +1,5 @@
-//! Runs in which memory is refused. `bench/refused_stories.sh` runs these tests with each growth refused in turn: they take
-//! no memory of their own.
+//! Runs in which memory is refused. `bench/refused_stories.sh` runs these tests with each growth
+//! refused in turn: they take no memory of their own.
 use crate::runs::{OUTPUT, SCRIPT};
 use std::process::Abort;
 use std::sync::Wait;
@@ -8,14 +8,27 @@ use sup_supctl::run::run;
 
 const STEP: &[u8] = b"nodes a\nstart a x\nshow a\n";
 
-const STEP_OUTPUT: &[u8] =
-    b"ok (a,1)\nnode a boot 1\nchild x (a,1) worker permanent 5000 arg= unplaced\n";
+const STEP_OUTPUT: &[u8] = b"\
+ok (a,1)
+node a boot 1
+child x (a,1) worker permanent 5000 arg= unplaced
+";
 
 const REFUSED_OUTPUT: &[u8] = b"refused 19 OutOfMemory\nnode a boot 1\n";
 
-const SETTLED: &[u8] = b"nodes a b\nstart b x\nsettle\nsettle\nsettle\nshow a\n";
+const SETTLED: &[u8] = b"\
+nodes a b
+start b x
+settle
+settle
+settle
+show a
+";
 
-const SETTLED_END: &[u8] = b"node a boot 1\nchild x (b,1) worker permanent 5000 arg= unplaced\n";
+const SETTLED_END: &[u8] = b"\
+node a boot 1
+child x (b,1) worker permanent 5000 arg= unplaced
+";
 
 const PLACED: &[u8] = b"members b a\nweb\n";
 
@@ -55,7 +68,8 @@ fn run_lean(
     }
 }
 
-// A run that ends for want of memory says so, and has written a front of what it should; one that doesn't has written all.
+// A run that ends for want of memory says so, and has written a front of what it should; one that
+// doesn't has written all.
 fn expect_front(rt: &impl Abort, ended: LeanRun, printed: &[u8], errors: &[u8], wanted: &[u8]) {
     if ended.status == 0 {
         assert!(rt; ended.told == 0 && ended.written == wanted.len());
@@ -83,6 +97,8 @@ fn a_refused_allocation_ends_a_placement_or_changes_nothing(rt: HostRuntime) {
     let words = ["place", "--weigh", "flat"];
     let ended = run_lean(&rt, &words, PLACED, &mut printed, &mut errors);
     expect_front(&rt, ended, &printed, &errors, b"web a\n");
+    // The whole text stands before anything is written.
+    assert!(rt; ended.status == 0 || ended.written == 0);
 }
 
 // A step that is refused for memory prints that, and the run goes on as if it weren't there.
@@ -98,7 +114,8 @@ fn a_refused_allocation_ends_the_run_or_refuses_a_step(rt: HostRuntime) {
     }
 }
 
-// A settling that is refused for memory prints that, and another one does what it lacks: in the end all is known.
+// A settling that is refused for memory prints that, and another one does what it lacks: in the end
+// all is known.
 #[test]
 fn a_refused_allocation_ends_the_run_or_a_settling(rt: HostRuntime) {
     let mut printed = [0u8; 256];

@@ -22,7 +22,8 @@ fn expect_plain(
     assert!(rt; told.is_empty() == (ran == Ran::Status(0)));
 }
 
-// Expects that these words ask for a cluster with these options, and that nothing is read or written.
+// Expects that these words ask for a cluster with these options, and that nothing is read or
+// written.
 fn expect_cluster(
     rt: &(impl Abort + AllocGlobal),
     words: &[&str],

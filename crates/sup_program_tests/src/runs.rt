@@ -55,24 +55,6 @@ pub(crate) fn expect(
     assert!(rt; told.as_slice() == errors);
 }
 
-/// Expects what a simulation writes in which all members weigh alike.
-pub(crate) fn expect_flat(
-    rt: &(impl Abort + Threads + Wait + Sync + AllocGlobal),
-    input: &[u8],
-    output: &[u8],
-) {
-    expect(rt, &["simulate", "--weigh", "flat"], input, 0, output, b"");
-}
-
-/// Expects a simulation that is refused for its input.
-pub(crate) fn expect_bad(
-    rt: &(impl Abort + Threads + Wait + Sync + AllocGlobal),
-    input: &[u8],
-    errors: &[u8],
-) {
-    expect(rt, &["simulate"], input, 1, b"", errors);
-}
-
 /// Expects that these words are refused, for whatever reason is told.
 pub(crate) fn expect_usage(
     rt: &(impl Abort + Threads + Wait + Sync + AllocGlobal),

@@ -2,15 +2,6 @@
 use crate::runs::expect_usage;
 
 #[test]
-fn rows_of_refused_words(rt: HostRuntime) {
-    expect_usage(&rt, &[], b"");
-    expect_usage(&rt, &["simulate", "--weigh", "x"], b"nodes a\n");
-    expect_usage(&rt, &["simulate", "--buffer", "0"], b"nodes a\n");
-    expect_usage(&rt, &["place", "--buffer", "4"], b"members a\nweb\n");
-    expect_usage(&rt, &["inspect", "--buffer", "4"], b"{");
-}
-
-#[test]
 fn there_are_four_commands(rt: HostRuntime) {
     for word in [
         "clusters",

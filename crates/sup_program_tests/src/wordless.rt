@@ -5,7 +5,8 @@ use std::sync::Wait;
 use std::thread::Threads;
 use sup_supctl::words::run_with;
 
-// Expects what a run tells that has this in the place of words, and its status. It reads and prints nothing.
+// Expects what a run tells that has this in the place of words, and its status. It reads and
+// prints nothing.
 fn expect_wordless(
     rt: &(impl Abort + Threads + Wait + Sync + AllocGlobal),
     kind: ErrorKind,

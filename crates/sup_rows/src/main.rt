@@ -1,9 +1,10 @@
-//! Plays the runs of the program that lie in `data/`, and prints for each whether it went as its files say.
+//! Plays the runs of the program that lie in `data/`, and prints for each whether it went as its
+//! files say.
 //!
-//! `cases` lists their names, one a line. The folder of that name has the files of the run: `args`, the words of the
-//! command line, one a line; `stdin`; and what has to come of them: `status`, `stdout` and `stderr`. Where
-//! `clap` words why the words are refused, `stderr` is `usage`. One of `stdin`, `stdout` and `stderr` that isn't there is
-//! empty.
+//! `cases` lists their names, one a line. The folder of that name has the files of the run: `args`,
+//! the words of the command line, one a line; `stdin`; and what has to come of them: `status`,
+//! `stdout` and `stderr`. Where `clap` words why the words are refused, `stderr` is `usage`. One of
+//! `stdin`, `stdout` and `stderr` that isn't there is empty.
 #![tactic(auto)]
 
 mod case;

@@ -10,7 +10,8 @@ use sup_specs::NodeName;
 use sup_supd::run_node;
 use sup_talk::Streams;
 
-// A node `a` over a disk with this file, whose saves go so: expects what it tells, its status and its line of error.
+// A node `a` over a disk with this file, whose saves go so: expects what it tells, its status and
+// its line of error.
 fn expect(
     rt: &(impl Abort + AllocGlobal),
     file: Option<&[u8]>,
@@ -73,8 +74,10 @@ fn expect_on<D: Disk>(
     assert_eq!(rt; told.as_slice(), line);
 }
 
-const IMAGE: &[u8] =
-    b"{\"boot\":1,\"count\":1,\"ctx\":{\"cloud\":[],\"vector\":{\"a\":1}},\"kind\":\"image\",\"node\":\"a\",\"rows\":[[\"member\",\"a\",[\"a\",1],{\"label\":\"\",\"status\":\"open\"}]],\"v\":2}";
+const IMAGE: &[u8] = b"\
+    {\"boot\":1,\"count\":1,\"ctx\":{\"cloud\":[],\"vector\":{\"a\":1}},\"kind\":\"image\",\
+    \"node\":\"a\",\"rows\":[[\"member\",\"a\",[\"a\",1],{\"label\":\"\",\"status\":\"open\"}]],\
+    \"v\":2}";
 
 #[test]
 fn a_new_node_tells_its_boot_and_answers_line_by_line(rt: HostRuntime) {
@@ -83,7 +86,24 @@ fn a_new_node_tells_its_boot_and_answers_line_by_line(rt: HostRuntime) {
         None,
         Next::Holds,
         b"join\nstart web arg=x\nmembers\nwhere www\nbad\nexit web 1.1 crash @1\nstart cut",
-        b"ok boot 1\n\nok (a,1)\n\nok (a,2)\n  start web 1.1 worker permanent 5000 arg=x\n\nmember a (a,1) label=\n\nwww unknown\n\nbad line\n\nok restarted\n  start web 1.2 worker permanent 5000 arg=x\n\n",
+        b"\
+ok boot 1
+
+ok (a,1)
+
+ok (a,2)
+  start web 1.1 worker permanent 5000 arg=x
+
+member a (a,1) label=
+
+www unknown
+
+bad line
+
+ok restarted
+  start web 1.2 worker permanent 5000 arg=x
+
+",
         0,
         b"",
     );
@@ -96,7 +116,18 @@ fn a_node_goes_on_from_its_image(rt: HostRuntime) {
         Some(IMAGE),
         Next::Holds,
         b"start web\nshow\n",
-        b"ok boot 2\n\nok (a,2)\n  start web 2.1 worker permanent 5000 arg=\n\nnode a boot 2\nmember a (a,1) label=\nchild web (a,2) worker permanent 5000 arg= on a\nkept web 2.1\n\n",
+        b"\
+ok boot 2
+
+ok (a,2)
+  start web 2.1 worker permanent 5000 arg=
+
+node a boot 2
+member a (a,1) label=
+child web (a,2) worker permanent 5000 arg= on a
+kept web 2.1
+
+",
         0,
         b"",
     );
@@ -108,8 +139,36 @@ fn a_peer_that_acknowledged_is_told_of_also_where_it_is_no_member(rt: HostRuntim
         &rt,
         None,
         Next::Holds,
-        b"join\ndeliver {\"from\":\"z\",\"kind\":\"ack\",\"n\":1,\"to\":\"a\",\"v\":2}\ndeliver {\"from\":\"b\",\"kind\":\"ack\",\"n\":1,\"to\":\"a\",\"v\":2}\ndeliver {\"from\":\"z\",\"kind\":\"ack\",\"n\":1,\"to\":\"a\",\"v\":2}\ndeliver {\"from\":\"c\",\"kind\":\"ack\",\"n\":9,\"to\":\"a\",\"v\":2}\ninspect\n",
-        b"ok boot 1\n\nok (a,1)\n\nok acked\n\nok acked\n\nok acked\n\nrefused 17 BadMessage\n\nnode a boot 1\nmember a (a,1) label=\ncount 1\nbuffer 1\nvector a 1\nacked b 1\nacked z 1\n\n",
+        b"\
+join
+deliver {\"from\":\"z\",\"kind\":\"ack\",\"n\":1,\"to\":\"a\",\"v\":2}
+deliver {\"from\":\"b\",\"kind\":\"ack\",\"n\":1,\"to\":\"a\",\"v\":2}
+deliver {\"from\":\"z\",\"kind\":\"ack\",\"n\":1,\"to\":\"a\",\"v\":2}
+deliver {\"from\":\"c\",\"kind\":\"ack\",\"n\":9,\"to\":\"a\",\"v\":2}
+inspect
+",
+        b"\
+ok boot 1
+
+ok (a,1)
+
+ok acked
+
+ok acked
+
+ok acked
+
+refused 17 BadMessage
+
+node a boot 1
+member a (a,1) label=
+count 1
+buffer 1
+vector a 1
+acked b 1
+acked z 1
+
+",
         0,
         b"",
     );
@@ -122,7 +181,13 @@ fn an_image_is_shown_as_it_is_kept(rt: HostRuntime) {
         None,
         Next::Holds,
         b"image\n",
-        b"ok boot 1\n\n{\"boot\":1,\"count\":0,\"ctx\":{\"cloud\":[],\"vector\":{}},\"kind\":\"image\",\"node\":\"a\",\"rows\":[],\"v\":2}\n\n",
+        b"\
+ok boot 1
+
+{\"boot\":1,\"count\":0,\"ctx\":{\"cloud\":[],\"vector\":{}},\"kind\":\"image\",\"node\":\"a\",\
+\"rows\":[],\"v\":2}
+
+",
         0,
         b"",
     );
@@ -152,7 +217,20 @@ fn a_save_that_fails_before_the_rename_is_refused_and_the_node_goes_on(rt: HostR
         &rt,
         disk,
         b"join\nstart web\nstart db\nship b\n",
-        b"ok boot 1\n\nok (a,1)\n\nrefused 16 KeepFailed\n\nrefused 16 KeepFailed\n\nok sent\n  send b {\"ctx\":{\"cloud\":[],\"vector\":{\"a\":1}},\"from\":\"a\",\"kind\":\"delta\",\"n\":1,\"rows\":[[\"member\",\"a\",[\"a\",1],{\"label\":\"\",\"status\":\"open\"}]],\"to\":\"b\",\"v\":2}\n\n",
+        b"\
+ok boot 1
+
+ok (a,1)
+
+refused 16 KeepFailed
+
+refused 16 KeepFailed
+
+ok sent
+  send b {\"ctx\":{\"cloud\":[],\"vector\":{\"a\":1}},\"from\":\"a\",\"kind\":\"delta\",\"n\":1,\
+\"rows\":[[\"member\",\"a\",[\"a\",1],{\"label\":\"\",\"status\":\"open\"}]],\"to\":\"b\",\"v\":2}
+
+",
         0,
         b"",
     );
@@ -181,11 +259,15 @@ fn what_is_no_image_of_the_node_is_told(rt: HostRuntime) {
         (b"{}", b"bad image NotMessage\n"),
         (b"{\"v\":3}", b"bad image BadVersion\n"),
         (
-            b"{\"boot\":1,\"count\":0,\"ctx\":{\"cloud\":[],\"vector\":{}},\"kind\":\"image\",\"node\":\"b\",\"rows\":[],\"v\":2}",
+            b"\
+            {\"boot\":1,\"count\":0,\"ctx\":{\"cloud\":[],\"vector\":{}},\"kind\":\"image\",\
+            \"node\":\"b\",\"rows\":[],\"v\":2}",
             b"bad image OtherNode\n",
         ),
         (
-            b"{\"boot\":9007199254740991,\"count\":0,\"ctx\":{\"cloud\":[],\"vector\":{}},\"kind\":\"image\",\"node\":\"a\",\"rows\":[],\"v\":2}",
+            b"\
+            {\"boot\":9007199254740991,\"count\":0,\"ctx\":{\"cloud\":[],\"vector\":{}},\
+            \"kind\":\"image\",\"node\":\"a\",\"rows\":[],\"v\":2}",
             b"bad image CountSpent\n",
         ),
     ] {

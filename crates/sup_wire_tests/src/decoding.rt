@@ -101,7 +101,9 @@ const NO_MESSAGES: [&str; 20] = [
     "{\"from\":\"b\",\"kind\":\"ack\",\"n\":1,\"to\":\"a\",\"v\":1,\"w\":1}",
     "{\"from\":\"b\",\"kind\":\"ack\",\"to\":\"a\",\"v\":1}",
     "{\"from\":2,\"kind\":\"ack\",\"n\":1,\"to\":\"a\",\"v\":1}",
-    "{\"boot\":1,\"count\":0,\"ctx\":{\"cloud\":[],\"vector\":{}},\"kind\":\"image\",\"node\":\"a\",\"rows\":[],\"v\":1}",
+    "\
+    {\"boot\":1,\"count\":0,\"ctx\":{\"cloud\":[],\"vector\":{}},\"kind\":\"image\",\"node\":\"a\",\
+    \"rows\":[],\"v\":1}",
 ];
 
 #[test]
@@ -179,7 +181,8 @@ const MEMBER: &str = "[\"member\",\"m\",[\"a\",1],{\"label\":\"\"}]";
 
 const NAME: &str = "[\"name\",\"n\",[\"a\",2],\"x\"]";
 
-// Expects a push with these two rows, in a context of three dots, to be refused with this fault, or read.
+// Expects a push with these two rows, in a context of three dots, to be refused with this fault, or
+// read.
 fn expect_rows(
     rt: &(impl Abort + AllocGlobal),
     first: &str,
@@ -204,12 +207,17 @@ fn rows_keep_their_order_and_their_cover(rt: HostRuntime) {
 const NO_ROWS: [&str; 4] = [
     "[\"names\",\"n\",[\"a\",2],\"x\"]",
     "[\"name\",\"n\",[\"a\",2]]",
-    "[\"child\",\"y\",[\"a\",2],{\"arg\":\"\",\"kind\":\"worker\",\"restart\":\"permanent\",\"shutdown\":4294967296}]",
-    "[\"child\",\"y\",[\"a\",2],{\"arg\":\"\",\"kind\":\"worker\",\"restart\":\"never\",\"shutdown\":\"infinity\"}]",
+    "\
+    [\"child\",\"y\",[\"a\",2],{\"arg\":\"\",\"kind\":\"worker\",\"restart\":\"permanent\",\
+    \"shutdown\":4294967296}]",
+    "\
+    [\"child\",\"y\",[\"a\",2],{\"arg\":\"\",\"kind\":\"worker\",\"restart\":\"never\",\
+    \"shutdown\":\"infinity\"}]",
 ];
 
-const CHILD: &str =
-    "[\"child\",\"y\",[\"a\",2],{\"arg\":\"\",\"kind\":\"worker\",\"restart\":\"transient\",\"shutdown\":\"infinity\"}]";
+const CHILD: &str = "\
+    [\"child\",\"y\",[\"a\",2],{\"arg\":\"\",\"kind\":\"worker\",\"restart\":\"transient\",\
+    \"shutdown\":\"infinity\"}]";
 
 #[test]
 fn rows_keep_their_forms(rt: HostRuntime) {
@@ -270,8 +278,15 @@ fn a_status_is_open_or_draining_and_stands_beside_its_label(rt: HostRuntime) {
 
 // The deltas of a member with a child and of its replacement, but for the order.
 const BACKWARDS: [&str; 2] = [
-    "{\"ctx\":{\"cloud\":[],\"vector\":{\"a\":2}},\"from\":\"a\",\"kind\":\"delta\",\"n\":2,\"rows\":[[\"child\",\"web\",[\"a\",2],{\"arg\":\"\",\"kind\":\"worker\",\"restart\":\"permanent\",\"shutdown\":5000}],[\"member\",\"a\",[\"a\",1],{\"label\":\"\"}]],\"to\":\"b\",\"v\":1}",
-    "{\"ctx\":{\"cloud\":[[\"a\",3],[\"a\",2]],\"vector\":{}},\"from\":\"a\",\"kind\":\"push\",\"rows\":[[\"child\",\"web\",[\"a\",3],{\"arg\":\"x\",\"kind\":\"worker\",\"restart\":\"permanent\",\"shutdown\":5000}]],\"to\":\"b\",\"v\":1}",
+    "\
+    {\"ctx\":{\"cloud\":[],\"vector\":{\"a\":2}},\"from\":\"a\",\"kind\":\"delta\",\"n\":2,\
+    \"rows\":[[\"child\",\"web\",[\"a\",2],{\"arg\":\"\",\"kind\":\"worker\",\
+    \"restart\":\"permanent\",\"shutdown\":5000}],[\"member\",\"a\",[\"a\",1],{\"label\":\"\"}]],\
+    \"to\":\"b\",\"v\":1}",
+    "\
+    {\"ctx\":{\"cloud\":[[\"a\",3],[\"a\",2]],\"vector\":{}},\"from\":\"a\",\"kind\":\"push\",\
+    \"rows\":[[\"child\",\"web\",[\"a\",3],{\"arg\":\"x\",\"kind\":\"worker\",\
+    \"restart\":\"permanent\",\"shutdown\":5000}]],\"to\":\"b\",\"v\":1}",
 ];
 
 #[test]

@@ -50,10 +50,22 @@ const TEXTS: [&str; 13] = [
     REPLACED,
     ACK_OF_JOINED,
     ACK_OF_REMOVED,
-    "{\"ctx\":{\"cloud\":[[\"b\",2],[\"a\",4]],\"vector\":{\"a\":2,\"c\":1}},\"from\":\"a\",\"kind\":\"push\",\"rows\":[],\"to\":\"b\",\"v\":2}",
-    "{\"ctx\":{\"cloud\":[],\"vector\":{\"a\":1}},\"from\":\"a\",\"kind\":\"push\",\"rows\":[[\"member\",\"a\",[\"a\",1],{\"label\":\"\\\"q\\\\\",\"status\":\"open\"}]],\"to\":\"b\",\"v\":2}",
-    "{\"ctx\":{\"cloud\":[],\"vector\":{\"a\":2}},\"from\":\"a\",\"kind\":\"delta\",\"n\":9007199254740991,\"rows\":[[\"child\",\"x\",[\"a\",2],{\"arg\":\"z\",\"kind\":\"k\",\"restart\":\"temporary\",\"shutdown\":\"brutal_kill\"}],[\"name\",\"n\",[\"a\",1],\"x\"]],\"to\":\"b\",\"v\":2}",
-    "{\"ctx\":{\"cloud\":[[\"b\",3]],\"vector\":{\"a\":1}},\"from\":\"a\",\"kind\":\"push\",\"rows\":[[\"member\",\"a\",[\"a\",1],{\"label\":\"x\",\"status\":\"draining\"}],[\"member\",\"a\",[\"b\",3],{\"label\":\"x\",\"status\":\"open\"}]],\"to\":\"b\",\"v\":2}",
+    "\
+    {\"ctx\":{\"cloud\":[[\"b\",2],[\"a\",4]],\"vector\":{\"a\":2,\"c\":1}},\"from\":\"a\",\
+    \"kind\":\"push\",\"rows\":[],\"to\":\"b\",\"v\":2}",
+    "\
+    {\"ctx\":{\"cloud\":[],\"vector\":{\"a\":1}},\"from\":\"a\",\"kind\":\"push\",\
+    \"rows\":[[\"member\",\"a\",[\"a\",1],{\"label\":\"\\\"q\\\\\",\"status\":\"open\"}]],\
+    \"to\":\"b\",\"v\":2}",
+    "\
+    {\"ctx\":{\"cloud\":[],\"vector\":{\"a\":2}},\"from\":\"a\",\"kind\":\"delta\",\
+    \"n\":9007199254740991,\"rows\":[[\"child\",\"x\",[\"a\",2],{\"arg\":\"z\",\"kind\":\"k\",\
+    \"restart\":\"temporary\",\"shutdown\":\"brutal_kill\"}],[\"name\",\"n\",[\"a\",1],\"x\"]],\
+    \"to\":\"b\",\"v\":2}",
+    "\
+    {\"ctx\":{\"cloud\":[[\"b\",3]],\"vector\":{\"a\":1}},\"from\":\"a\",\"kind\":\"push\",\
+    \"rows\":[[\"member\",\"a\",[\"a\",1],{\"label\":\"x\",\"status\":\"draining\"}],[\"member\",\
+    \"a\",[\"b\",3],{\"label\":\"x\",\"status\":\"open\"}]],\"to\":\"b\",\"v\":2}",
 ];
 
 fn expect_same(rt: &(impl Abort + AllocGlobal), text: &str) {

@@ -24,18 +24,25 @@ fn expect_written(rt: &(impl Abort + AllocGlobal), text: &str, wanted: &str) {
     assert!(rt; written.as_slice() == wanted.as_bytes(), "{text}");
 }
 
-const DRAINING: &str =
-    "{\"boot\":1,\"count\":2,\"ctx\":{\"cloud\":[],\"vector\":{\"a\":2}},\"kind\":\"image\",\"node\":\"a\",\"rows\":[[\"member\",\"a\",[\"a\",2],{\"label\":\"\",\"status\":\"draining\"}]],\"v\":2}";
+const DRAINING: &str = "\
+    {\"boot\":1,\"count\":2,\"ctx\":{\"cloud\":[],\"vector\":{\"a\":2}},\"kind\":\"image\",\
+    \"node\":\"a\",\"rows\":[[\"member\",\"a\",[\"a\",2],{\"label\":\"\",\
+    \"status\":\"draining\"}]],\"v\":2}";
 
-const OLD_OPENING: &str =
-    "{\"boot\":1,\"count\":0,\"ctx\":{\"cloud\":[],\"vector\":{}},\"kind\":\"image\",\"node\":\"a\",\"rows\":[],\"v\":1}";
+const OLD_OPENING: &str = "\
+    {\"boot\":1,\"count\":0,\"ctx\":{\"cloud\":[],\"vector\":{}},\"kind\":\"image\",\"node\":\"a\",\
+    \"rows\":[],\"v\":1}";
 
 // A member whose winner is open, and who has a loser.
-const OLD_LOSER: &str =
-    "{\"boot\":1,\"count\":2,\"ctx\":{\"cloud\":[],\"vector\":{\"a\":2}},\"kind\":\"image\",\"node\":\"a\",\"rows\":[[\"member\",\"a\",[\"a\",1],{\"label\":\"\"}],[\"member\",\"a\",[\"a\",2],{\"label\":\"x\"}]],\"v\":1}";
+const OLD_LOSER: &str = "\
+    {\"boot\":1,\"count\":2,\"ctx\":{\"cloud\":[],\"vector\":{\"a\":2}},\"kind\":\"image\",\
+    \"node\":\"a\",\"rows\":[[\"member\",\"a\",[\"a\",1],{\"label\":\"\"}],[\"member\",\"a\",\
+    [\"a\",2],{\"label\":\"x\"}]],\"v\":1}";
 
-const LOSER: &str =
-    "{\"boot\":1,\"count\":2,\"ctx\":{\"cloud\":[],\"vector\":{\"a\":2}},\"kind\":\"image\",\"node\":\"a\",\"rows\":[[\"member\",\"a\",[\"a\",1],{\"label\":\"\",\"status\":\"open\"}],[\"member\",\"a\",[\"a\",2],{\"label\":\"x\",\"status\":\"open\"}]],\"v\":2}";
+const LOSER: &str = "\
+    {\"boot\":1,\"count\":2,\"ctx\":{\"cloud\":[],\"vector\":{\"a\":2}},\"kind\":\"image\",\
+    \"node\":\"a\",\"rows\":[[\"member\",\"a\",[\"a\",1],{\"label\":\"\",\"status\":\"open\"}],\
+    [\"member\",\"a\",[\"a\",2],{\"label\":\"x\",\"status\":\"open\"}]],\"v\":2}";
 
 #[test]
 fn each_image_is_written_as_it_was_read(rt: HostRuntime) {
@@ -62,17 +69,30 @@ fn expect_fault(rt: &(impl Abort + AllocGlobal), text: &str, wanted: WireFault) 
 const NO_IMAGES: [&str; 4] = [
     ACK,
     DELTA,
-    "{\"boot\":0,\"count\":0,\"ctx\":{\"cloud\":[],\"vector\":{}},\"kind\":\"image\",\"node\":\"a\",\"rows\":[],\"v\":1}",
-    "{\"boot\":1,\"count\":9007199254740992,\"ctx\":{\"cloud\":[],\"vector\":{}},\"kind\":\"image\",\"node\":\"a\",\"rows\":[],\"v\":1}",
+    "\
+    {\"boot\":0,\"count\":0,\"ctx\":{\"cloud\":[],\"vector\":{}},\"kind\":\"image\",\"node\":\"a\",\
+    \"rows\":[],\"v\":1}",
+    "\
+    {\"boot\":1,\"count\":9007199254740992,\"ctx\":{\"cloud\":[],\"vector\":{}},\"kind\":\"image\",\
+    \"node\":\"a\",\"rows\":[],\"v\":1}",
 ];
 
-const OTHER_VERSION: &str =
-    "{\"boot\":1,\"count\":0,\"ctx\":{\"cloud\":[],\"vector\":{}},\"kind\":\"image\",\"node\":\"a\",\"rows\":[],\"v\":3}";
+const OTHER_VERSION: &str = "\
+    {\"boot\":1,\"count\":0,\"ctx\":{\"cloud\":[],\"vector\":{}},\"kind\":\"image\",\"node\":\"a\",\
+    \"rows\":[],\"v\":3}";
 
 // The image with the version of the other one's rows.
 const MIXED: [&str; 2] = [
-    "{\"boot\":1,\"count\":2,\"ctx\":{\"cloud\":[],\"vector\":{\"a\":2}},\"kind\":\"image\",\"node\":\"a\",\"rows\":[[\"member\",\"a\",[\"a\",1],{\"label\":\"\",\"status\":\"open\"}],[\"child\",\"web\",[\"a\",2],{\"arg\":\"\",\"kind\":\"worker\",\"restart\":\"permanent\",\"shutdown\":5000}]],\"v\":1}",
-    "{\"boot\":1,\"count\":2,\"ctx\":{\"cloud\":[],\"vector\":{\"a\":2}},\"kind\":\"image\",\"node\":\"a\",\"rows\":[[\"member\",\"a\",[\"a\",1],{\"label\":\"\"}],[\"child\",\"web\",[\"a\",2],{\"arg\":\"\",\"kind\":\"worker\",\"restart\":\"permanent\",\"shutdown\":5000}]],\"v\":2}",
+    "\
+    {\"boot\":1,\"count\":2,\"ctx\":{\"cloud\":[],\"vector\":{\"a\":2}},\"kind\":\"image\",\
+    \"node\":\"a\",\"rows\":[[\"member\",\"a\",[\"a\",1],{\"label\":\"\",\"status\":\"open\"}],\
+    [\"child\",\"web\",[\"a\",2],{\"arg\":\"\",\"kind\":\"worker\",\"restart\":\"permanent\",\
+    \"shutdown\":5000}]],\"v\":1}",
+    "\
+    {\"boot\":1,\"count\":2,\"ctx\":{\"cloud\":[],\"vector\":{\"a\":2}},\"kind\":\"image\",\
+    \"node\":\"a\",\"rows\":[[\"member\",\"a\",[\"a\",1],{\"label\":\"\"}],[\"child\",\"web\",\
+    [\"a\",2],{\"arg\":\"\",\"kind\":\"worker\",\"restart\":\"permanent\",\"shutdown\":5000}]],\
+    \"v\":2}",
 ];
 
 #[test]
@@ -82,11 +102,15 @@ fn an_image_whose_rows_are_of_the_other_version_is_refused(rt: HostRuntime) {
     }
 }
 
-const BACKWARDS: &str =
-    "{\"boot\":1,\"count\":2,\"ctx\":{\"cloud\":[],\"vector\":{\"a\":2}},\"kind\":\"image\",\"node\":\"a\",\"rows\":[[\"child\",\"web\",[\"a\",2],{\"arg\":\"\",\"kind\":\"worker\",\"restart\":\"permanent\",\"shutdown\":5000}],[\"member\",\"a\",[\"a\",1],{\"label\":\"\"}]],\"v\":1}";
+const BACKWARDS: &str = "\
+    {\"boot\":1,\"count\":2,\"ctx\":{\"cloud\":[],\"vector\":{\"a\":2}},\"kind\":\"image\",\
+    \"node\":\"a\",\"rows\":[[\"child\",\"web\",[\"a\",2],{\"arg\":\"\",\"kind\":\"worker\",\
+    \"restart\":\"permanent\",\"shutdown\":5000}],[\"member\",\"a\",[\"a\",1],{\"label\":\"\"}]],\
+    \"v\":1}";
 
-const TOO_NEAR: &str =
-    "{\"boot\":1,\"count\":0,\"ctx\":{\"cloud\":[[\"a\",1]],\"vector\":{}},\"kind\":\"image\",\"node\":\"a\",\"rows\":[],\"v\":1}";
+const TOO_NEAR: &str = "\
+    {\"boot\":1,\"count\":0,\"ctx\":{\"cloud\":[[\"a\",1]],\"vector\":{}},\"kind\":\"image\",\
+    \"node\":\"a\",\"rows\":[],\"v\":1}";
 
 #[test]
 fn texts_of_no_image_are_told_apart(rt: HostRuntime) {

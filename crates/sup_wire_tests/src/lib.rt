@@ -1,5 +1,6 @@
-//! The tests of the wire, through its public calls. A crate with tests is proved twice, once without and once with them:
-//! here there is nothing to prove without them.
+//! The tests of `sup_wire`, of images that are looked at (`sup_still`) and of the next image's text
+//! (`sup_image_text`), through their public calls. A crate with tests is proved twice, once without
+//! and once with them: here there is nothing to prove without them.
 #![tactic(auto)]
 
 #[cfg(test)]
@@ -18,3 +19,9 @@ mod made;
 mod prefixes;
 #[cfg(test)]
 mod refused;
+#[cfg(test)]
+mod still_images;
+#[cfg(test)]
+mod walked_acts;
+#[cfg(test)]
+mod walks;

@@ -1,4 +1,5 @@
-//! A story that goes on where a growth was refused: the call answers so, and made once more it gives the right answer.
+//! A story that goes on where a growth was refused: the call answers so, and made once more it
+//! gives the right answer.
 use crate::given::{
     ACK, ACK_OF_JOINED, ACK_OF_REMOVED, DELTA, DRAINED, IMAGE, JOINED, OPENING, REMOVED, REPLACED,
     STARTED,
@@ -152,11 +153,14 @@ const TWO_VALUES: &str = "{\"from\":\"b\",\"kind\":\"ack\",\"n\":1,\"to\":\"a\",
 
 const BROKEN_NUMBER: &str = "{\"from\":\"b\",\"kind\":\"ack\",\"n\":1.0,\"to\":\"a\",\"v\":1}";
 
-const TOO_NEAR: &str =
-    "{\"ctx\":{\"cloud\":[[\"a\",1]],\"vector\":{}},\"from\":\"a\",\"kind\":\"push\",\"rows\":[],\"to\":\"b\",\"v\":1}";
+const TOO_NEAR: &str = "\
+    {\"ctx\":{\"cloud\":[[\"a\",1]],\"vector\":{}},\"from\":\"a\",\"kind\":\"push\",\"rows\":[],\
+    \"to\":\"b\",\"v\":1}";
 
-const BACKWARDS: &str =
-    "{\"ctx\":{\"cloud\":[],\"vector\":{\"a\":2}},\"from\":\"a\",\"kind\":\"push\",\"rows\":[[\"name\",\"n\",[\"a\",1],\"x\"],[\"member\",\"a\",[\"a\",2],{\"label\":\"\"}]],\"to\":\"b\",\"v\":1}";
+const BACKWARDS: &str = "\
+    {\"ctx\":{\"cloud\":[],\"vector\":{\"a\":2}},\"from\":\"a\",\"kind\":\"push\",\
+    \"rows\":[[\"name\",\"n\",[\"a\",1],\"x\"],[\"member\",\"a\",[\"a\",2],{\"label\":\"\"}]],\
+    \"to\":\"b\",\"v\":1}";
 
 // A text that is refused for its own fault is refused for no other one.
 #[test]

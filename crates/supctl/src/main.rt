@@ -1,17 +1,31 @@
 //! The program `supctl`: scripts of a supervisor cluster, run on standard input.
 #![tactic(auto)]
 
+ghost use Rattle.std.specs.Process.{exit_status};
+ghost use Rattle.supctl.specs.Started.{RunsStarted};
+
+use std::env::Env;
+use std::io::{Read, Write};
 use std::process::ExitCode;
+use std::sync::Wait;
+use std::thread::Threads;
 use sup_supctl::words::{run_with, words_of};
 
 fn main(rt: HostRuntime) -> ExitCode {
-    let status = run_with(
-        &rt,
-        rt.alloc(),
-        words_of(&rt),
-        &mut rt.stdin(),
-        &mut rt.stdout(),
-        &mut rt.stderr(),
-    );
+    run_started(&rt, &mut rt.stdin(), &mut rt.stdout(), &mut rt.stderr())
+}
+
+// Runs the program with the words that it was started with, and ends with the run's status.
+fn run_started<T: Env + AllocGlobal + Threads + Wait + Sync, R: Read, W: Write, E: Write>(
+    rt: &T,
+    reader: &mut R,
+    writer: &mut W,
+    errors: &mut E,
+) -> ExitCode
+    ensures { RunsStarted R.remaining W.contents E.contents reader.old reader.new
+        writer.old writer.new errors.old errors.new (exit_status result) }
+{
+    let words = words_of(rt);
+    let status = run_with(rt, rt.alloc(), words, reader, writer, errors);
     ExitCode::from(status)
 }
