@@ -145,7 +145,10 @@ class Group:
         self.tell_at = min(self.tell_at, self.quiet_until)
 
     def tell_runs(self, now):
-        """Tells the others what runs here, where that has changed or time has passed. A machine whose node is lost falls silent once nothing runs."""
+        """Tells the others what runs here, where that has changed or time has passed. A machine whose node is lost falls silent once nothing runs.
+
+        It is told whatever waits to leave: a machine that isn't heard in a group is taken out of it.
+        """
         state = self.children.changes, set(self.claims.claimed)
         if state != self.told_state:
             self.tell_soon()
@@ -157,7 +160,7 @@ class Group:
             lines = {name: f"runs {self.tag} {self.claims.line(name, self.told)}" for name in self.links.names()}
             self.quiet_until = now + sum(map(len, lines.values())) / TOLD_A_SECOND
             for name, line in lines.items():
-                self.links.send(name, line)
+                self.links.tell(name, line)
 
     def keep_members(self, now):
         answer = self.ask("members")

@@ -32,7 +32,7 @@ class Agent:
         self.server = links.Server(self.loop, options.listen, self.name, secret, self.take, self.refuse)
         self.links = self.links_of(secret)
         self.held_from = self.listened = seconds()
-        self.leave_at, self.some_ended = None, True
+        self.leave_at, self.some_ended, self.turns = None, True, 0
         self.groups = [group.Group(number, supd, of_kinds, self) for number in range(options.groups)]
         self.wake_by_signals()
         processes.take_orphans()
@@ -140,12 +140,18 @@ class Agent:
             for one in self.groups:
                 one.tell_ends(one.children.ended())
         self.do_inbox()
-        for one in self.groups:
+        for one in self.in_turn():
             one.turn(now)
         if some_ended:
             processes.reap_orphans()
         self.links.tick(now)
         self.server.tick(now)
+
+    def in_turn(self):
+        """The groups, at each turn another one first: where much waits to leave, the letters of those behind are left out."""
+        self.turns += 1
+        first = self.turns % len(self.groups)
+        return self.groups[first:] + self.groups[:first]
 
     def notice_a_hold(self, now):
         """Where this machine didn't listen for long, the others' silence says nothing, and they may have taken over what waits here."""

@@ -16,7 +16,7 @@ OF_STRANGERS = 4096   # bytes of a line, as long as no right one came
 MOST_HELD = 128 << 20  # bytes of lines that have not come whole, of all connections
 MOST_CALLERS = 400    # connections that were accepted, or half as many as the files that a process may have open
 STRANGERS_TIME = 5    # seconds until the first right line
-MOST_UNSENT = 4 << 20  # bytes to a peer, behind which no further line is taken
+MOST_UNSENT = 4 << 20  # bytes to a peer, behind which no further letter is taken
 CHUNK = 1 << 18
 CHUNKS = 32  # that are read in one turn of one connection
 
@@ -241,11 +241,16 @@ class Peer:
         self.wire = self.seal = None
 
     def is_ready(self):
-        """Whether a line would leave: one to whom much has not left yet gets no more."""
+        """Whether a letter would leave: one to whom much has not left yet gets no more."""
         return self.seal is not None and len(self.wire.unsent) <= MOST_UNSENT
 
     def send(self, text):
         if self.is_ready():
+            self.tell(text)
+
+    def tell(self, text):
+        """Sends a line whatever waits before it."""
+        if self.seal is not None:
             self.wire.send(self.seal.line(text))
 
 
@@ -268,6 +273,10 @@ class TcpLinks:
     def send(self, name, text):
         if name in self.peers:
             self.peers[name].send(text)
+
+    def tell(self, name, text):
+        if name in self.peers:
+            self.peers[name].tell(text)
 
     def tick(self, now):
         for peer in self.peers.values():

@@ -142,6 +142,8 @@ class RedisLinks:
         if name in self.seals:
             self.put(name, self.seals[name].line(text))
 
+    tell = send
+
     def tick(self, now):
         if now >= self.hello_at:
             self.hello_at = now + 1

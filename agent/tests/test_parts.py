@@ -24,6 +24,7 @@ import claims
 import client
 import group
 import groups
+import host
 import kinds
 import links
 import log
@@ -327,7 +328,7 @@ class Telling(unittest.TestCase):
     def lines(self, runs):
         """What is told within a second in which the runs of one machine change each millisecond, to one other machine."""
         said = []
-        told_by = types.SimpleNamespace(names=lambda: ["b"], knows=lambda name: True, send=lambda name, line: said.append(line))
+        told_by = types.SimpleNamespace(names=lambda: ["b"], knows=lambda name: True, tell=lambda name, line: said.append(line))
         options = argparse.Namespace(groups=1, image="x", settings=[], patience=1, silent=3, least=1, every=0.5, label="x")
         of = group.Group(0, "supd", None, types.SimpleNamespace(name="a", options=options, links=told_by, log=lambda *words: None, session="0" * 32, loop=None))
         of.children.told = lambda: {f"child{number}": ["1.1", 1, 0, ""] for number in range(runs)}
@@ -347,6 +348,50 @@ class Telling(unittest.TestCase):
 
     def test_who_runs_very_many_is_heard_at_its_pace(self):
         self.assertEqual(len(self.lines(100_000)), 2)
+
+
+class Turns(unittest.TestCase):
+    def setUp(self):
+        self.loop, (there, here) = selectors.DefaultSelector(), socket.socketpair()
+        self.there = there.makefile("rb")
+        self.peers = links.TcpLinks(self.loop, {"b": ("127.0.0.1", 1)}, "a", "0" * 32, SECRET, 60, print)
+        peer = self.peers.peers["b"]
+        peer.wire, peer.seal = links.Wire(self.loop, here, peer.heard, peer.lost, links.LONGEST), seals.Seal(SECRET, "a", "0" * 32, "b", "1" * 32)
+        for close in (self.loop.close, self.peers.close, self.there.close, there.close):
+            self.addCleanup(close)
+
+    def agent_of(self, some):
+        of = host.Agent.__new__(host.Agent)
+        of.options, of.loop, of.inbox, of.links = argparse.Namespace(silent=1000, every=1), self.loop, [], self.peers
+        of.groups, of.turns, of.some_ended, of.listened, of.server = some, 0, False, seconds(), types.SimpleNamespace(tick=lambda now: None)
+        return of
+
+    def group_of(self, number):
+        """A group that has 3 MiB to send at each turn, and tells what runs."""
+        def turn(_):
+            self.peers.send("b", f"letter {number} " + "x" * (3 << 20))
+            self.peers.tell("b", f"runs {number}")
+        return types.SimpleNamespace(turn=turn, next_moment=lambda: 0, children=types.SimpleNamespace(lingers=False))
+
+    def come(self):
+        """What has come at the other end once all has left."""
+        self.peers.tell("b", "last")
+        words, reader = [], threading.Thread(target=lambda: words.extend(iter(lambda: self.there.readline().decode().split()[4:6], ["last"])))
+        reader.start()
+        while reader.is_alive():
+            for key, events in self.loop.select(0.01):
+                key.data(events)
+        return words
+
+    def test_where_much_waits_each_group_sends_its_letters_in_turn_and_tells_its_runs_always(self):
+        some = [self.group_of(number) for number in range(4)]
+        agent_of_them, letters = self.agent_of(some), []
+        for _ in range(4):
+            agent_of_them.turn()
+            words = self.come()
+            letters += [number for word, number in words if word == "letter"]
+            self.assertEqual({number for word, number in words if word == "runs"}, {"0", "1", "2", "3"})
+        self.assertEqual(sorted(letters), sorted("0123" * 2))
 
 
 class Groups(unittest.TestCase):

@@ -1,0 +1,1 @@
+"""What bench/scale.py measures, and how it is drawn."""
