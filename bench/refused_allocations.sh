@@ -17,6 +17,7 @@ rows=$top/crates/sup_rows/data
   "$rows"/{cut-and-misdirected-messages,delivery-at-a-stopped-node,interval-after-restart-without-its-text,member-leaves-rejoins-and-restarts}/stdin \
   "$rows"/{least-dot-wins,finish-removes-the-one-dot-that-ran,restart-keeps-its-place,each-refusal-in-order,names-follow-their-child}/stdin \
   "$rows"/{drained-member-loses-its-child,a-drain-takes-winner-and-losers}/stdin \
+  "$rows"/{restarts-beyond-period-dont-count-shown,restarts-period-apart-still-count}/stdin \
   "$rows"/{cluster-with-lost-and-doubled-letters,cluster-stop-and-restart}/stdin \
   "$rows"/{interval-after-restart-version-2,image-printed-version-2,inspected-node-tells-what-its-peers-acknowledged,removal-overtakes-its-add}/stdin
 "${CC:-cc}" -shared -fPIC -O1 -o "$work/refuse.so" "$top/bench/refuse_allocation.c" -ldl

@@ -21,6 +21,7 @@ set -eu
   sup_station_tests rows::an_overwritten_interval_is_sent_whole \
   sup_station_tests rows::a_repeated_delivery_is_acknowledged_again \
   sup_node_gate_tests refused::a_call_refused_for_memory_leaves_no_entry_and_is_made_when_asked_again \
+  sup_node_gate_tests bound::a_gate_enters_refusals_and_stops_at_its_bound \
   sup_world_tests refused::a_world_refused_for_memory_is_made_when_asked_again \
   sup_world_tests refused::a_step_refused_for_memory_changes_nothing_and_is_made_when_asked_again \
   sup_world_tests refused::a_run_refused_for_memory_makes_no_step_and_is_made_when_asked_again \
@@ -28,6 +29,10 @@ set -eu
   sup_world_tests travels::an_interval_after_a_restart_is_sent \
   sup_world_tests travels::an_add_beside_a_removal_stays \
   sup_world_tests refusals::each_refusal_has_its_place \
+  sup_world_tests rows::restarts_beyond_the_period_dont_count \
+  sup_world_tests rows::restarts_the_period_apart_still_count \
+  sup_world_tests rows::names_follow_their_child \
+  sup_world_tests rows::a_member_leaves_rejoins_and_restarts \
   sup_program_tests memory::a_refused_allocation_ends_the_run_or_changes_nothing \
   sup_program_tests memory::a_refused_allocation_ends_the_run_or_refuses_a_step \
   sup_program_tests memory::a_refused_allocation_ends_the_run_or_a_settling \

@@ -13,6 +13,10 @@ mod refused;
 #[cfg(test)]
 mod restarts;
 #[cfg(test)]
+mod scarce;
+#[cfg(test)]
+mod scarcity;
+#[cfg(test)]
 mod shared;
 #[cfg(test)]
 mod told;

@@ -11,7 +11,7 @@ use sup_node_gate::{NodeGate, Pass};
 use sup_placement::FlatWeigh;
 use sup_replica::{Act, Done, Refusal};
 
-const ACTS: u64 = 8;
+pub(crate) const ACTS: u64 = 8;
 
 fn act(rt: &(impl Abort + AllocGlobal), place: u64) -> Act {
     match place {
@@ -54,8 +54,8 @@ fn makes<K: Keeper>(
     is_expected(place, &second)
 }
 
-// The acts of the story, one after another.
-fn tells<K: Keeper>(
+/// The acts of the story, one after another.
+pub(crate) fn tells<K: Keeper>(
     rt: &(impl Abort + AllocGlobal + Wait),
     at: &NodeGate<K, FlatWeigh>,
     pass: Pass<K, FlatWeigh>,

@@ -91,8 +91,8 @@ fn a_drain_asks_for_the_member_then_for_its_status_then_for_a_dot(rt: HostRuntim
     );
 }
 
-// An image of 10,000 children, c10000 to c19999, under the dots (a,1) to (a,10000).
-fn full(rt: &(impl Abort + AllocGlobal)) -> String {
+/// An image of 10,000 children, c10000 to c19999, under the dots (a,1) to (a,10000).
+pub(crate) fn full(rt: &(impl Abort + AllocGlobal)) -> String {
     let mut image = String::new(rt.alloc());
     let opened = image.push_str(
         "{\"boot\":1,\"count\":10000,\"ctx\":{\"cloud\":[],\"vector\":{\"a\":10000}},\"kind\":\"image\",\"node\":\"a\",\"rows\":[",

@@ -3,7 +3,13 @@
 #![tactic(auto)]
 
 #[cfg(test)]
+mod bytes;
+#[cfg(test)]
+mod ends;
+#[cfg(test)]
 mod few_weighings;
+#[cfg(test)]
+mod fuses;
 #[cfg(test)]
 mod given;
 #[cfg(test)]
@@ -16,6 +22,10 @@ mod line;
 mod refused;
 #[cfg(test)]
 mod rows;
+#[cfg(test)]
+mod scarce;
+#[cfg(test)]
+mod scarcity;
 #[cfg(test)]
 mod shows;
 #[cfg(test)]

@@ -4,9 +4,13 @@
 #![tactic(auto)]
 
 #[cfg(test)]
+mod cuts;
+#[cfg(test)]
 mod deliveries;
 #[cfg(test)]
 mod drains;
+#[cfg(test)]
+mod ends;
 #[cfg(test)]
 mod failing;
 #[cfg(test)]
@@ -27,6 +31,8 @@ mod raw;
 mod refusals;
 #[cfg(test)]
 mod refused;
+#[cfg(test)]
+mod rows;
 #[cfg(test)]
 mod runs;
 #[cfg(test)]
