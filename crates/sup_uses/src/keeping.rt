@@ -29,6 +29,8 @@ impl Keeper for TwoImages {
 
     ghost sound = { λ k. true };
 
+    ghost readable = { λ k. true };
+
     fn save(&mut self, bytes: &[u8]) -> Result<(), KeepFault> {
         let copy = bytes.to_vec(self.alloc)?;
         self.before = mem::replace(&mut self.last, copy);
