@@ -1,4 +1,4 @@
-use Rattle.std.specs.Prelude.{List, Err}
+use Rattle.std.specs.Prelude.{true, List, Err}
 use Rattle.std.proofs.Common.{sym, ap, ◌∙◌, subst}
 use Rattle.std.specs.List.Sorted.{IsStrictlySortedBy}
 use Rattle.sup_specs.specs.Values.{Bytes, text_cmp}
