@@ -1,7 +1,8 @@
 //! How a node begins.
 
-ghost use Rattle.std.specs.Prelude.{◌≡◌, [], true, false, IfOk, IfErr};
+ghost use Rattle.std.specs.Prelude.{◌≡◌, [], true, false, Ok, IfOk, IfErr};
 ghost use Rattle.sup_station.specs.Stills.{still_of};
+ghost use Rattle.sup_told.specs.Told.{told_text};
 ghost use Rattle.sup_answering.specs.Beginning.{Begins, IsImageFault, IsNoBegin};
 
 use crate::filter::Filter;
@@ -99,15 +100,7 @@ fn open<K: ImageKeeper, W: Weigh + Drop>(
         effects: Effects::new(Vec::new(alloc)),
         out: None,
     };
-    let first = told_text(alloc, Ok(done))?;
-    let filter = Filter {
-        name,
-        station,
-        peers: Vec::new(alloc),
-        weigher,
-        alloc,
-    };
-    Ok(Begun { filter, first })
+    Ok(begun(alloc, name, station, done, weigher)?)
 }
 
 // The next boot of a node.
@@ -131,6 +124,22 @@ fn go_on<K: ImageKeeper, W: Weigh + Drop>(
         }
         Err(refusal) => return Err(BeginFault::Refused(refusal)),
     };
+    Ok(begun(alloc, name, station, done, weigher)?)
+}
+
+// A node that began with this station, by what was done.
+fn begun<K: ImageKeeper, W: Weigh + Drop>(
+    alloc: Global,
+    name: NodeName,
+    station: Station<K, W>,
+    done: Done,
+    weigher: W,
+) -> Result<Begun<K, W>, AllocError>
+    ensures name { IfOk result (λ b. b.filter.name ≡ name) }
+    ensures station { IfOk result (λ b. b.filter.station ≡ station) }
+    ensures peers { IfOk result (λ b. b.filter.peers.items ≡ []) }
+    ensures first { IfOk result (λ b. b.first.items ≡ told_text (Ok done)) }
+{
     let first = told_text(alloc, Ok(done))?;
     let filter = Filter {
         name,

@@ -12,6 +12,7 @@ pub mod tables;
 pub mod whereis;
 
 pub use inspect::{inspect_text, still_text};
+pub use line::MemberLine;
 pub use show::show_text;
 pub use tables::tables_text;
 pub use whereis::where_text;

@@ -9,12 +9,12 @@ use sup_causal::Dot;
 use sup_specs::{ChildId, ChildSpec, MemberInfo, NodeName, Status};
 use sup_text::{DotText, SpecText};
 
-// The line of a member.
+/// The line of a member.
 #[derive(Clone, Copy)]
-pub(crate) struct MemberLine<'a> {
-    pub(crate) member: &'a NodeName,
-    pub(crate) dot: Dot,
-    pub(crate) info: &'a MemberInfo,
+pub struct MemberLine<'a> {
+    pub member: &'a NodeName,
+    pub dot: Dot,
+    pub info: &'a MemberInfo,
 }
 
 impl fmt::Display for MemberLine<'_> {
