@@ -1,13 +1,15 @@
 -- What the bytes of a letter or an image say (this project): the forms of messages and images.
-use Rattle.std.specs.Prelude.{◌≡◌, ℕ, false, [], Option, Some, None}
-use Rattle.std.specs.Global.{Vec}
+use Rattle.std.specs.Prelude.{◌≡◌, ℕ, false, [], List, Option, Some, None}
 use Rattle.sup_specs.specs.Values.{Bytes}
+use Rattle.sup_tables.specs.declared.row.Row.{Row}
 use Rattle.sup_tables.specs.States.{State}
 use Rattle.sup_wire.specs.declared.message.Message.{Message}
 use Rattle.sup_wire.specs.declared.message.Message.TheVariants.{Ack, Push, Delta}
 use Rattle.sup_wire.specs.declared.image.Image.{Image}
 use Rattle.sup_wire.specs.Drafts.{IsDraftOf, IsDraftOfImage, IsWholeMessage, IsWholeImage}
 use Rattle.sup_wire.specs.Faults.{Says, IsTextOf, IsInRange, IsImageInRange}
+use Rattle.sup_image_text.specs.declared.next_image.NextImage.{NextImage}
+use Rattle.sup_image_text.specs.Next.{IsNext}
 use Rattle.sup_replica.specs.declared.letter.Letter.{Letter}
 use Rattle.sup_replica.specs.declared.done.Done.{Done}
 use Rattle.sup_replica.specs.Stations.{Mail, a_delta, a_push, an_ack, Codec, Move, receiver_of, kind_of}
@@ -41,12 +43,12 @@ pub record IsWritten (text : Bytes) (i : Image) : Type 0 where
   pub says : IsImageInRange i → Says IsDraftOfImage text i
   pub whole : IsWholeImage i
 
--- the same where there is an image
-abbrev pub IsWrittenOf : Option Image → Option (Vec ℕ) → Type 0
-IsWrittenOf None None = Unit {0}
-IsWrittenOf None (Some text) = ⊥
-IsWrittenOf (Some image) None = ⊥
-IsWrittenOf (Some image) (Some text) = IsWritten text.items image
+-- where there is a next image, this is how it comes of one with these rows
+abbrev pub IsNextOf : List Row → Option Image → Option NextImage → Type 0
+IsNextOf rows None None = Unit {0}
+IsNextOf rows None (Some next) = ⊥
+IsNextOf rows (Some image) None = ⊥
+IsNextOf rows (Some image) (Some next) = IsNext rows image next
 
 -- the mail that bytes are read as; none where no message has these bytes
 abbrev pub IsReadAs : Bytes → Option (Mail State) → Type 0

@@ -3,7 +3,7 @@ ghost use Rattle.std.specs.Prelude.{◌≡◌, length, IfOk};
 ghost use Rattle.sup_node.specs.Changes.{image_of, image_after};
 ghost use Rattle.sup_node.specs.Contents.{station_of, where_told};
 ghost use Rattle.sup_node.specs.NodeSteps.{Fits};
-ghost use Rattle.sup_node.specs.Texts.{IsWrittenOf};
+ghost use Rattle.sup_node.specs.Texts.{IsNextOf};
 ghost use Rattle.sup_node.specs.Whereabouts.{where_is};
 
 use crate::change::Change;
@@ -11,6 +11,7 @@ use crate::node::Node;
 use crate::planned::Planned;
 use crate::whereis::Whereis;
 use std::alloc::AllocError;
+use sup_image_text::NextImage;
 use sup_local_sup::KeptList;
 use sup_placement::{Weigh, place};
 use sup_specs::{Name, NodeName};
@@ -84,20 +85,23 @@ impl<W: Weigh> Node<W> {
         })
     }
 
-    /// The text of the image of the node that is to be, if what was made ready changes it: it is saved before the change is
-    /// carried out. The node is as it was when it was planned.
+    /// What becomes of the node's image by what was made ready, if that changes it: it is saved before the change is carried
+    /// out. The node is as it was when it was planned.
     ///
     /// # Errors
     ///
     /// Refused only for memory.
-    pub fn text_after(&self, planned: &Planned) -> Result<Option<Vec<u8>>, AllocError>
+    pub fn next_image<'a>(
+        &'a self,
+        planned: &'a Planned,
+    ) -> Result<Option<NextImage<'a>>, AllocError>
         requires { Fits W.weight_of (station_of self.now) planned.now.change }
-        ensures { IfOk result (λ text. IsWrittenOf (image_after (station_of self.now).node planned.now.change) text) }
+        ensures { IfOk result (λ next. IsNextOf (station_of self.now).node.known.rows (image_after (station_of self.now).node planned.now.change) next) }
     {
         match &planned.change {
             Change::Learns(learned) => {
-                let text = self.state.replica.text_with(&learned.intake)?;
-                Ok(Some(text))
+                let next = self.state.replica.next_image(&learned.intake)?;
+                Ok(Some(next))
             }
             _ => Ok(None),
         }

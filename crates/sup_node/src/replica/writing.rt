@@ -1,70 +1,87 @@
-//! The text of the image that is to be.
+//! The image that is to be, by what becomes of the last one.
 ghost use Rattle.std.specs.Prelude.{◌≡◌, ◌+◌, ◌<◌, IfOk};
 ghost use Rattle.sup_specs.specs.declared.limits.TheConstants.{MAX as MOST};
-ghost use Rattle.sup_tables.specs.States.{State};
-ghost use Rattle.sup_tables.specs.Lent.{rows_lent};
+ghost use Rattle.sup_tables.specs.Rows.{AreInOrder};
+ghost use Rattle.sup_tables.specs.States.{State, HasDotsOf};
 ghost use Rattle.sup_tables.specs.Planned.{IsPlanFor};
-ghost use Rattle.sup_wire.specs.Drafts.{IsWhole};
+ghost use Rattle.sup_image_text.specs.Next.{IsChanged, IsNext};
 ghost use Rattle.sup_node.specs.Changes.{Makes, image_with};
-ghost use Rattle.sup_node.specs.Texts.{IsWritten};
 
 use crate::change::Intake;
 use crate::replica::Replica;
 use std::alloc::AllocError;
 use sup_causal::CausalContext;
-use sup_tables::{LentRow, PlannedTables, Tables};
-use sup_wire::{LentImage, encode_lent_image};
+use sup_image_text::{NextImage, RowChange, is_few};
+use sup_tables::{PlannedTables, Tables};
+use sup_wire::Heading;
 
 impl Replica {
-    // The text of its image once a delta is taken in.
-    pub(crate) fn text_with(&self, intake: &Intake) -> Result<Vec<u8>, AllocError>
+    // Its image once a delta is taken in.
+    pub(crate) fn next_image<'a>(&'a self, intake: &'a Intake) -> Result<NextImage<'a>, AllocError>
         requires { self.now.count < MOST }
-        ensures { IfOk result (λ text. (new : State) → Makes intake.now self.now.known new → IsWritten text.items (image_with self.now new)) }
+        ensures { IfOk result (λ next. (new : State) → Makes intake.now self.now.known new → IsNext self.now.known.rows (image_with self.now new) next) }
     {
         match intake {
-            Intake::Whole(tables, _) => self.text_of(tables),
-            Intake::Touched(plan, _) => self.text_after(plan),
+            Intake::Whole(tables, _) => self.with_all_rows(tables),
+            Intake::Touched(plan, _) => self.with_plan(plan),
         }
     }
 
     // With these tables.
-    fn text_of(&self, tables: &Tables) -> Result<Vec<u8>, AllocError>
+    fn with_all_rows<'a>(&'a self, tables: &'a Tables) -> Result<NextImage<'a>, AllocError>
         requires { self.now.count < MOST }
-        ensures { IfOk result (λ text. IsWritten text.items (image_with self.now tables.now)) }
+        ensures { IfOk result (λ next. IsNext self.now.known.rows (image_with self.now tables.now) next) }
     {
         let context = tables.context();
         // For its clause: the counters of known dots are in their limits.
         context.counted();
         let rows = tables.lent_rows()?;
-        self.text_by(context, rows)
+        Ok(NextImage {
+            heading: self.heading(context),
+            rows: RowChange::All(rows),
+        })
     }
 
     // With the tables that a plan makes.
-    fn text_after(&self, plan: &PlannedTables) -> Result<Vec<u8>, AllocError>
+    fn with_plan<'a>(&'a self, plan: &'a PlannedTables) -> Result<NextImage<'a>, AllocError>
         requires { self.now.count < MOST }
-        ensures { IfOk result (λ text. (new : State) → IsPlanFor plan.now self.now.known new → IsWritten text.items (image_with self.now new)) }
+        ensures { IfOk result (λ next. (new : State) → IsPlanFor plan.now self.now.known new → IsNext self.now.known.rows (image_with self.now new) next) }
     {
         let context = self.tables.context_after(plan);
-        let rows = self.tables.lent_rows_after(self.alloc, plan)?;
-        self.text_by(context, rows)
+        let rows = self.rows_after(plan)?;
+        Ok(NextImage {
+            heading: self.heading(context),
+            rows,
+        })
     }
 
-    // With what is known and the rows of it.
-    fn text_by(
-        &self,
-        context: &CausalContext,
-        rows: Vec<LentRow<'_>>,
-    ) -> Result<Vec<u8>, AllocError>
-        requires { self.now.count < MOST }
-        ensures { IfOk result (λ text. (new : State) → context.now ≡ new.context → rows_lent rows.entry.items ≡ new.rows → IsWhole new → IsWritten text.items (image_with self.now new)) }
+    // The rows that a plan makes: by its edits, where that takes less time.
+    fn rows_after<'a>(&'a self, plan: &'a PlannedTables) -> Result<RowChange<'a>, AllocError>
+        ensures changed { IfOk result (λ rows. (new : State) → IsPlanFor plan.now self.now.known new → IsChanged self.now.known.rows new.rows rows) }
+        ensures in_order { IfOk result (λ rows. (new : State) → IsPlanFor plan.now self.now.known new → AreInOrder new.rows) }
+        ensures covered { IfOk result (λ rows. (new : State) → IsPlanFor plan.now self.now.known new → HasDotsOf new.context new.rows) }
     {
-        let image = LentImage {
+        let edits = self.tables.lent_edits_after(self.alloc, plan)?;
+        if is_few(edits.len(), self.tables.row_count()) {
+            return Ok(RowChange::Edits(edits));
+        }
+        let rows = self.tables.lent_rows_after(self.alloc, plan)?;
+        Ok(RowChange::All(rows))
+    }
+
+    // What its next image has but for rows.
+    fn heading<'a>(&self, context: &'a CausalContext) -> Heading<'a>
+        requires { self.now.count < MOST }
+        ensures node { result.node ≡ self.now.name }
+        ensures boot { result.boot ≡ self.now.supervisor.boot }
+        ensures count { result.count ≡ self.now.count + 1 }
+        ensures context { result.context.now ≡ context.now }
+    {
+        Heading {
             node: self.name,
             boot: self.supervisor.boot(),
             count: self.count + 1,
             context,
-            rows,
-        };
-        encode_lent_image(self.alloc, &image)
+        }
     }
 }

@@ -1,13 +1,14 @@
 //! Saves of an image.
 ghost use Rattle.std.specs.Prelude.{◌≡◌, ◌≢◌, ◌<◌, ◌≤◌, ◌+◌, true, IsErr, IfErr, IfOk, OnOk, OnErr};
 ghost use Rattle.sup_replica.specs.declared.refusal.Refusal.TheVariants.{KeepFailed};
-ghost use Rattle.sup_node.specs.Texts.{IsWritten};
 ghost use Rattle.sup_station.specs.Opening.{IsKeepRefusal, refusal_of};
+ghost use Rattle.sup_station.specs.Plans.{IsKept};
 
 use std::alloc::{AllocError, Global};
+use sup_array_text::ArrayText;
 use sup_keeper::{KeepFault, Keeper};
 use sup_replica::Refusal;
-use sup_wire::{Image, encode_image};
+use sup_wire::Image;
 
 // What a keeper's fault is told as.
 pub(super) fn refusal(fault: KeepFault) -> Refusal
@@ -19,11 +20,12 @@ pub(super) fn refusal(fault: KeepFault) -> Refusal
     }
 }
 
-// The text of an image.
-pub(super) fn text_of(alloc: Global, image: &Image) -> Result<Vec<u8>, AllocError>
-    ensures { IfOk result (λ text. IsWritten text.items image.now) }
+// The text of an image, with the texts of its rows.
+pub(super) fn text_of(alloc: Global, image: &Image) -> Result<ArrayText, AllocError>
+    ensures { IfOk result (λ text. IsKept text image.now) }
 {
-    encode_image(alloc, image)
+    let text = sup_wire::text_of(alloc, image)?;
+    Ok(text)
 }
 
 // Saves a text.
