@@ -1,8 +1,9 @@
 -- A delta that is taken in by what it touches.
-use Rattle.std.specs.Prelude.{◌≡◌, ◌+◌, ◌≤◌, ◌<◌, true, List, [], map, length, Option, refl}
+use Rattle.std.specs.Prelude.{◌≡◌, ◌+◌, ◌≤◌, ◌<◌, ◌↔◌, Bool, true, false, IsTrue, List, [], map, length, Option, refl}
 use Rattle.std.proofs.Common.{sym, ap, ◌∙◌, subst}
 use Rattle.std.specs.List.Sorted.{IsStrictlySortedBy}
 use mathlib.Core.Logic.{inr}
+use mathlib.Core.Bool.{true≢false}
 use Rattle.sup_specs.specs.Values.{Bytes, text_cmp}
 use Rattle.sup_specs.specs.declared.limits.TheConstants.{MAX}
 use Rattle.sup_tables.specs.States.{State}
@@ -36,7 +37,7 @@ module _ (g : Weigher) (n : Node State) (leaving : Leaving) (delta : State) (ids
   abbrev joined : State
   joined = join_states n.known delta
 
-  pub replaced : (hosts : List Bytes) (changes : List Change) → IsStrictlySortedBy text_cmp ids → AreTouched ids n.known joined → ¬ MembersDiffer n.known joined → hosts ≡ eligible n.known.rows
+  replaced : (hosts : List Bytes) (changes : List Change) → IsStrictlySortedBy text_cmp ids → AreTouched ids n.known joined → ¬ MembersDiffer n.known joined → hosts ≡ eligible n.known.rows
       → changes ≡ map (change_of g n.name hosts joined.rows) ids → keeps_placed g n ≡ true → IsReplaced (left_of n.supervisor.kept ended) changes (wanted_with g n delta)
   replaced hosts changes rise exact same he ce keeps =
       let alike : eligible joined.rows ≡ eligible n.known.rows = eligible_stable joined.rows n.known.rows same in
@@ -44,6 +45,17 @@ module _ (g : Weigher) (n : Node State) (leaving : Leaving) (delta : State) (ids
       subst (λ (o : Option Bytes). IsReplaced (left_of n.supervisor.kept o) changes (wanted_with g n delta)) (sym ee)
       (subst (λ (cs : List Change). IsReplaced (left_of n.supervisor.kept (ended_of leaving)) cs (wanted_with g n delta)) (sym is)
       (is_replaced g n.name n.known joined ids rise exact alike n.supervisor.kept keeps (ended_of leaving) (reached ids leaving reaches)))
+
+  -- the same by a plan, where the changes are told of the node as it is seen
+  pub replaced_seen : (m : Node State) → n ≡ m → (plan : PlannedTables) → IsPlanFor plan n.known joined → IsStrictlySortedBy text_cmp ids → AreTouched ids n.known joined
+      → (differ : Bool) → (IsTrue differ ↔ MembersDiffer n.known joined) → differ ≡ false → (hosts lent : List Bytes) → hosts ≡ eligible n.known.rows → lent ≡ ids
+      → (changes : List Change) → ((new : State) → IsPlanFor plan m.known new → changes ≡ map (change_of g m.name hosts new.rows) lent) → keeps_placed g m ≡ true
+      → IsReplaced (left_of n.supervisor.kept ended) changes (wanted_with g n delta)
+  replaced_seen m e plan p rise exact differ members none hosts lent he le changes says keeps =
+      let told : (new : State) → IsPlanFor plan n.known new → changes ≡ map (change_of g n.name hosts new.rows) lent =
+      subst (λ (k : Node State). (new : State) → IsPlanFor plan k.known new → changes ≡ map (change_of g k.name hosts new.rows) lent) (sym e) says in
+      replaced hosts changes rise exact (λ d. true≢false (sym (members.1 d) ∙ none)) he (told joined p ∙ ap (map (change_of g n.name hosts joined.rows)) le)
+      (subst (λ (k : Node State). keeps_placed g k ≡ true) (sym e) keeps)
 
   back : leaving_of ended ≡ leaving
   back = ap leaving_of ee ∙ leaving_back ids leaving reaches

@@ -1,5 +1,5 @@
 -- What the bytes of a letter or an image say (this project): the forms of messages and images.
-use Rattle.std.specs.Prelude.{◌≡◌, ℕ, false, [], List, Option, Some, None}
+use Rattle.std.specs.Prelude.{◌≡◌, false, [], List, Option, Some, None}
 use Rattle.sup_specs.specs.Values.{Bytes}
 use Rattle.sup_tables.specs.declared.row.Row.{Row}
 use Rattle.sup_tables.specs.States.{State}
@@ -35,12 +35,6 @@ pub record IsMessageText (text : Bytes) (m : Message) : Type 0 where
 pub record IsImageText (text : Bytes) (i : Image) : Type 0 where
   pub form : IsTextOf IsDraftOfImage IsImageInRange text i
   pub says : Says IsDraftOfImage text i
-  pub whole : IsWholeImage i
-
--- a text of the image, which says it where its numbers are in their range
-pub record IsWritten (text : Bytes) (i : Image) : Type 0 where
-  pub form : IsTextOf IsDraftOfImage IsImageInRange text i
-  pub says : IsImageInRange i → Says IsDraftOfImage text i
   pub whole : IsWholeImage i
 
 -- where there is a next image, this is how it comes of one with these rows

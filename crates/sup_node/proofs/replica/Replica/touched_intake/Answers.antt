@@ -1,21 +1,20 @@
-use Rattle.std.specs.Prelude.{◌≡◌, true, List, map, Err}
+use Rattle.std.specs.Prelude.{true, List, Err}
 use Rattle.std.proofs.Common.{sym, ap, ◌∙◌, subst}
 use Rattle.std.specs.List.Sorted.{IsStrictlySortedBy}
-use mathlib.Core.Bool.{true≢false}
 use Rattle.sup_specs.specs.Values.{Bytes, text_cmp}
 use Rattle.sup_tables.specs.States.{State}
 use Rattle.sup_tables.specs.Joined.{join_states}
 use Rattle.sup_tables.specs.Planned.{IsPlanFor}
 use Rattle.sup_local_sup.specs.declared.change.Change.{Change}
 use Rattle.sup_local_sup.specs.Keeping.{AreCounted}
-use Rattle.sup_local_sup.specs.Changing.{AreChanges, IsReplaced, news, left_of, now_of}
+use Rattle.sup_local_sup.specs.Changing.{AreChanges, news, now_of}
 use Rattle.sup_replica.specs.declared.refusal.Refusal.TheVariants.{CountSpent}
 use Rattle.sup_replica.specs.Nodes.{Node}
 use Rattle.sup_node.specs.declared.change.Intake.TheVariants.{Touched}
 use Rattle.sup_node.specs.Changes.{IsIntake, IsNoIntake, wanted_with}
-use Rattle.sup_node.specs.Placed.{keeps_placed, change_of, Reaches}
+use Rattle.sup_node.specs.Placed.{Reaches}
 use Rattle.sup_node.proofs.TouchLaws.{are_changes}
-use Rattle.sup_node.proofs.IntakeLaws.{replaced, touched_is, touched_spent}
+use Rattle.sup_node.proofs.IntakeLaws.{replaced_seen, touched_is, touched_spent}
 use Rattle.sup_node.proofs.replica.Replica.touched_intake.Goals as goal
 
 pub plan_change-requires-clause-changes : goal.plan_change-requires-clause-changes
@@ -44,14 +43,9 @@ returns-in-Ok-clause-intake g c =
     let plan = c.in_ok-plan.ensures in
     let ids = c.in_ok-touched.touched.children.items in
     let reach : Reaches ids leaving = subst (λ (is : List Bytes). Reaches is leaving) c.deref.ensures.value (c.reaches.ensures c.if-not-reaches.false) in
-    let says : (new : State) → IsPlanFor c.in_ok-plan.plan n.known new → c.in_ok-changes.changes.items ≡ map (change_of w n.name c.deref-2.result.now new.rows) c.deref-3.result.now =
-    subst (λ (m : Node State). (new : State) → IsPlanFor c.in_ok-plan.plan m.known new → c.in_ok-changes.changes.items ≡ map (change_of w m.name c.deref-2.result.now new.rows) c.deref-3.result.now) (sym c.self.view_is) c.in_ok-changes.ensures.changes in
-    let is : IsReplaced (left_of n.supervisor.kept (now_of c.ended.result)) c.deref-4.result.now (wanted_with w n delta) =
-    replaced w n leaving delta ids reach (now_of c.ended.result) c.ended.ensures c.deref-2.result.now c.deref-4.result.now c.in_ok-touched.ensures.rise (c.in_ok-touched.ensures.children joined plan)
-    (λ differ. true≢false (sym ((c.in_ok-touched.ensures.members joined plan).1 differ) ∙ c.if-touched.false))
-    (c.deref-2.ensures.value ∙ c.in_ok-hosts.ensures)
-    (c.deref-4.ensures.value ∙ says joined plan ∙ ap (map (change_of w n.name c.deref-2.result.now joined.rows)) c.deref-3.ensures.value)
-    (subst (λ (m : Node State). keeps_placed w m ≡ true) (sym c.self.view_is) c.requires.keeps) in
+    let is = replaced_seen w n leaving delta ids reach (now_of c.ended.result) c.ended.ensures c.args.self.now c.self.view_is c.in_ok-plan.plan plan c.in_ok-touched.ensures.rise
+    (c.in_ok-touched.ensures.children joined plan) c.in_ok-touched.touched.members (c.in_ok-touched.ensures.members joined plan) c.if-touched.false c.deref-2.result.now c.deref-3.result.now
+    (c.deref-2.ensures.value ∙ c.in_ok-hosts.ensures) c.deref-3.ensures.value c.deref-4.result.now (λ new p. c.deref-4.ensures.value ∙ c.in_ok-changes.ensures.changes new p) c.requires.keeps in
     subst (λ (m : Node State). IsIntake w m leaving delta (Touched c.in_ok-plan.plan c.parted-kept.result.0) c.parted-kept.result.1) c.self.view_is
     (touched_is w n leaving delta ids reach (now_of c.ended.result) c.ended.ensures c.in_ok-plan.plan c.in-Ok.kept c.parted-kept.result.0 c.parted-kept.result.1 plan
     (c.in-Ok.ensures.becomes (wanted_with w n delta) is) (c.in-Ok.ensures.effects (wanted_with w n delta) is) c.parted-kept.ensures.plan c.parted-kept.ensures.effects c.in-Ok.ensures.within)
@@ -66,13 +60,8 @@ returns-in-Err-CountSpent-clause-refused g c =
     let plan = c.in_ok-plan.ensures in
     let ids = c.in_ok-touched.touched.children.items in
     let reach : Reaches ids leaving = subst (λ (is : List Bytes). Reaches is leaving) c.deref.ensures.value (c.reaches.ensures c.if-not-reaches.false) in
-    let says : (new : State) → IsPlanFor c.in_ok-plan.plan n.known new → c.in_ok-changes.changes.items ≡ map (change_of w n.name c.deref-2.result.now new.rows) c.deref-3.result.now =
-    subst (λ (m : Node State). (new : State) → IsPlanFor c.in_ok-plan.plan m.known new → c.in_ok-changes.changes.items ≡ map (change_of w m.name c.deref-2.result.now new.rows) c.deref-3.result.now) (sym c.self.view_is) c.in_ok-changes.ensures.changes in
-    let is : IsReplaced (left_of n.supervisor.kept (now_of c.ended.result)) c.deref-4.result.now (wanted_with w n delta) =
-    replaced w n leaving delta ids reach (now_of c.ended.result) c.ended.ensures c.deref-2.result.now c.deref-4.result.now c.in_ok-touched.ensures.rise (c.in_ok-touched.ensures.children joined plan)
-    (λ differ. true≢false (sym ((c.in_ok-touched.ensures.members joined plan).1 differ) ∙ c.if-touched.false))
-    (c.deref-2.ensures.value ∙ c.in_ok-hosts.ensures)
-    (c.deref-4.ensures.value ∙ says joined plan ∙ ap (map (change_of w n.name c.deref-2.result.now joined.rows)) c.deref-3.ensures.value)
-    (subst (λ (m : Node State). keeps_placed w m ≡ true) (sym c.self.view_is) c.requires.keeps) in
+    let is = replaced_seen w n leaving delta ids reach (now_of c.ended.result) c.ended.ensures c.args.self.now c.self.view_is c.in_ok-plan.plan plan c.in_ok-touched.ensures.rise
+    (c.in_ok-touched.ensures.children joined plan) c.in_ok-touched.touched.members (c.in_ok-touched.ensures.members joined plan) c.if-touched.false c.deref-2.result.now c.deref-3.result.now
+    (c.deref-2.ensures.value ∙ c.in_ok-hosts.ensures) c.deref-3.ensures.value c.deref-4.result.now (λ new p. c.deref-4.ensures.value ∙ c.in_ok-changes.ensures.changes new p) c.requires.keeps in
     subst (λ (m : Node State). IsNoIntake w m leaving delta CountSpent) c.self.view_is
     (touched_spent w n leaving delta ids reach (now_of c.ended.result) c.ended.ensures c.deref-4.result.now is (c.in-Err-CountSpent.ensures.spent (ap Err c.in-Err-CountSpent.field-0-is)))
