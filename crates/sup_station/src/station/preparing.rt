@@ -1,11 +1,11 @@
 //! What a station makes ready of an act.
-ghost use Rattle.std.specs.Prelude.{◌≡◌, ◌≢◌, ◌⊎◌, ◌<◌, ◌≤◌, ◌+◌, true, Some, None, IfOk, MatchResult, IfErr, OnOk};
+ghost use Rattle.std.specs.Prelude.{◌≡◌, ◌≤◌, ◌+◌, Some, None, IfOk, MatchResult};
 ghost use Rattle.sup_replica.specs.declared.event.Act.TheVariants.{Event as Of, Stop, Restart};
-ghost use Rattle.sup_replica.specs.declared.refusal.Refusal.TheVariants.{KeepFailed};
 ghost use Rattle.sup_specs.specs.declared.limits.TheConstants.{MAX as MOST};
 ghost use Rattle.sup_node.specs.Changes.{image_after};
 ghost use Rattle.sup_node.specs.Contents.{station_of};
 ghost use Rattle.sup_node.specs.NodeSteps.{Fits};
+ghost use Rattle.sup_station.specs.Counts.{CountsLoad};
 ghost use Rattle.sup_station.specs.Plans.{IsPreparedFor, Prepares, IsKept, IsKeptOf};
 ghost use Rattle.sup_station.specs.Stills.{still_of, keeper_of, Refuses, IsOwnImage, IsNoOwnImage};
 
@@ -81,18 +81,7 @@ impl<K: Keeper, W: Weigh> Station<K, W> {
     pub(super) fn prepare_restart(&mut self, now: u64, weigher: &W) -> Result<Prepared, Refusal>
         ensures same { still_of K.kept self.new ≡ still_of K.kept self.old }
         ensures answer { MatchResult result (IsPreparedFor W.weight_of (still_of K.kept self.old) Restart now) (Refuses W.weight_of (still_of K.kept self.old) (still_of K.kept self.old).node Restart now) }
-        ensures rose { result ≡ Err KeepFailed → K.failures (keeper_of self.old) < K.failures (keeper_of self.new) }
-        ensures told { K.failures (keeper_of self.old) < K.failures (keeper_of self.new) → result ≡ Err KeepFailed }
-        ensures never_falls { K.failures (keeper_of self.old) ≤ K.failures (keeper_of self.new) }
-        ensures by_one { K.failures (keeper_of self.new) ≤ K.failures (keeper_of self.old) + 1 }
-        ensures uncounted { OnOk result (K.failures (keeper_of self.new) ≡ K.failures (keeper_of self.old)) }
-        ensures stays_failing { K.failing (keeper_of self.new) ≡ K.failing (keeper_of self.old) }
-        ensures stays_sound { K.sound (keeper_of self.new) ≡ K.sound (keeper_of self.old) }
-        ensures stays_readable { K.readable (keeper_of self.new) ≡ K.readable (keeper_of self.old) }
-        ensures sound { K.sound (keeper_of self.old) ≡ true → result ≢ Err KeepFailed }
-        ensures failing { K.failing (keeper_of self.old) ≡ true → result ≢ Err KeepFailed }
-        ensures readable { K.readable (keeper_of self.old) ≡ true → result ≢ Err KeepFailed }
-        ensures steady { (K.failing (keeper_of self.old) ≡ true) ⊎ (K.sound (keeper_of self.old) ≡ true) → K.failures (keeper_of self.new) ≡ K.failures (keeper_of self.old) }
+        ensures counts { CountsLoad K.failures K.failing K.sound K.readable (keeper_of self.old) (keeper_of self.new) result }
     {
         if self.node.is_some() {
             return Err(Refusal::AlreadyUp);

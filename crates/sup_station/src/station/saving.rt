@@ -1,6 +1,6 @@
 //! Saves of an image.
-ghost use Rattle.std.specs.Prelude.{◌≡◌, ◌≢◌, ◌<◌, ◌≤◌, ◌+◌, true, IsErr, IfErr, IfOk, OnOk, OnErr};
-ghost use Rattle.sup_replica.specs.declared.refusal.Refusal.TheVariants.{KeepFailed};
+ghost use Rattle.std.specs.Prelude.{◌≡◌, IfErr, IfOk, OnOk, OnErr};
+ghost use Rattle.sup_station.specs.Counts.{CountsSave};
 ghost use Rattle.sup_station.specs.Opening.{IsKeepRefusal, refusal_of};
 ghost use Rattle.sup_station.specs.Plans.{IsKept};
 
@@ -33,16 +33,7 @@ pub(super) fn save_text<K: Keeper>(keeper: &mut K, text: &[u8]) -> Result<(), Re
     ensures leaves { OnOk result (K.kept keeper.new ≡ text.now) }
     ensures refused { OnErr result (K.kept keeper.new ≡ K.kept keeper.old) }
     ensures reason { IfErr result (λ r. IsKeepRefusal r) }
-    ensures rose { result ≡ Err KeepFailed → K.failures keeper.old < K.failures keeper.new }
-    ensures told { K.failures keeper.old < K.failures keeper.new → result ≡ Err KeepFailed }
-    ensures never_falls { K.failures keeper.old ≤ K.failures keeper.new }
-    ensures by_one { K.failures keeper.new ≤ K.failures keeper.old + 1 }
-    ensures uncounted { OnOk result (K.failures keeper.new ≡ K.failures keeper.old) }
-    ensures failing { K.failing keeper.old ≡ true → IsErr result }
-    ensures sound { K.sound keeper.old ≡ true → result ≢ Err KeepFailed }
-    ensures stays_sound { K.sound keeper.old ≡ true → K.sound keeper.new ≡ true }
-    ensures stays_readable { K.readable keeper.old ≡ true → K.readable keeper.new ≡ true }
-    ensures steady { K.sound keeper.old ≡ true → K.failures keeper.new ≡ K.failures keeper.old }
+    ensures counts { CountsSave K.failures K.failing K.sound K.readable keeper.old keeper.new result }
 {
     match keeper.save(text) {
         Ok(()) => Ok(()),
