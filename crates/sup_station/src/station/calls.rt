@@ -47,10 +47,11 @@ impl<K: Keeper, W: Weigh> Station<K, W> {
     {
         let mut keeper = keeper;
         match open(alloc, name, config, &mut keeper) {
-            Ok(node) => Ok(Station {
+            Ok((node, text)) => Ok(Station {
                 name,
                 config,
                 node: Some(node),
+                texts: Some(text),
                 keeper,
                 alloc,
             }),
@@ -68,6 +69,7 @@ impl<K: Keeper, W: Weigh> Station<K, W> {
             name,
             config,
             node,
+            texts: None,
             keeper,
             alloc,
         }
@@ -141,8 +143,14 @@ impl<K: Keeper, W: Weigh> Station<K, W> {
     {
         let Prepared { next, text } = prepared;
         match text {
-            None => change_to(&mut self.node, next),
-            Some(text) => save_and_change(&mut self.keeper, &mut self.node, next, &text),
+            None => change_to(&mut self.node, &mut self.texts, next),
+            Some(text) => save_and_change(
+                &mut self.keeper,
+                &mut self.node,
+                &mut self.texts,
+                next,
+                text,
+            ),
         }
     }
 

@@ -1,19 +1,23 @@
 //! What a station makes ready of an act.
-ghost use Rattle.std.specs.Prelude.{◌≡◌, ◌≢◌, ◌⊎◌, ◌<◌, ◌≤◌, ◌+◌, true, None, IfOk, MatchResult, IfErr, OnOk};
+ghost use Rattle.std.specs.Prelude.{◌≡◌, ◌≤◌, ◌+◌, Some, None, IfOk, MatchResult};
 ghost use Rattle.sup_replica.specs.declared.event.Act.TheVariants.{Event as Of, Stop, Restart};
-ghost use Rattle.sup_replica.specs.declared.refusal.Refusal.TheVariants.{KeepFailed};
 ghost use Rattle.sup_specs.specs.declared.limits.TheConstants.{MAX as MOST};
-ghost use Rattle.sup_node.specs.Texts.{IsWritten};
-ghost use Rattle.sup_station.specs.Plans.{IsPreparedFor, Prepares};
+ghost use Rattle.sup_node.specs.Changes.{image_after};
+ghost use Rattle.sup_node.specs.Contents.{station_of};
+ghost use Rattle.sup_node.specs.NodeSteps.{Fits};
+ghost use Rattle.sup_station.specs.Counts.{CountsLoad};
+ghost use Rattle.sup_station.specs.Plans.{IsPreparedFor, Prepares, IsKept, IsKeptOf};
 ghost use Rattle.sup_station.specs.Stills.{still_of, keeper_of, Refuses, IsOwnImage, IsNoOwnImage};
 
 use crate::prepared::{Next, Prepared};
 use crate::station::Station;
 use crate::station::saving::{refusal, text_of};
 use std::alloc::{AllocError, Global};
+use sup_array_text::ArrayText;
+use sup_image_text::text_after;
 use sup_keeper::Keeper;
 use sup_local_sup::Effects;
-use sup_node::NodeState;
+use sup_node::{Node, NodeState, Planned};
 use sup_placement::Weigh;
 use sup_replica::{Done, Event, Refusal, Reply};
 use sup_wire::{Image, WireFault, decode_image};
@@ -32,11 +36,27 @@ impl<K: Keeper, W: Weigh> Station<K, W> {
             return Err(Refusal::Down);
         };
         let planned = node.plan(event, now, weigher)?;
-        let text = node.text_after(&planned)?;
+        let text = self.text_after(node, &planned)?;
         Ok(Prepared {
             next: Next::Changes(planned),
             text,
         })
+    }
+
+    // The text of its node's next image, if what was made ready changes it.
+    fn text_after(&self, node: &Node<W>, planned: &Planned) -> Result<Option<ArrayText>, AllocError>
+        requires here { (still_of K.kept self.now).node ≡ Some (station_of node.now) }
+        requires fits { Fits W.weight_of (station_of node.now) planned.now.change }
+        ensures { IfOk result (λ text. IsKeptOf (image_after (station_of node.now).node planned.now.change) text) }
+    {
+        let Some(next) = node.next_image(planned)? else {
+            return Ok(None);
+        };
+        let Some(texts) = &self.texts else {
+            unreachable!();
+        };
+        let text = text_after(self.alloc, texts, &next)?;
+        Ok(Some(text))
     }
 
     // Makes a stop ready.
@@ -61,18 +81,7 @@ impl<K: Keeper, W: Weigh> Station<K, W> {
     pub(super) fn prepare_restart(&mut self, now: u64, weigher: &W) -> Result<Prepared, Refusal>
         ensures same { still_of K.kept self.new ≡ still_of K.kept self.old }
         ensures answer { MatchResult result (IsPreparedFor W.weight_of (still_of K.kept self.old) Restart now) (Refuses W.weight_of (still_of K.kept self.old) (still_of K.kept self.old).node Restart now) }
-        ensures rose { result ≡ Err KeepFailed → K.failures (keeper_of self.old) < K.failures (keeper_of self.new) }
-        ensures told { K.failures (keeper_of self.old) < K.failures (keeper_of self.new) → result ≡ Err KeepFailed }
-        ensures never_falls { K.failures (keeper_of self.old) ≤ K.failures (keeper_of self.new) }
-        ensures by_one { K.failures (keeper_of self.new) ≤ K.failures (keeper_of self.old) + 1 }
-        ensures uncounted { OnOk result (K.failures (keeper_of self.new) ≡ K.failures (keeper_of self.old)) }
-        ensures stays_failing { K.failing (keeper_of self.new) ≡ K.failing (keeper_of self.old) }
-        ensures stays_sound { K.sound (keeper_of self.new) ≡ K.sound (keeper_of self.old) }
-        ensures stays_readable { K.readable (keeper_of self.new) ≡ K.readable (keeper_of self.old) }
-        ensures sound { K.sound (keeper_of self.old) ≡ true → result ≢ Err KeepFailed }
-        ensures failing { K.failing (keeper_of self.old) ≡ true → result ≢ Err KeepFailed }
-        ensures readable { K.readable (keeper_of self.old) ≡ true → result ≢ Err KeepFailed }
-        ensures steady { (K.failing (keeper_of self.old) ≡ true) ⊎ (K.sound (keeper_of self.old) ≡ true) → K.failures (keeper_of self.new) ≡ K.failures (keeper_of self.old) }
+        ensures counts { CountsLoad K.failures K.failing K.sound K.readable (keeper_of self.old) (keeper_of self.new) result }
     {
         if self.node.is_some() {
             return Err(Refusal::AlreadyUp);
@@ -131,10 +140,10 @@ impl<K: Keeper, W: Weigh> Station<K, W> {
 }
 
 // The text of an image in its next boot, and the image as it was.
-fn with_next_boot(alloc: Global, image: Image) -> Result<(Image, Vec<u8>), AllocError>
+fn with_next_boot(alloc: Global, image: Image) -> Result<(Image, ArrayText), AllocError>
     requires { image.boot ≤ MOST }
     ensures same { IfOk result (λ r. r.0 ≡ image) }
-    ensures text { IfOk result (λ r. IsWritten r.1.items (record image { boot = image.boot + 1 })) }
+    ensures text { IfOk result (λ r. IsKept r.1 (record image { boot = image.boot + 1 })) }
 {
     let Image {
         node,

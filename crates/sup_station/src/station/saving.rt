@@ -1,13 +1,14 @@
 //! Saves of an image.
-ghost use Rattle.std.specs.Prelude.{◌≡◌, ◌≢◌, ◌<◌, ◌≤◌, ◌+◌, true, IsErr, IfErr, IfOk, OnOk, OnErr};
-ghost use Rattle.sup_replica.specs.declared.refusal.Refusal.TheVariants.{KeepFailed};
-ghost use Rattle.sup_node.specs.Texts.{IsWritten};
+ghost use Rattle.std.specs.Prelude.{◌≡◌, IfErr, IfOk, OnOk, OnErr};
+ghost use Rattle.sup_station.specs.Counts.{CountsSave};
 ghost use Rattle.sup_station.specs.Opening.{IsKeepRefusal, refusal_of};
+ghost use Rattle.sup_station.specs.Plans.{IsKept};
 
 use std::alloc::{AllocError, Global};
+use sup_array_text::ArrayText;
 use sup_keeper::{KeepFault, Keeper};
 use sup_replica::Refusal;
-use sup_wire::{Image, encode_image};
+use sup_wire::Image;
 
 // What a keeper's fault is told as.
 pub(super) fn refusal(fault: KeepFault) -> Refusal
@@ -19,11 +20,12 @@ pub(super) fn refusal(fault: KeepFault) -> Refusal
     }
 }
 
-// The text of an image.
-pub(super) fn text_of(alloc: Global, image: &Image) -> Result<Vec<u8>, AllocError>
-    ensures { IfOk result (λ text. IsWritten text.items image.now) }
+// The text of an image, with the texts of its rows.
+pub(super) fn text_of(alloc: Global, image: &Image) -> Result<ArrayText, AllocError>
+    ensures { IfOk result (λ text. IsKept text image.now) }
 {
-    encode_image(alloc, image)
+    let text = sup_wire::text_of(alloc, image)?;
+    Ok(text)
 }
 
 // Saves a text.
@@ -31,16 +33,7 @@ pub(super) fn save_text<K: Keeper>(keeper: &mut K, text: &[u8]) -> Result<(), Re
     ensures leaves { OnOk result (K.kept keeper.new ≡ text.now) }
     ensures refused { OnErr result (K.kept keeper.new ≡ K.kept keeper.old) }
     ensures reason { IfErr result (λ r. IsKeepRefusal r) }
-    ensures rose { result ≡ Err KeepFailed → K.failures keeper.old < K.failures keeper.new }
-    ensures told { K.failures keeper.old < K.failures keeper.new → result ≡ Err KeepFailed }
-    ensures never_falls { K.failures keeper.old ≤ K.failures keeper.new }
-    ensures by_one { K.failures keeper.new ≤ K.failures keeper.old + 1 }
-    ensures uncounted { OnOk result (K.failures keeper.new ≡ K.failures keeper.old) }
-    ensures failing { K.failing keeper.old ≡ true → IsErr result }
-    ensures sound { K.sound keeper.old ≡ true → result ≢ Err KeepFailed }
-    ensures stays_sound { K.sound keeper.old ≡ true → K.sound keeper.new ≡ true }
-    ensures stays_readable { K.readable keeper.old ≡ true → K.readable keeper.new ≡ true }
-    ensures steady { K.sound keeper.old ≡ true → K.failures keeper.new ≡ K.failures keeper.old }
+    ensures counts { CountsSave K.failures K.failing K.sound K.readable keeper.old keeper.new result }
 {
     match keeper.save(text) {
         Ok(()) => Ok(()),
