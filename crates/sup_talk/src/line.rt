@@ -1,13 +1,12 @@
 //! One line of an input, taken as it comes.
 
 ghost use Rattle.std.specs.Prelude.{◌≡◌, ◌<◌, true, IsErr, IsErrOf, OnOk};
-ghost use Rattle.sup_talk.specs.Taking.{TakesByte, TakesLine, is_spent};
+ghost use Rattle.sup_jobs.specs.Reading.{is_spent};
+ghost use Rattle.sup_talk.specs.Taking.{TakesByte, TakesLine};
 
-mod questions;
-
-pub use questions::Questions;
 use std::alloc::Global;
 use std::io::Read;
+use sup_jobs::Questions;
 use thiserror::Error;
 
 /// At most this many bytes are a line, its line feed aside.
