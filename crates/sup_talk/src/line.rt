@@ -77,6 +77,7 @@ pub fn take_line<R: Read>(
 // The next byte, or none at the end. An interrupted reader is asked again.
 fn take_byte<R: Read>(reader: &mut R, questions: &mut Questions) -> Result<Option<u8>, LineFault>
     ensures byte { TakesByte result (R.remaining reader.old) (R.remaining reader.new) }
+    ensures most { questions.new.most ≡ questions.old.most }
     ensures asked { OnOk result (questions.old.asked < questions.new.asked) }
     ensures device { IsErr result → is_spent questions.new ≡ true }
 {
