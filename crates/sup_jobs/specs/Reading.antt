@@ -1,5 +1,5 @@
 -- How much of a reader is taken, by how reading it ends (this project).
-use Rattle.std.specs.Prelude.{◌≡◌, ℕ, ◌≤◌, ◌⊎◌, true, List, length, Option, Result, Ok, Err}
+use Rattle.std.specs.Prelude.{◌≡◌, ◌≤◌, ◌||◌, nat_le, ℕ, Bool, List, length, Option, Result, Ok, Err}
 use Rattle.std.specs.Io.KnownBytes.{Consumes}
 use Rattle.sup_jobs.specs.declared.input.InputFault.{InputFault}
 use Rattle.sup_jobs.specs.declared.input.InputFault.TheVariants.{TooLong, Device, OutOfMemory}
@@ -17,5 +17,5 @@ abbrev pub ReadsFor : {X : Type 0} → (X → List ℕ) → Result X InputFault 
 ReadsFor view answer before after = (taken : List ℕ) × IsReadAs view answer taken × Consumes before after taken
 
 -- No more questions may be put: the reader failed, or was asked as often as it may be.
-abbrev pub IsSpent : Questions → Type 0
-IsSpent questions = (questions.failed ≡ true) ⊎ (2097154 ≤ questions.asked)
+abbrev pub is_spent : Questions → Bool
+is_spent questions = questions.failed || nat_le questions.most questions.asked

@@ -1,17 +1,20 @@
 //! The whole input, of at most `LIMIT` bytes.
 
-ghost use Rattle.std.specs.Prelude.{◌≡◌, ℕ, ◌<◌, ◌≤◌, List, length, vec_len, vec_items, IfOk, IfSome, IsErrOf};
-ghost use Rattle.sup_jobs.specs.Reading.{IsSpent, ReadsFor};
+ghost use Rattle.std.specs.Prelude.{◌≡◌, ℕ, ◌<◌, ◌≤◌, List, length, vec_len, vec_items, IfOk, IfSome, true, IsErrOf};
+ghost use Rattle.sup_jobs.specs.Reading.{ReadsFor, is_spent};
 
 mod questions;
 
-use questions::Questions;
+pub use questions::Questions;
 use std::alloc::Global;
 use std::io::Read;
 use thiserror::Error;
 
 /// At most this many bytes are an input.
 pub const LIMIT: usize = 1_048_576;
+
+// A reader is asked so often at most: once for each byte that is taken, and as often in vain.
+const READS: u64 = 2_097_154;
 
 /// Why there is no input.
 #[derive(Clone, Copy, Debug, PartialEq, Eq, Error)]
@@ -36,7 +39,7 @@ pub fn read_input<R: Read>(alloc: Global, reader: &mut R) -> Result<Vec<u8>, Inp
         → IfSome (R.remaining reader.old) (λ all. LIMIT < length all) }
     ensures taken { ReadsFor vec_items result (R.remaining reader.old) (R.remaining reader.new) }
 {
-    let mut questions = Questions::new();
+    let mut questions = Questions::at_most(READS);
     read_by(alloc, reader, &mut questions)
 }
 
@@ -51,7 +54,7 @@ fn read_by<R: Read>(
     ensures long { IsErrOf result InputFault.TooLong
         → IfSome (R.remaining reader.old) (λ all. LIMIT < length all) }
     ensures taken { ReadsFor vec_items result (R.remaining reader.old) (R.remaining reader.new) }
-    ensures device { IsErrOf result InputFault.Device → IsSpent questions.new }
+    ensures device { IsErrOf result InputFault.Device → is_spent questions.new ≡ true }
 {
     let mut bytes = Vec::new(alloc);
     let mut buffer = [0u8; 4096];

@@ -6,5 +6,5 @@ pub mod input;
 pub mod output;
 
 pub use fault::{Ended, Fault, ImageFault, finish, report};
-pub use input::{InputFault, LIMIT, read_input};
+pub use input::{InputFault, LIMIT, Questions, read_input};
 pub use output::{DeviceFault, put_all};

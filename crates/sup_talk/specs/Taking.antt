@@ -1,17 +1,8 @@
 -- What is taken from a reader, line by line (this project).
-use Rattle.std.specs.Prelude.{◌≢◌, ◌≤◌, ◌<◌, ◌||◌, nat_le, ℕ, Bool, List, [], ◌∷◌, ◌++◌, length, All, Option, None, Some, Result, Ok, Err}
+use Rattle.std.specs.Prelude.{◌≢◌, ◌≤◌, ◌<◌, ℕ, List, [], ◌∷◌, ◌++◌, length, All, Option, None, Some, Result, Ok, Err}
 use Rattle.std.specs.Io.KnownBytes.{Consumes, Keeps, IsAtEnd}
 use Rattle.sup_talk.specs.declared.line.Taken.{Taken}
 use Rattle.sup_talk.specs.declared.line.Taken.TheVariants.{Line, TooLong, End}
-use Rattle.sup_talk.specs.declared.line.questions.Questions.{Questions}
-
--- a reader is asked so often at most
-abbrev pub most_questions : ℕ
-most_questions = 18446744073709551615
-
--- no more questions may be put: the reader failed, or was asked as often as it may be
-abbrev pub is_spent : Questions → Bool
-is_spent questions = questions.failed || nat_le most_questions questions.asked
 
 -- none of these bytes is a line feed
 abbrev pub IsUnbroken : List ℕ → Type 0

@@ -7,6 +7,6 @@ pub mod streams;
 pub mod talking;
 
 pub use host::Host;
-pub use line::{LINE_LIMIT, LineFault, Questions, Taken, take_line};
+pub use line::{LINE_LIMIT, LineFault, Taken, take_line};
 pub use streams::Streams;
 pub use talking::{Answerer, TalkEnd, TalkFault, talk};

@@ -1,13 +1,12 @@
 //! One line of an input, taken as it comes.
 
 ghost use Rattle.std.specs.Prelude.{◌≡◌, ◌<◌, true, IsErr, IsErrOf, OnOk};
-ghost use Rattle.sup_talk.specs.Taking.{TakesByte, TakesLine, is_spent};
+ghost use Rattle.sup_jobs.specs.Reading.{is_spent};
+ghost use Rattle.sup_talk.specs.Taking.{TakesByte, TakesLine};
 
-mod questions;
-
-pub use questions::Questions;
 use std::alloc::Global;
 use std::io::Read;
+use sup_jobs::Questions;
 use thiserror::Error;
 
 /// At most this many bytes are a line, its line feed aside.
@@ -78,6 +77,7 @@ pub fn take_line<R: Read>(
 // The next byte, or none at the end. An interrupted reader is asked again.
 fn take_byte<R: Read>(reader: &mut R, questions: &mut Questions) -> Result<Option<u8>, LineFault>
     ensures byte { TakesByte result (R.remaining reader.old) (R.remaining reader.new) }
+    ensures most { questions.new.most ≡ questions.old.most }
     ensures asked { OnOk result (questions.old.asked < questions.new.asked) }
     ensures device { IsErr result → is_spent questions.new ≡ true }
 {

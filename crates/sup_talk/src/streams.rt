@@ -4,11 +4,11 @@ ghost use Rattle.std.specs.Prelude.{◌≡◌, false, None};
 ghost use Rattle.sup_talk.specs.Hosts.{Seen};
 
 use crate::host::Host;
-use crate::line::{LineFault, Questions, Taken, take_line};
+use crate::line::{LineFault, Taken, take_line};
 use std::alloc::Global;
 use std::io::{Read, Write};
 use std::marker::Model;
-use sup_jobs::{DeviceFault, put_all};
+use sup_jobs::{DeviceFault, Questions, put_all};
 
 /// A host whose lines come from a reader, and whose answers go to a writer.
 #[derive(Drop)]
@@ -23,7 +23,7 @@ pub struct Streams<R: Read + Drop, W: Write + Drop> {
 impl<R: Read + Drop, W: Write + Drop> Model for Streams<R, W> {
     ghost use Rattle.std.specs.Prelude.{◌||◌, None};
     ghost use Rattle.sup_talk.specs.Hosts.{Seen};
-    ghost use Rattle.sup_talk.specs.Taking.{is_spent};
+    ghost use Rattle.sup_jobs.specs.Reading.{is_spent};
 
     ghost Value = { Seen };
 
@@ -38,7 +38,7 @@ impl<R: Read + Drop, W: Write + Drop> Streams<R, W> {
         Streams {
             reader,
             writer,
-            questions: Questions::new(),
+            questions: Questions::at_most(u64::MAX),
             is_deaf: false,
         }
     }

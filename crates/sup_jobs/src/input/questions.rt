@@ -1,47 +1,47 @@
 //! Questions to a reader, counted.
 
-ghost use Rattle.std.specs.Prelude.{◌≡◌, ◌≢◌, ◌+◌, ◌<◌, ◌≤◌, ◌⊎◌, true, false, IsTrue, IsErrAnd};
+ghost use Rattle.std.specs.Prelude.{◌≡◌, ◌≢◌, ◌+◌, ◌<◌, false, not, IsTrue, IsErrAnd};
 ghost use Rattle.std.specs.Io.KnownBytes.{ReadConsumes};
 ghost use Rattle.std.specs.Io.{ReadsAtMost};
 ghost use Rattle.std.specs.IoError.{error_kind};
-ghost use Rattle.sup_jobs.specs.declared.input.questions.TheConstants.{READS};
+ghost use Rattle.sup_jobs.specs.Reading.{is_spent};
 
 use std::io::{self, ErrorKind, Read};
 
-/// A reader is asked so often at most: once for each byte that is taken, and as often in vain.
-const READS: u32 = 2_097_154;
-
-/// How often a reader was asked, the interrupted questions among them, and whether it failed.
+/// How often a reader may be asked and was, the interrupted questions among them, and whether it failed.
 #[derive(Drop)]
 pub struct Questions {
-    pub asked: u32,
+    pub most: u64,
+    pub asked: u64,
     pub failed: bool,
-    ghost bounded: { asked ≤ READS },
 }
 
 impl Questions {
-    /// No question was put yet.
-    pub fn new() -> Questions
+    /// No question was put yet, and so many may be.
+    pub fn at_most(most: u64) -> Questions
+        ensures most { result.most ≡ most }
         ensures asked { result.asked ≡ 0 }
         ensures failed { result.failed ≡ false }
     {
         Questions {
+            most,
             asked: 0,
             failed: false,
         }
     }
 
-    /// Whether one more may be put: the reader didn't fail, and wasn't asked `READS` times.
+    /// Whether one more may be put: the reader didn't fail, and wasn't asked as often as it may be.
     pub fn are_left(&self) -> bool
-        ensures spent { result ≡ false → (self.now.failed ≡ true) ⊎ (READS ≤ self.now.asked) }
-        ensures left { IsTrue result → self.now.asked < READS }
+        ensures left { result ≡ not (is_spent self.now) }
+        ensures countable { IsTrue result → self.now.asked < self.now.most }
     {
-        !self.failed && self.asked < READS
+        !self.failed && self.asked < self.most
     }
 
-    /// Puts one question.
+    /// Puts one question. It has failed exactly where the answer is an error that is no interruption.
     pub fn ask<R: Read>(&mut self, reader: &mut R, buffer: &mut [u8]) -> io::Result<usize>
-        requires { self.old.asked < READS }
+        requires { self.old.asked < self.old.most }
+        ensures most { self.new.most ≡ self.old.most }
         ensures asked { self.new.asked ≡ self.old.asked + 1 }
         ensures failed { IsTrue self.new.failed
             → IsErrAnd result (λ e. error_kind e ≢ ErrorKind.Interrupted) }

@@ -7,4 +7,4 @@ invariant-loop-buffer g l =
     (vec_len l.bytes ≤ 1048576) × Consumes (g.R.Read.remaining l.fn.reader) (g.R.Read.remaining l.reader) l.bytes.items
 
 abbrev pub decreases-loop-buffer : goal.decreases-loop-buffer
-decreases-loop-buffer g l = 2097154 - l.questions.asked
+decreases-loop-buffer g l = l.questions.most - l.questions.asked

@@ -12,4 +12,4 @@ invariant-loop-reader g l = (bytes : List ℕ)
     × (l.is_long ≡ true → 67108864 < length bytes)
 
 abbrev pub decreases-loop-reader : goal.decreases-loop-reader
-decreases-loop-reader g l = 18446744073709551615 - l.questions.asked
+decreases-loop-reader g l = l.questions.most - l.questions.asked
