@@ -1,5 +1,5 @@
-pub mod Knowing
-pub mod OnePeer
-pub mod Lent
-pub mod Telling
-pub mod Unbegun
+pub mod TalkStateLaws
+pub mod OnePeerLaws
+pub mod LentStationLaws
+pub mod ToldTextLaws
+pub mod UnbegunNodeLaws

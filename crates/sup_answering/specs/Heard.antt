@@ -1,4 +1,4 @@
--- Whose acknowledgements a node has heard (this project): a node holds no list of its peers.
+-- Whose acknowledgements a node has heard (the rule of acknowledgements): a node holds no list of its peers.
 use Rattle.std.specs.Prelude.{◌≡◌, Bool, true, false, List, [], ◌∷◌, ◌++◌, Option, Some, None, Result, Ok, Err, if◌then◌else◌}
 use Rattle.std.specs.List.{list_any}
 use Rattle.std.specs.Str.{bytes_eq}
@@ -26,9 +26,9 @@ abbrev pub IsSender : Bytes → Option Bytes → Type 0
 IsSender bytes peer = (mail : Option (Mail State)) × IsReadAs bytes mail × (peer ≡ sender_in mail)
 
 -- who acknowledges by an act
-abbrev pub Acknowledges : Act → Option Bytes → Type 0
-Acknowledges (Of (Deliver bytes)) peer = IsSender bytes peer
-Acknowledges act peer = peer ≡ None
+abbrev pub AcknowledgesBy : Act → Option Bytes → Type 0
+AcknowledgesBy (Of (Deliver bytes)) peer = IsSender bytes peer
+AcknowledgesBy act peer = peer ≡ None
 
 -- a name among others, once
 abbrev pub with_peer : Option Bytes → List Bytes → List Bytes
@@ -44,7 +44,7 @@ is_acked_at (Ok done) = is_acked done.reply
 is_acked_at (Err refusal) = false
 
 -- the peers behind an act's end: with who acknowledged by it
-abbrev pub Hears : Act → Result Done Refusal → List Bytes → List Bytes → Type 0
-Hears act end before after =
+abbrev pub HearsPeers : Act → Result Done Refusal → List Bytes → List Bytes → Type 0
+HearsPeers act end before after =
     (is_acked_at end ≡ false → after ≡ before)
-    × (is_acked_at end ≡ true → (peer : Option Bytes) × Acknowledges act peer × (after ≡ with_peer peer before))
+    × (is_acked_at end ≡ true → (peer : Option Bytes) × AcknowledgesBy act peer × (after ≡ with_peer peer before))

@@ -1,4 +1,4 @@
 pub mod Heard
-pub mod Answering
-pub mod Serving
-pub mod Beginning
+pub mod AnsweringNodes
+pub mod ServedHosts
+pub mod BegunNodes

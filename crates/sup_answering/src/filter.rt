@@ -1,11 +1,11 @@
 //! A station that answers lines.
 
 ghost use Rattle.std.specs.Prelude.{◌≡◌, IfOk, OnOk};
-ghost use Rattle.sup_station.specs.Stills.{Goes, keeper_of, still_of};
+ghost use Rattle.sup_station.specs.KeptStations.{AnswersAct, keeper_of, kept_station_of};
 ghost use Rattle.sup_node_text.specs.Shown.{show_text, where_text};
 ghost use Rattle.sup_told.specs.Told.{ended_text};
-ghost use Rattle.sup_answering.specs.Heard.{Hears, with_peer};
-ghost use Rattle.sup_answering.specs.Answering.{Answers, IsDone, IsInspectedBy, known, members_of, shown_by};
+ghost use Rattle.sup_answering.specs.Heard.{HearsPeers, with_peer};
+ghost use Rattle.sup_answering.specs.AnsweringNodes.{AnswersAsked, IsDone, IsInspectedBy, known, members_of, shown_by};
 
 use crate::members::members_of;
 use crate::peers::{acknowledger, in_order, is_acked};
@@ -37,8 +37,8 @@ impl<K: ImageKeeper, W: Weigh + Drop> Filter<K, W> {
     ///
     /// Where memory for the text was refused. What is asked for may be done then.
     pub fn answer_asked(&mut self, asked: Option<Asked>) -> Result<Vec<u8>, AllocError>
-        ensures { IfOk result (λ text. Answers W.weight_of (known self.old.name (still_of K.kept self.old.station) self.old.peers.items (K.lost (keeper_of self.old.station))) asked text.items
-            (known self.new.name (still_of K.kept self.new.station) self.new.peers.items (K.lost (keeper_of self.new.station)))) }
+        ensures { IfOk result (λ text. AnswersAsked W.weight_of (known self.old.name (kept_station_of K.kept self.old.station) self.old.peers.items (K.lost (keeper_of self.old.station))) asked text.items
+            (known self.new.name (kept_station_of K.kept self.new.station) self.new.peers.items (K.lost (keeper_of self.new.station)))) }
     {
         match asked {
             None => bad_text(self.alloc),
@@ -53,8 +53,8 @@ impl<K: ImageKeeper, W: Weigh + Drop> Filter<K, W> {
 
     // Does an event, and tells its end.
     fn answer_event(&mut self, event: Event, now: u64) -> Result<Vec<u8>, AllocError>
-        ensures { IfOk result (λ text. IsDone W.weight_of (known self.old.name (still_of K.kept self.old.station) self.old.peers.items (K.lost (keeper_of self.old.station))) event now text.items
-            (known self.new.name (still_of K.kept self.new.station) self.new.peers.items (K.lost (keeper_of self.new.station)))) }
+        ensures { IfOk result (λ text. IsDone W.weight_of (known self.old.name (kept_station_of K.kept self.old.station) self.old.peers.items (K.lost (keeper_of self.old.station))) event now text.items
+            (known self.new.name (kept_station_of K.kept self.new.station) self.new.peers.items (K.lost (keeper_of self.new.station)))) }
     {
         let act = Act::Event(event);
         let end = self.step(&act, now);
@@ -64,7 +64,7 @@ impl<K: ImageKeeper, W: Weigh + Drop> Filter<K, W> {
 
     // As the station's own step, which takes the act.
     fn step(&mut self, act: &Act, now: u64) -> Result<Done, Refusal>
-        ensures goes { Goes W.weight_of (still_of K.kept self.old.station) act.now now result (still_of K.kept self.new.station) }
+        ensures goes { AnswersAct W.weight_of (kept_station_of K.kept self.old.station) act.now now result (kept_station_of K.kept self.new.station) }
         ensures name { self.new.name ≡ self.old.name }
         ensures peers { self.new.peers.items ≡ self.old.peers.items }
     {
@@ -74,7 +74,7 @@ impl<K: ImageKeeper, W: Weigh + Drop> Filter<K, W> {
 
     // Notes who acknowledged by an act that ended so.
     fn hear(&mut self, act: &Act, end: &Result<Done, Refusal>) -> Result<(), AllocError>
-        ensures hears { OnOk result (Hears act.now end.now self.old.peers.items self.new.peers.items) }
+        ensures hears { OnOk result (HearsPeers act.now end.now self.old.peers.items self.new.peers.items) }
         ensures name { self.new.name ≡ self.old.name }
         ensures station { self.new.station ≡ self.old.station }
     {
@@ -101,14 +101,14 @@ impl<K: ImageKeeper, W: Weigh + Drop> Filter<K, W> {
     }
 
     fn show(&self) -> Result<Vec<u8>, AllocError>
-        ensures { IfOk result (λ text. text.items ≡ ended_text (show_text W.weight_of self.now.name (shown_by (still_of K.kept self.now.station)))) }
+        ensures { IfOk result (λ text. text.items ≡ ended_text (show_text W.weight_of self.now.name (shown_by (kept_station_of K.kept self.now.station)))) }
     {
         let lines = show_text(self.alloc, &self.name, self.station.node(), &self.weigher)?;
         ended_text(lines)
     }
 
     fn inspect(&self) -> Result<Vec<u8>, AllocError>
-        ensures { IfOk result (λ text. IsInspectedBy W.weight_of (known self.now.name (still_of K.kept self.now.station) self.now.peers.items (K.lost (keeper_of self.now.station))) text.items) }
+        ensures { IfOk result (λ text. IsInspectedBy W.weight_of (known self.now.name (kept_station_of K.kept self.now.station) self.now.peers.items (K.lost (keeper_of self.now.station))) text.items) }
     {
         let peers = in_order(self.alloc, self.peers.as_slice())?;
         let lines = inspect_text(
@@ -122,14 +122,14 @@ impl<K: ImageKeeper, W: Weigh + Drop> Filter<K, W> {
     }
 
     fn members(&self) -> Result<Vec<u8>, AllocError>
-        ensures { IfOk result (λ text. text.items ≡ ended_text (members_of self.now.name (still_of K.kept self.now.station).node)) }
+        ensures { IfOk result (λ text. text.items ≡ ended_text (members_of self.now.name (kept_station_of K.kept self.now.station).node)) }
     {
         let lines = members_of(self.alloc, &self.name, self.station.node())?;
         ended_text(lines)
     }
 
     fn image(&self) -> Result<Vec<u8>, AllocError>
-        ensures { IfOk result (λ text. text.items ≡ ended_text (ended_text (still_of K.kept self.now.station).kept)) }
+        ensures { IfOk result (λ text. text.items ≡ ended_text (ended_text (kept_station_of K.kept self.now.station).kept)) }
     {
         let mut text = self.station.keeper().stored().to_vec(self.alloc)?;
         text.push(b'\n')?;
@@ -138,7 +138,7 @@ impl<K: ImageKeeper, W: Weigh + Drop> Filter<K, W> {
     }
 
     fn lead(&self, sought: &Name) -> Result<Vec<u8>, AllocError>
-        ensures { IfOk result (λ text. text.items ≡ ended_text (where_text W.weight_of self.now.name (shown_by (still_of K.kept self.now.station)) sought.now)) }
+        ensures { IfOk result (λ text. text.items ≡ ended_text (where_text W.weight_of self.now.name (shown_by (kept_station_of K.kept self.now.station)) sought.now)) }
     {
         let lines = where_text(
             self.alloc,
@@ -152,13 +152,13 @@ impl<K: ImageKeeper, W: Weigh + Drop> Filter<K, W> {
 }
 
 impl<K: ImageKeeper, W: Weigh + Drop> Answerer for Filter<K, W> {
-    ghost use Rattle.sup_station.specs.Stills.{keeper_of, still_of};
-    ghost use Rattle.sup_answering.specs.Answering.{AnswersLine, known};
+    ghost use Rattle.sup_station.specs.KeptStations.{keeper_of, kept_station_of};
+    ghost use Rattle.sup_answering.specs.AnsweringNodes.{AnswersLine, known};
 
     ghost over = { λ f. K.lost (keeper_of f.station) };
 
-    ghost answers = { λ s heard text t. AnswersLine W.weight_of (known s.name (still_of K.kept s.station) s.peers.items (K.lost (keeper_of s.station))) heard text
-        (known t.name (still_of K.kept t.station) t.peers.items (K.lost (keeper_of t.station))) };
+    ghost answers = { λ s heard text t. AnswersLine W.weight_of (known s.name (kept_station_of K.kept s.station) s.peers.items (K.lost (keeper_of s.station))) heard text
+        (known t.name (kept_station_of K.kept t.station) t.peers.items (K.lost (keeper_of t.station))) };
 
     fn answer(&mut self, line: Option<&[u8]>) -> Result<Vec<u8>, AllocError> {
         let asked = match line {

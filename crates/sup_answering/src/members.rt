@@ -4,7 +4,7 @@ ghost use Rattle.std.specs.Prelude.{◌≡◌, IfOk, string_bytes};
 ghost use Rattle.sup_node.specs.Contents.{station_of};
 ghost use Rattle.sup_node_text.specs.Inspected.{node_at};
 ghost use Rattle.sup_node_text.specs.Shown.{down_text};
-ghost use Rattle.sup_answering.specs.Answering.{members_of, members_text};
+ghost use Rattle.sup_answering.specs.AnsweringNodes.{members_of, members_text};
 
 use std::alloc::{AllocError, Global};
 use sup_node::Node;

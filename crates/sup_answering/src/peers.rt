@@ -3,7 +3,7 @@
 ghost use Rattle.std.specs.Prelude.{◌≡◌, Some, IfOk, IsPermutation, IsSorted};
 ghost use Rattle.sup_specs.specs.Values.{text_cmp};
 ghost use Rattle.sup_node.specs.Texts.{mail_of};
-ghost use Rattle.sup_answering.specs.Heard.{Acknowledges, IsSender, is_acked_at, sender_in};
+ghost use Rattle.sup_answering.specs.Heard.{AcknowledgesBy, IsSender, is_acked_at, sender_in};
 
 use std::alloc::{AllocError, Global};
 use sup_replica::{Act, Done, Event, Refusal, Reply};
@@ -25,7 +25,7 @@ pub(crate) fn is_acked(end: &Result<Done, Refusal>) -> bool
 
 // Who acknowledges by an act.
 pub(crate) fn acknowledger(alloc: Global, act: &Act) -> Result<Option<NodeName>, AllocError>
-    ensures { IfOk result (λ peer. Acknowledges act.now peer) }
+    ensures { IfOk result (λ peer. AcknowledgesBy act.now peer) }
 {
     match act {
         Act::Event(Event::Deliver(bytes)) => sender_of(alloc, bytes.as_slice()),

@@ -23,7 +23,7 @@ use Rattle.sup_keeper.specs.Keeping.{most}
 use Rattle.sup_node.specs.Texts.{IsReadAs, IsMessageText, message_of, mail_of as mail_read}
 use Rattle.sup_node.proofs.PlanLaws.{named_itself, named_same}
 use Rattle.sup_node_gate.specs.declared.entry.Entry.{Entry}
-use Rattle.sup_node_gate.specs.Histories.{Answer}
+use Rattle.sup_node_gate.specs.Histories.{StationAnswer}
 use Rattle.sup_model.specs.declared.step.Step.{Step}
 use Rattle.sup_model.specs.declared.step.Step.TheVariants.{Node as AtNode, Deliver as Delivery, Raw}
 use Rattle.sup_model.specs.Posts.{Post, Real, RealAnswer, RealStepped, reads, post_of, mail_of, real_step, real_after}
@@ -31,20 +31,20 @@ use Rattle.sup_model.specs.Refines.{real_answer_of}
 use Rattle.sup_model.specs.Follows.{Makes}
 use Rattle.sup_model.proofs.Afters.{After}
 use Rattle.sup_world.specs.declared.answer.Answer.{Answer as Told}
-use Rattle.sup_world.specs.Carrying.{brings_bytes, failures_at}
-use Rattle.sup_world.specs.Following.{Steps}
+use Rattle.sup_world.specs.CarriedSteps.{brings_bytes, failures_at}
+use Rattle.sup_world.specs.FollowedSteps.{MakesRealStep}
 use Rattle.sup_world.specs.Moves.{ReadsIn}
 use Rattle.sup_world.specs.Runs.{StepGoes}
-use Rattle.sup_world.specs.Seen.{Seen}
-use Rattle.sup_world.specs.Telling.{Shows, TellsOf}
+use Rattle.sup_world.specs.SeenNodes.{SeenNode}
+use Rattle.sup_world.specs.ToldAnswers.{ShowsReal, TellsOf}
 use Rattle.sup_world.specs.Alone.{names_in, mail_sent, as_read, alone, post_by, world_by}
-use Rattle.sup_world.proofs.Acting.{reads_none}
+use Rattle.sup_world.proofs.NodeActLaws.{reads_none}
 use Rattle.sup_world.proofs.AloneLaws.{acts, act_alone, mail_alone, raw_alone, after_alone, there_by_name}
 use Rattle.sup_world.proofs.NameLaws.{StaysNamed}
-use Rattle.sup_world.proofs.Localities.{names_by, weigher_by, codec_by, own_by, other_by, name_is, mail_there, alone_named}
-use Rattle.sup_certify.specs.Orders.{Placed, of_node}
+use Rattle.sup_world.proofs.LocalityLaws.{names_by, weigher_by, codec_by, own_by, other_by, name_is, mail_there, alone_named}
+use Rattle.sup_certify.specs.Orders.{PlacedEntry, of_node}
 use Rattle.sup_certify.specs.Certified.{IsStepOf, IsRunBy, answer_of}
-use Rattle.sup_certify.proofs.Exchanges.{Begins, of_node_both, of_one, of_none}
+use Rattle.sup_certify.proofs.OrderExchangeLaws.{Begins, of_node_both, of_one, of_none}
 use Rattle.sup_certify.proofs.FailureLaws.{named_in, FailedBy, failed_more, stand_named, carried_here}
 use Rattle.sup_certify.proofs.ReplayLaws.{IsSaidBy, by_itself, Replayed, replayed_both, replayed_split, replayed_one, replayed_mail}
 use Rattle.sup_certify.proofs.TextLaws.{mail_is_sent, known_step}
@@ -89,7 +89,7 @@ module _ (g : Weigher) (names : List Bytes) where
     pub deaf : (bytes : Bytes) → reads w.codec bytes ≡ false
 
   -- the entry's node has answered so, by itself; bytes that came were sent before, or are no message
-  pub record Acted (w : Real State) (p : Placed) (answer : Answer) (w' : Real State) : Type 0 where
+  pub record Acted (w : Real State) (p : PlacedEntry) (answer : StationAnswer) (w' : Real State) : Type 0 where
     pub post : Post State
     pub there : post_of w p.node ≡ Some post
     pub read : Option (Mail State)
@@ -98,20 +98,20 @@ module _ (g : Weigher) (names : List Bytes) where
     pub said : IsSaidBy (by_itself g names post.station p.entry read) answer
     pub after : w' ≡ world_by w post (by_itself g names post.station p.entry read)
 
-  pub record ActedTo (w : Real State) (p : Placed) (answer : Answer) (sites : List Seen) : Type 0 where
+  pub record ActedTo (w : Real State) (p : PlacedEntry) (answer : StationAnswer) (sites : List SeenNode) : Type 0 where
     pub world : Real State
     pub acted : Acted w p answer world
-    pub shows : Shows g sites world
+    pub shows : ShowsReal g sites world
 
   pub node_there : (w : Real State) (name : Bytes) → Framed w → list_any (is_named name) names ≡ true → (post : Post State) × (post_of w name ≡ Some post)
   node_there w name f e = some_there (post_of w name) (there_by_name w name ∙ ap (list_any (is_named name)) f.names_are ∙ e)
 
-  module _ (w : Real State) (f : Framed w) (p : Placed) (post : Post State) (there : post_of w p.node ≡ Some post) where
+  module _ (w : Real State) (f : Framed w) (p : PlacedEntry) (post : Post State) (there : post_of w p.node ≡ Some post) where
     abbrev in_world : Act → Option (Mail State) → Result (Move State) Refusal
     in_world act read = alone by_tables w.weigher (names_in w) post.station act p.entry.now p.entry.saved read
 
-    acted_as : (told : Result Told Refusal) (sites : List Seen) (step : Step) (read : Option (Mail State)) → ReadsIn p.entry.act read → ((text : Bytes) → p.entry.act ≡ Of (Brings text) → IsReadAs text None ⊎ IsSentIn w text)
-        → real_step by_tables w step ≡ then_do (in_world p.entry.act read) (acts w post) → TellsOf (real_answer_of (real_step by_tables w step)) told → Shows g sites (real_after by_tables w (real_step by_tables w step))
+    acted_as : (told : Result Told Refusal) (sites : List SeenNode) (step : Step) (read : Option (Mail State)) → ReadsIn p.entry.act read → ((text : Bytes) → p.entry.act ≡ Of (Brings text) → IsReadAs text None ⊎ IsSentIn w text)
+        → real_step by_tables w step ≡ then_do (in_world p.entry.act read) (acts w post) → TellsOf (real_answer_of (real_step by_tables w step)) told → ShowsReal g sites (real_after by_tables w (real_step by_tables w step))
         → ActedTo w p (answer_of told) sites
     acted_as told sites step read is came e tells shows =
         let x = by_itself g names post.station p.entry read in
@@ -131,8 +131,8 @@ module _ (g : Weigher) (names : List Bytes) where
           shows = shows;
         }
 
-    entry_acted : (before : List Seen) → Shows g before w → (told : Result Told Refusal) (sites : List Seen) (step : Step) → IsStepOf before p step → TellsOf (real_answer_of (real_step by_tables w step)) told
-        → Shows g sites (real_after by_tables w (real_step by_tables w step)) → ActedTo w p (answer_of told) sites
+    entry_acted : (before : List SeenNode) → ShowsReal g before w → (told : Result Told Refusal) (sites : List SeenNode) (step : Step) → IsStepOf before p step → TellsOf (real_answer_of (real_step by_tables w step)) told
+        → ShowsReal g sites (real_after by_tables w (real_step by_tables w step)) → ActedTo w p (answer_of told) sites
     entry_acted before seen told sites (AtNode at act now saves) s tells shows =
         let dry : brings_bytes p.entry.act ≡ false = subst (λ (a : Act). brings_bytes a ≡ false) s.is_act s.dry in
         let step : AtNode at act now saves ≡ AtNode p.node p.entry.act p.entry.now p.entry.saved = λ i. AtNode (s.at_node i) (s.is_act i) (s.at_moment i) (s.is_saved i) in
@@ -153,22 +153,22 @@ module _ (g : Weigher) (names : List Bytes) where
         (ap (real_step by_tables w) step ∙ raw_alone by_tables w post p.node bytes p.entry.now p.entry.saved there (f.deaf bytes) ∙ ap (λ (a : Act). then_do (in_world a None) (acts w post)) (sym s.brings)) tells shows
 
   -- a step of the code's world, want of memory aside
-  pub step_acted : (w : Real State) → Framed w → (before sites : List Seen) → Shows g before w → (p : Placed) (step : Step) (told : Result Told Refusal) → IsStepOf before p step → StepGoes g before step told sites → told ≢ Err NoMemory → failures_at before p.node < most
+  pub step_acted : (w : Real State) → Framed w → (before sites : List SeenNode) → ShowsReal g before w → (p : PlacedEntry) (step : Step) (told : Result Told Refusal) → IsStepOf before p step → StepGoes g before step told sites → told ≢ Err NoMemory → failures_at before p.node < most
       → list_any (is_named p.node) names ≡ true → ActedTo w p (answer_of told) sites
   step_acted w f before sites seen p step told s goes room can among = by made.makes
     where
       post : (post : Post State) × (post_of w p.node ≡ Some post)
       post = node_there w p.node f among
 
-      made : Steps g w step told sites
-      made = subst (λ (x : Step). Steps g w x told sites) (carried_here before p step s can) (goes.steps w seen (known_step w f.deaf before p step s))
+      made : MakesRealStep g w step told sites
+      made = subst (λ (x : Step). MakesRealStep g w x told sites) (carried_here before p step s can) (goes.steps w seen (known_step w f.deaf before p step s))
 
       by : Makes w step made.told made.after → ActedTo w p (answer_of told) sites
       by (inl m) =
-          entry_acted w f p post.0 post.1 before seen told sites step s (subst (λ (t : Result (RealAnswer State) Refusal). TellsOf t told) m.0 made.tells) (subst (λ (r : Real State). Shows g sites r) m.1 made.shows)
+          entry_acted w f p post.0 post.1 before seen told sites step s (subst (λ (t : Result (RealAnswer State) Refusal). TellsOf t told) m.0 made.tells) (subst (λ (r : Real State). ShowsReal g sites r) m.1 made.shows)
       by (inr m) = absurd (no_memory told (subst (λ (t : Result (RealAnswer State) Refusal). TellsOf t told) m.0 made.tells) room)
 
-  pub framed_after : (w w' : Real State) (p : Placed) (answer : Answer) → Framed w → Acted w p answer w' → Framed w'
+  pub framed_after : (w w' : Real State) (p : PlacedEntry) (answer : StationAnswer) → Framed w → Acted w p answer w' → Framed w'
   framed_after w w' p answer f a =
       let x = by_itself g names a.post.station p.entry a.read in
       record {
@@ -178,29 +178,29 @@ module _ (g : Weigher) (names : List Bytes) where
       }
 
   -- ---- a run
-  abbrev pub RunsTo : Real State → List Placed → Real State → Type 0
+  abbrev pub RunsTo : Real State → List PlacedEntry → Real State → Type 0
   RunsTo w [] w' = w' ≡ w
   RunsTo w (p ∷ order) w' = (mid : Real State) × Acted w p p.entry.answer mid × RunsTo mid order w'
 
-  pub runs_framed : (w : Real State) (order : List Placed) (w' : Real State) → Framed w → RunsTo w order w' → Framed w'
+  pub runs_framed : (w : Real State) (order : List PlacedEntry) (w' : Real State) → Framed w → RunsTo w order w' → Framed w'
   runs_framed w [] w' f h = subst Framed (sym h) f
   runs_framed w (p ∷ order) w' f h = runs_framed h.0 order w' (framed_after w h.0 p p.entry.answer f h.1) h.2
 
-  pub runs_split : (w : Real State) (order more : List Placed) (w' : Real State) → RunsTo w (order ++ more) w' → (mid : Real State) × RunsTo w order mid × RunsTo mid more w'
+  pub runs_split : (w : Real State) (order more : List PlacedEntry) (w' : Real State) → RunsTo w (order ++ more) w' → (mid : Real State) × RunsTo w order mid × RunsTo mid more w'
   runs_split w [] more w' h = (w, refl, h)
   runs_split w (p ∷ order) more w' h = let rest = runs_split h.0 order more w' h.2 in (rest.0, (h.0, h.1, rest.1), rest.2)
 
   -- a run of the code's world is one
-  pub record RunDone (w : Real State) (done order : List Placed) (sites : List Seen) : Type 0 where
+  pub record RunDone (w : Real State) (done order : List PlacedEntry) (sites : List SeenNode) : Type 0 where
     pub world : Real State
     pub runs : RunsTo w order world
-    pub shows : Shows g sites world
+    pub shows : ShowsReal g sites world
     pub failed : FailedBy (done ++ order) sites
 
-  abbrev Fits : List Placed → Type 0
+  abbrev Fits : List PlacedEntry → Type 0
   Fits order = (name : Bytes) → length (of_node name order) ≤ most
 
-  fits_here : (done order : List Placed) (p : Placed) (sites : List Seen) → Fits (done ++ p ∷ order) → FailedBy done sites → failures_at sites p.node < most
+  fits_here : (done order : List PlacedEntry) (p : PlacedEntry) (sites : List SeenNode) → Fits (done ++ p ∷ order) → FailedBy done sites → failures_at sites p.node < most
   fits_here done order p sites fits failed =
       let parts : length (of_node p.node (done ++ p ∷ order)) ≡ length (of_node p.node done) + length (p.entry ∷ of_node p.node order) =
       ap length (of_node_both p.node done (p ∷ order) ∙ ap (λ es. of_node p.node done ++ es) (of_node_both p.node (p ∷ []) order ∙ ap (λ es. es ++ of_node p.node order) (of_one p.node p (named_itself p.node))))
@@ -209,21 +209,21 @@ module _ (g : Weigher) (names : List Bytes) where
       let few = failed p.node in
       omega (arith, parts, le, few)
 
-  pub run_acted : (done : List Placed) (w : Real State) → Framed w → (before : List Seen) → Shows g before w → FailedBy done before → (order : List Placed) (steps : List Step) (sites : List Seen) → Fits (done ++ order)
-      → AllByRecursion (λ (p : Placed). list_any (is_named p.node) names ≡ true) order → IsRunBy g before order steps sites → RunDone w done order sites
+  pub run_acted : (done : List PlacedEntry) (w : Real State) → Framed w → (before : List SeenNode) → ShowsReal g before w → FailedBy done before → (order : List PlacedEntry) (steps : List Step) (sites : List SeenNode) → Fits (done ++ order)
+      → AllByRecursion (λ (p : PlacedEntry). list_any (is_named p.node) names ≡ true) order → IsRunBy g before order steps sites → RunDone w done order sites
   run_acted done w f before seen failed [] [] sites fits among h =
       record {
         world = w;
         runs = refl;
-        shows = subst (λ (s : List Seen). Shows g s w) (sym h) seen;
-        failed = subst (λ (o : List Placed). FailedBy o sites) (sym (append-nil done)) (subst (FailedBy done) (sym h) failed);
+        shows = subst (λ (s : List SeenNode). ShowsReal g s w) (sym h) seen;
+        failed = subst (λ (o : List PlacedEntry). FailedBy o sites) (sym (append-nil done)) (subst (FailedBy done) (sym h) failed);
       }
   run_acted done w f before seen failed [] (step ∷ steps) sites fits among h = absurd h
   run_acted done w f before seen failed (p ∷ order) [] sites fits among h = absurd h
   run_acted done w f before seen failed (p ∷ order) (step ∷ steps) sites fits among h =
       let m = h.1 in
       let one : ActedTo w p (answer_of m.answer) h.0 = step_acted w f before h.0 seen p step m.answer m.is_step m.goes m.had_room (fits_here done order p before fits failed) among.0 in
-      let acted : Acted w p p.entry.answer one.world = subst (λ (a : Answer). Acted w p a one.world) m.says one.acted in
+      let acted : Acted w p p.entry.answer one.world = subst (λ (a : StationAnswer). Acted w p a one.world) m.says one.acted in
       let framed : Framed one.world = framed_after w one.world p p.entry.answer f acted in
       let named : named_in h.0 ≡ named_in before = stand_named h.0 one.world.posts one.shows.sites_stand ∙ framed.names_are ∙ sym (stand_named before w.posts seen.sites_stand ∙ f.names_are) in
       let parts : (done ++ p ∷ []) ++ order ≡ done ++ p ∷ order = append_assoc done (p ∷ []) order in
@@ -233,17 +233,17 @@ module _ (g : Weigher) (names : List Bytes) where
         world = rest.world;
         runs = (one.world, acted, rest.runs);
         shows = rest.shows;
-        failed = subst (λ (o : List Placed). FailedBy o sites) parts rest.failed;
+        failed = subst (λ (o : List PlacedEntry). FailedBy o sites) parts rest.failed;
       }
 
   -- ---- what a node is after it
-  stays_named : (w w' : Real State) (p : Placed) (answer : Answer) (a : Acted w p answer w') → After (StaysNamed a.post.station) (by_itself g names a.post.station p.entry a.read)
+  stays_named : (w w' : Real State) (p : PlacedEntry) (answer : StationAnswer) (a : Acted w p answer w') → After (StaysNamed a.post.station) (by_itself g names a.post.station p.entry a.read)
   stays_named w w' p answer a = alone_named by_tables g names a.post.station p.entry.act p.entry.now p.entry.saved a.read
 
   abbrev Becomes : Real State → Bytes → Post State → List Entry → Type 0
   Becomes w name old es = (new : Post State) × (post_of w name ≡ Some new) × Replayed g names old es new
 
-  one_becomes : (w w' : Real State) (p : Placed) → Acted w p p.entry.answer w' → (name : Bytes) (old : Post State) → post_of w name ≡ Some old → Becomes w' name old (of_node name (p ∷ []))
+  one_becomes : (w w' : Real State) (p : PlacedEntry) → Acted w p p.entry.answer w' → (name : Bytes) (old : Post State) → post_of w name ≡ Some old → Becomes w' name old (of_node name (p ∷ []))
   one_becomes w w' p a name old e =
       let x = by_itself g names a.post.station p.entry a.read in
       elim (is_named name p.node) as (λ b. is_named name p.node ≡ b → Becomes w' name old (of_node name (p ∷ []))) [
@@ -261,7 +261,7 @@ module _ (g : Weigher) (names : List Bytes) where
       ] refl
 
   -- a node becomes what its own entries make of it
-  pub becomes : (w : Real State) (order : List Placed) (w' : Real State) → RunsTo w order w' → (name : Bytes) (old : Post State) → post_of w name ≡ Some old → Becomes w' name old (of_node name order)
+  pub becomes : (w : Real State) (order : List PlacedEntry) (w' : Real State) → RunsTo w order w' → (name : Bytes) (old : Post State) → post_of w name ≡ Some old → Becomes w' name old (of_node name order)
   becomes w [] w' h name old e = (old, ap (λ (v : Real State). post_of v name) h ∙ e, refl)
   becomes w (p ∷ order) w' h name old e =
       let one = one_becomes w h.0 p h.1 name old e in
@@ -270,7 +270,7 @@ module _ (g : Weigher) (names : List Bytes) where
 
   -- ---- and its messages
   -- what was sent in a run was sent in each run that comes further at every node
-  pub sent_further : (w : Real State) → Framed w → (less more : List Placed) (v u : Real State) → RunsTo w less v → RunsTo w more u → Begins less more → (from : Bytes) (k : ℕ) (mail : Mail State) → mail_sent v from k ≡ Some mail
+  pub sent_further : (w : Real State) → Framed w → (less more : List PlacedEntry) (v u : Real State) → RunsTo w less v → RunsTo w more u → Begins less more → (from : Bytes) (k : ℕ) (mail : Mail State) → mail_sent v from k ≡ Some mail
       → mail_sent u from k ≡ Some mail
   sent_further w f less more v u hv hu begins from k mail e =
       let sender = mail_there (post_of v from) k mail e in

@@ -10,21 +10,21 @@ use Rattle.sup_replica.specs.declared.refusal.Refusal.{Refusal}
 use Rattle.sup_plan.specs.declared.histories.History.{History}
 use Rattle.sup_model.specs.declared.step.Step.{Step}
 use Rattle.sup_world.specs.declared.answer.Answer.{Answer as Told}
-use Rattle.sup_world.specs.Runs.{Ran}
-use Rattle.sup_world.specs.Seen.{Seen}
-use Rattle.sup_world.proofs.Reaching.{reached_new, leads_on}
-use Rattle.sup_certify.specs.Orders.{Placed}
+use Rattle.sup_world.specs.Runs.{RanSteps}
+use Rattle.sup_world.specs.SeenNodes.{SeenNode}
+use Rattle.sup_world.proofs.ReachedWorldLaws.{reached_new, leads_on}
+use Rattle.sup_certify.specs.Orders.{PlacedEntry}
 use Rattle.sup_certify.specs.Certified.{IsRunBy, MakeRun, answer_of}
 use Rattle.sup_certify.specs.Follows.{KnowsAll, HasHeadline}
 
 module _ (g : Weigher) where
   -- a run's answers
-  pub record Answered (start : List Seen) (order : List Placed) (steps : List Step) (sites : List Seen) : Type 0 where
+  pub record Answered (start : List SeenNode) (order : List PlacedEntry) (steps : List Step) (sites : List SeenNode) : Type 0 where
     pub told : List (Result Told Refusal)
-    pub said : AllZip (λ (t : Result Told Refusal) (p : Placed). answer_of t ≡ p.entry.answer) told order
-    pub ran : Ran g start steps told sites
+    pub said : AllZip (λ (t : Result Told Refusal) (p : PlacedEntry). answer_of t ≡ p.entry.answer) told order
+    pub ran : RanSteps g start steps told sites
 
-  answered : (start : List Seen) (order : List Placed) (steps : List Step) (sites : List Seen) → IsRunBy g start order steps sites → Answered start order steps sites
+  answered : (start : List SeenNode) (order : List PlacedEntry) (steps : List Step) (sites : List SeenNode) → IsRunBy g start order steps sites → Answered start order steps sites
   answered start [] [] sites h = record { told = []; said = tt; ran = h }
   answered start [] (step ∷ steps) sites h = absurd h
   answered start (p ∷ order) [] sites h = absurd h
@@ -32,7 +32,7 @@ module _ (g : Weigher) where
       let rest = answered h.0 order steps sites h.2 in
       record { told = h.1.answer ∷ rest.told; said = (h.1.says, rest.said); ran = (h.0, h.1.goes, rest.ran) }
 
-  pub run_headline : (config : Config) (names : List Bytes) (hs : List History) (steps : List Step) (sites : List Seen) (is_message : Bytes → Bool) → MakeRun g config names hs steps sites → length steps ≤ most → KnowsAll is_message steps
+  pub run_headline : (config : Config) (names : List Bytes) (hs : List History) (steps : List Step) (sites : List SeenNode) (is_message : Bytes → Bool) → MakeRun g config names hs steps sites → length steps ≤ most → KnowsAll is_message steps
       → HasHeadline g config names is_message hs steps sites
   run_headline config names hs steps sites is_message r le k =
       let a = answered r.start r.order steps sites r.is_run in

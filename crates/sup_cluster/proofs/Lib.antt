@@ -1,3 +1,3 @@
-pub mod Sublists
-pub mod Returning
-pub mod Finishing
+pub mod HistorySublistLaws
+pub mod ReturnedTeamLaws
+pub mod FinishedRunLaws

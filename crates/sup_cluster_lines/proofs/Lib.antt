@@ -1,1 +1,1 @@
-pub mod Linked
+pub mod LinkSearchLaws

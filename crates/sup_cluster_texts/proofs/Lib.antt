@@ -1,4 +1,4 @@
-mod Chosen
-mod ReadNodes
-mod ReadLines
-mod ReadPlans
+mod ChoiceLaws
+mod ReadNodeLaws
+mod ReadLineLaws
+mod ReadPlanLaws

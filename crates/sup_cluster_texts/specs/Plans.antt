@@ -1,4 +1,4 @@
--- The plan that an input says (this project).
+-- The plan that an input says.
 use Rattle.std.specs.Prelude.{◌≡◌, ◌≤◌, ℕ, List, length, map, Ok, Err}
 use Rattle.sup_replica.specs.Configs.{Config}
 use Rattle.sup_jobs.specs.declared.fault.Fault.{Fault}
@@ -16,7 +16,7 @@ pub record IsPlanOf (setting : Config) (script : List Name × Asked) (plan : Pla
   pub commands : plan.commands.items ≡ script.1.1
 
 -- the input isn't too long, and says this plan of nodes with this setting
-pub record Says (config : Config) (input : List ℕ) (plan : Plan) : Type 0 where
+pub record SaysPlan (config : Config) (input : List ℕ) (plan : Plan) : Type 0 where
   pub short : length input ≤ 1048576
   pub script : List Name × Asked
   pub read : plan_script_of input ≡ Ok script

@@ -3,7 +3,7 @@
 ghost use Rattle.std.specs.Prelude.{◌≤◌, IfErr, IfOk, length};
 ghost use Rattle.sup_plan.specs.Plans.{IsPlan};
 ghost use Rattle.sup_cluster_lines.specs.Scripts.{asked_in};
-ghost use Rattle.sup_cluster_texts.specs.Plans.{IsPlanOf, IsReadFault, Says};
+ghost use Rattle.sup_cluster_texts.specs.Plans.{IsPlanOf, IsReadFault, SaysPlan};
 
 use std::alloc::Global;
 use sup_cluster_lines::{PlanScript, read_plan_script};
@@ -19,7 +19,7 @@ use sup_replica::Config;
 /// `BadLine` with the number of the first bad line; `OutOfMemory`.
 pub fn read_plan(alloc: Global, config: Config, input: &[u8]) -> Result<Plan, Fault>
     requires { length input.now ≤ LIMIT }
-    ensures says { IfOk result (Says config input.now) }
+    ensures says { IfOk result (SaysPlan config input.now) }
     ensures runs { IfOk result IsPlan }
     ensures fault { IfErr result (IsReadFault input.now) }
 {

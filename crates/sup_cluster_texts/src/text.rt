@@ -2,7 +2,7 @@
 
 ghost use Rattle.std.specs.Prelude.{◌≡◌, IfOk, string_bytes};
 ghost use Rattle.std.specs.List.{flat_map};
-ghost use Rattle.sup_world.specs.Seen.{sites_of};
+ghost use Rattle.sup_world.specs.SeenNodes.{sites_of};
 ghost use Rattle.sup_node_text.specs.Inspected.{node_at};
 ghost use Rattle.sup_node_text.specs.Shown.{down_text};
 ghost use Rattle.sup_cluster_texts.specs.Texts.{cluster_text, named_text, node_text};

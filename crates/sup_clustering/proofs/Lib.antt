@@ -1,2 +1,2 @@
-mod Ended
-mod Judged
+mod EndedClusterLaws
+mod JudgedHistoryLaws

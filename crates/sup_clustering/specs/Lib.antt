@@ -1,2 +1,2 @@
-pub mod Certifying
-pub mod Clustering
+pub mod CertifiedPlans
+pub mod ClusterRuns

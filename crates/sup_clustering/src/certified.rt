@@ -2,8 +2,8 @@
 
 ghost use Rattle.std.specs.Prelude.{◌≡◌, ◌≢◌, Err, IfErr, IfOk, MatchResult, string_bytes};
 ghost use Rattle.sup_plan.specs.Plans.{IsPlan};
-ghost use Rattle.sup_world.specs.Seen.{sites_of};
-ghost use Rattle.sup_clustering.specs.Certifying.{IsCertified, IsRefused, IsUncertified, PrintsCluster, SettlesFrom};
+ghost use Rattle.sup_world.specs.SeenNodes.{sites_of};
+ghost use Rattle.sup_clustering.specs.CertifiedPlans.{IsCertified, IsRefused, IsUncertified, PrintsCluster, SettlesFrom};
 ghost use Rattle.sup_cluster_texts.specs.Faults.{judged_as};
 
 use std::alloc::Global;

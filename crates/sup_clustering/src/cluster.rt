@@ -2,7 +2,7 @@
 
 ghost use Rattle.std.specs.Prelude.{◌≡◌, ◌≤◌, ◌+◌, length, Ok, Err, IfSome};
 ghost use Rattle.sup_jobs.specs.Ends.{TakesAtMost};
-ghost use Rattle.sup_clustering.specs.Clustering.{Clusters, ClustersTo, PrintsShort, TakesFor};
+ghost use Rattle.sup_clustering.specs.ClusterRuns.{RunsCluster, ClustersTo, PrintsShort, TakesFor};
 
 use crate::certified::plan_text;
 use std::alloc::Global;
@@ -32,7 +32,7 @@ pub fn run_cluster<
     writer: &mut W,
     errors: &mut E,
 ) -> Ended
-    ensures clusters { Clusters G.weight_of config (R.remaining reader.old) (R.remaining reader.new)
+    ensures clusters { RunsCluster G.weight_of config (R.remaining reader.old) (R.remaining reader.new)
         (W.contents writer.old) (W.contents writer.new) (E.contents errors.old)
         (E.contents errors.new) result }
     // The error writer can't fail at a good end, of which nothing is told.

@@ -1,4 +1,4 @@
--- The picture of a script (this project): its lines are played from a new world, and what the log has of them is drawn.
+-- The picture of a script: its lines are played from a new world, and what the log has of them is drawn.
 use Rattle.std.specs.Prelude.{◌≡◌, ℕ, List, []}
 use Rattle.sup_specs.specs.Values.{Bytes}
 use Rattle.sup_placement.specs.Place.{Weigher}
@@ -9,8 +9,8 @@ use Rattle.sup_replica.specs.Stations.{Codec}
 use Rattle.sup_lines.specs.declared.line.Line.{Line}
 use Rattle.sup_model.specs.Posts.{real_new}
 use Rattle.sup_world.specs.Newness.{setting_in}
-use Rattle.sup_world.specs.Seen.{Seen}
-use Rattle.sup_world.specs.Telling.{Shows}
+use Rattle.sup_world.specs.SeenNodes.{SeenNode}
+use Rattle.sup_world.specs.ToldAnswers.{ShowsReal}
 use Rattle.sup_picture.specs.declared.picture.Picture.{Picture}
 use Rattle.sup_picture.specs.Arrows.{arrows_of}
 use Rattle.sup_picture.specs.Children.{children_of}
@@ -32,10 +32,10 @@ pub record IsPictureOf (names : List Bytes) (n : Noted) (picture : Picture) : Ty
   pub gaps : picture.gaps.items ≡ gaps_of n.changes
 
 -- a new world of these nodes; the lines, played from there; and the text of the picture of what was noted
-pub record Draws (weigher : Weigher) (config : Config) (names : List Bytes) (captions : Captions) (lines : List Line) (text : List ℕ) : Type 0 where
-  pub sites : List Seen
-  pub opens : (codec : Codec State) → Shows weigher sites (real_new by_tables (setting_in weigher config) config.buffer codec names)
-  pub after : List Seen
+pub record DrawsScript (weigher : Weigher) (config : Config) (names : List Bytes) (captions : Captions) (lines : List Line) (text : List ℕ) : Type 0 where
+  pub sites : List SeenNode
+  pub opens : (codec : Codec State) → ShowsReal weigher sites (real_new by_tables (setting_in weigher config) config.buffer codec names)
+  pub after : List SeenNode
   pub noted : Noted
   pub goes : LinesGo weigher captions sites nothing_noted lines after noted
   pub picture : Picture

@@ -1,4 +1,4 @@
--- What the lines of a script leave in a log (this project): the world makes their steps, and the log has what each was answered.
+-- What the lines of a script leave in a log: the world makes their steps, and the log has what each was answered.
 use Rattle.std.specs.Prelude.{◌≡◌, ℕ, false, List, [], ◌∷◌, length, map, slice_get, unwrap_or, Result, Ok, Err}
 use Rattle.std.specs.List.{AllZip}
 use Rattle.std.specs.Option.{option_map}
@@ -11,11 +11,11 @@ use Rattle.sup_model.specs.declared.step.Step.{Step}
 use Rattle.sup_model.specs.Worlds.{World as Model}
 use Rattle.sup_world.specs.declared.answer.Answer.{Answer}
 use Rattle.sup_world.specs.declared.settled.Settled.{Settled}
-use Rattle.sup_world.specs.Carrying.{has_bytes}
-use Rattle.sup_world.specs.Following.{StandsFor}
+use Rattle.sup_world.specs.CarriedSteps.{has_bytes}
+use Rattle.sup_world.specs.FollowedSteps.{StandsFor}
 use Rattle.sup_world.specs.Runs.{StepGoes}
-use Rattle.sup_world.specs.Seen.{Seen, FailedNoMore}
-use Rattle.sup_world.specs.Settling.{SettlesTo}
+use Rattle.sup_world.specs.SeenNodes.{SeenNode, FailedNoMore}
+use Rattle.sup_world.specs.SettledSites.{SettlesTo}
 use Rattle.sup_noting.specs.Noted.{Noted, answered, refused, settled, unsettled, looked}
 
 -- the lines of a script behind that of its nodes, each with its number
@@ -52,25 +52,25 @@ IsDry (line.Message name k) = Unit {0}
 
 module _ (weigher : Weigher) where
   -- the world makes the step, and the log has its answer
-  pub record StepNoted (caption : List ℕ) (sites : List Seen) (n : Noted) (step : Step) (new : List Seen) (n' : Noted) : Type 0 where
+  pub record StepNoted (caption : List ℕ) (sites : List SeenNode) (n : Noted) (step : Step) (new : List SeenNode) (n' : Noted) : Type 0 where
     pub answer : Result Answer Refusal
     pub goes : StepGoes weigher sites step answer new
     pub noted : n' ≡ with_answer n caption step answer
 
   -- the world settles, and the log has what that told
-  pub record SettlingNoted (caption : List ℕ) (sites : List Seen) (n : Noted) (new : List Seen) (n' : Noted) : Type 0 where
+  pub record SettlingNoted (caption : List ℕ) (sites : List SeenNode) (n : Noted) (new : List SeenNode) (n' : Noted) : Type 0 where
     pub told : Result Settled Refusal
     pub goes : (model : Model) → StandsFor weigher sites model → SettlesTo weigher model told new
     pub counted : AllZip FailedNoMore sites new
     pub noted : n' ≡ with_settling n caption told
 
   -- the world stays, and the log has a row
-  pub record LookNoted (caption : List ℕ) (sites : List Seen) (n : Noted) (new : List Seen) (n' : Noted) : Type 0 where
+  pub record LookNoted (caption : List ℕ) (sites : List SeenNode) (n : Noted) (new : List SeenNode) (n' : Noted) : Type 0 where
     pub stays : new ≡ sites
     pub noted : n' ≡ looked n caption
 
   -- From this world and log a line leads to that world and log. To look is no step.
-  abbrev pub CaptionedGoes : List ℕ → List Seen → Noted → Line → List Seen → Noted → Type 0
+  abbrev pub CaptionedGoes : List ℕ → List SeenNode → Noted → Line → List SeenNode → Noted → Type 0
   CaptionedGoes caption sites n (line.Step step) new n' = StepNoted caption sites n step new n'
   CaptionedGoes caption sites n line.Settle new n' = SettlingNoted caption sites n new n'
   CaptionedGoes caption sites n (line.Show name) new n' = LookNoted caption sites n new n'
@@ -80,10 +80,10 @@ module _ (weigher : Weigher) where
   CaptionedGoes caption sites n (line.Message name k) new n' = LookNoted caption sites n new n'
 
   -- a line with the text of its row
-  abbrev pub LineGoes : Captions → List Seen → Noted → Line → List Seen → Noted → Type 0
+  abbrev pub LineGoes : Captions → List SeenNode → Noted → Line → List SeenNode → Noted → Type 0
   LineGoes captions sites n line new n' = CaptionedGoes (caption_of captions (length n.rows)) sites n line new n'
 
   -- the lines, one after another
-  abbrev pub LinesGo : Captions → List Seen → Noted → List Line → List Seen → Noted → Type 0
+  abbrev pub LinesGo : Captions → List SeenNode → Noted → List Line → List SeenNode → Noted → Type 0
   LinesGo captions sites n [] new n' = (new ≡ sites) × (n' ≡ n)
-  LinesGo captions sites n (line ∷ lines) new n' = (mid : List Seen) × (m : Noted) × LineGoes captions sites n line mid m × LinesGo captions mid m lines new n'
+  LinesGo captions sites n (line ∷ lines) new n' = (mid : List SeenNode) × (m : Noted) × LineGoes captions sites n line mid m × LinesGo captions mid m lines new n'

@@ -3,7 +3,7 @@
 ghost use Rattle.std.specs.Prelude.{◌≡◌, All, IfOk, string_bytes};
 ghost use Rattle.sup_drawing.specs.Lines.{IsDry, captions_of};
 ghost use Rattle.sup_noting.specs.Noted.{noted_of};
-ghost use Rattle.sup_drawing.specs.Drawn.{Draws, nothing_noted};
+ghost use Rattle.sup_drawing.specs.Drawn.{DrawsScript, nothing_noted};
 
 use crate::play::play_lines;
 use std::alloc::{AllocError, Global};
@@ -30,7 +30,7 @@ pub fn draw_lines<G: Weigh + Copy + Drop>(
     lines: &[Line],
 ) -> Result<String, WorldFault>
     requires { All IsDry lines.now }
-    ensures { IfOk result (λ s. Draws G.weight_of config nodes.now (captions_of captions.now) lines.now (string_bytes s)) }
+    ensures { IfOk result (λ s. DrawsScript G.weight_of config nodes.now (captions_of captions.now) lines.now (string_bytes s)) }
 {
     let mut world = World::new(alloc, nodes, config, *weigher)?;
     let mut log = empty_log(alloc);

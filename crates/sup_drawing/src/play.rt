@@ -1,8 +1,8 @@
 //! The lines of a script, one after another, and the log that they leave.
 
 ghost use Rattle.std.specs.Prelude.{◌≡◌, All, OnOk, false};
-ghost use Rattle.sup_world.specs.Carrying.{has_bytes};
-ghost use Rattle.sup_world.specs.Seen.{sites_of};
+ghost use Rattle.sup_world.specs.CarriedSteps.{has_bytes};
+ghost use Rattle.sup_world.specs.SeenNodes.{sites_of};
 ghost use Rattle.sup_noting.specs.Noted.{noted_of};
 ghost use Rattle.sup_drawing.specs.Lines.{LineGoes, LinesGo, SettlingNoted, StepNoted, IsDry, caption_of, captions_of};
 

@@ -1,6 +1,6 @@
-pub mod Calls
-pub mod Rounds
-pub mod Puts
-pub mod Places
-pub mod Gathers
-pub mod Launches
+pub mod PassCallLaws
+pub mod RoundLaws
+pub mod WirePutLaws
+pub mod ItemPlaceLaws
+pub mod LinkEndLaws
+pub mod LaunchLaws

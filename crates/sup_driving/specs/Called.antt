@@ -1,4 +1,4 @@
--- What a call of a run's thread does to its pass (this project).
+-- What a call of a run's thread does to its pass.
 use Rattle.std.specs.Prelude.{◌≡◌, ℕ, false, List, [], ◌∷◌, ◌++◌, length, map, flat_map, Option, None, Ok, Err}
 use mathlib.Core.Option.{some}
 use Rattle.sup_placement.specs.Place.{Weigher}
@@ -9,23 +9,23 @@ use Rattle.sup_replica.specs.declared.refusal.Refusal.TheVariants.{HistoryFull a
 use Rattle.sup_node_gate.specs.declared.entry.Entry.{Entry}
 use Rattle.sup_node_gate.specs.declared.view.View.{View}
 use Rattle.sup_node_gate.specs.Calls.{IsFull, HasNoMemory}
-use Rattle.sup_node_gate.specs.Histories.{Answer, Counted, IsPrefix, entry}
+use Rattle.sup_node_gate.specs.Histories.{StationAnswer, CountedStation, IsPrefix, entry}
 use Rattle.sup_node_gate.specs.Views.{calls_of}
 use Rattle.sup_links.specs.declared.link_out.LinkOut.{LinkOut}
 use Rattle.sup_links.specs.Ends.{has_ended}
-use Rattle.sup_posts.specs.Rounds.{Run, Fail, effects_of, runs_of}
+use Rattle.sup_posts.specs.Rounds.{ChildIncarnation, FailedStarts, effects_of, runs_of}
 use Rattle.sup_posts.specs.declared.thread_fault.ThreadFault.{ThreadFault}
 use Rattle.sup_posts.specs.declared.thread_fault.ThreadFault.TheVariants.{HistoryFull, LinkClosed, OutOfMemory}
 
 -- the letter of an answer, if it has one
-abbrev pub letter_of : Answer → Option Letter
+abbrev pub letter_of : StationAnswer → Option Letter
 letter_of (Ok done) = done.out
 letter_of (Err r) = None
 
 -- what is seen begins with what was seen, and ends with a call and its answer, which has these effects and this letter; it is one more of the
 -- pass's own calls
-pub record Called (v : View) (act : Act) (now : ℕ) (effects : List Effect) (letter : Option Letter) (v' : View) : Type 0 where
-  pub answer : Answer
+pub record MadeCall (v : View) (act : Act) (now : ℕ) (effects : List Effect) (letter : Option Letter) (v' : View) : Type 0 where
+  pub answer : StationAnswer
   pub before : List Entry
   pub begins : IsPrefix v.seen before
   pub ends : v'.seen ≡ before ++ entry act now answer ∷ []
@@ -35,30 +35,30 @@ pub record Called (v : View) (act : Act) (now : ℕ) (effects : List Effect) (le
 
 -- the same, whatever its letter is
 abbrev pub CalledFor : View → Act → ℕ → View → List Effect → Type 0
-CalledFor v act now v' effects = (letter : Option Letter) × Called v act now effects letter v'
+CalledFor v act now v' effects = (letter : Option Letter) × MadeCall v act now effects letter v'
 
 -- what is seen begins with what was seen
 abbrev pub SeesMore : View → View → Type 0
 SeesMore v v' = IsPrefix v.seen v'.seen
 
 -- the pass's own calls since are exits, at this moment, of those that didn't start of these runs and of those that such exits begin
-pub record Tells (now : ℕ) (runs : List Run) (v v' : View) : Type 0 where
+pub record TellsFailedStarts (now : ℕ) (runs : List ChildIncarnation) (v v' : View) : Type 0 where
   pub exits : List Entry
-  pub are : Fail now runs exits
+  pub are : FailedStarts now runs exits
   pub own : calls_of v' ≡ calls_of v ++ map some exits
 
 -- the runs that the effects of several answers begin
-abbrev pub runs_in : List (List Effect) → List Run
+abbrev pub runs_in : List (List Effect) → List ChildIncarnation
 runs_in = flat_map runs_of
 
 -- the fault of an answer: a gate that has no memory, or whose history is full, and nothing else
-abbrev pub IsFaultIn : Answer → ThreadFault → Type 0
+abbrev pub IsFaultIn : StationAnswer → ThreadFault → Type 0
 IsFaultIn (Err Full) fault = fault ≡ HistoryFull
 IsFaultIn (Err Wants) fault = fault ≡ OutOfMemory
 IsFaultIn answer fault = ⊥
 
 -- what such a call leaves
-abbrev pub NotEntered : Weigher → Counted → ℕ → View → View → ThreadFault → Type 0
+abbrev pub NotEntered : Weigher → CountedStation → ℕ → View → View → ThreadFault → Type 0
 NotEntered g opening bound v v' HistoryFull = IsFull g opening bound v v'
 NotEntered g opening bound v v' LinkClosed = ⊥
 NotEntered g opening bound v v' OutOfMemory = HasNoMemory g opening bound v v'

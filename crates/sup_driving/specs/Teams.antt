@@ -1,4 +1,4 @@
--- A driver and its receivers: what their threads are given, and give back (this project).
+-- A driver and its receivers: what their threads are given, and give back.
 use Rattle.std.specs.Prelude.{◌≡◌, true, List, [], map, slice_get, Some}
 use Rattle.std.specs.List.{AllZip}
 use Rattle.sup_placement.specs.declared.weigh.Weigh.{Ghosts as WeighGhosts}
@@ -8,13 +8,13 @@ use Rattle.sup_links.specs.declared.link_in.Sent.{Sent}
 use Rattle.sup_links.specs.Ends.{SameOut, IsSentOf, script_of, sent_script, sent_put, taken_of, has_ended}
 use Rattle.sup_plan.specs.Calls.{call_of, asked, letters_to, deliveries}
 use Rattle.sup_plan.specs.Sublists.{Sublist}
-use Rattle.sup_posts.specs.Jobs.{IsSeatAt, Takes}
-use Rattle.sup_posts.specs.declared.post.Post.{Post}
+use Rattle.sup_posts.specs.Jobs.{IsSeatAt, MayTakeDrive}
+use Rattle.sup_posts.specs.declared.shared_node.SharedNode.{SharedNode}
 use Rattle.sup_posts.specs.declared.jobs.Lane.{Lane}
 use Rattle.sup_posts.specs.declared.jobs.Drive.{Drive}
 use Rattle.sup_crew.specs.declared.team.Team.{Team}
 use Rattle.sup_crew.specs.Teams.{AllOfTeam}
-use Rattle.sup_posts.specs.Rounds.{Makes, delivery}
+use Rattle.sup_posts.specs.Rounds.{MakesCalls, delivery}
 use Rattle.sup_driving.specs.declared.teams.Steer.{Steer}
 use Rattle.sup_driving.specs.declared.teams.Receive.{Receive}
 use Rattle.sup_driving.specs.declared.wires.Wire.{Wire}
@@ -29,8 +29,8 @@ pub record HasSent (entries : List Entry) (wire : Wire) (sent : Sent) : Type 0 w
 
 module _ {W : Type 0} {h : WeighGhosts W} where
   -- a driver's end of a link
-  pub record IsWireOf (posts : List (Post W h)) (lane : Lane W h) (wire : Wire) : Type 0 where
-    pub post : Post W h
+  pub record IsWireOf (posts : List (SharedNode W h)) (lane : Lane W h) (wire : Wire) : Type 0 where
+    pub post : SharedNode W h
     pub stands : slice_get posts lane.to ≡ Some post
     pub to : wire.to ≡ post.name
     pub entry : wire.entry ≡ lane.entry
@@ -42,8 +42,8 @@ module _ {W : Type 0} {h : WeighGhosts W} where
     pub exit : receive.exit ≡ lane.exit
 
   -- what a driver and its receivers are given
-  pub record IsTeamOf (posts : List (Post W h)) (drive : Drive W h) (team : Team (Steer W h) (Receive W h)) : Type 0 where
-    pub takes : Takes posts drive
+  pub record IsTeamOf (posts : List (SharedNode W h)) (drive : Drive W h) (team : Team (Steer W h) (Receive W h)) : Type 0 where
+    pub takes : MayTakeDrive posts drive
     pub at : team.lead.at ≡ drive.at
     pub seat : team.lead.seat ≡ drive.seat
     pub commands : team.lead.commands ≡ drive.commands
@@ -51,32 +51,32 @@ module _ {W : Type 0} {h : WeighGhosts W} where
     pub others : AllZip IsReceiveOf drive.lanes.items team.others.items
 
   -- the pass is of the gate of the node at this place
-  abbrev pub IsReadyToSteer : List (Post W h) → Steer W h → Type 0
+  abbrev pub IsReadyToSteer : List (SharedNode W h) → Steer W h → Type 0
   IsReadyToSteer posts s = IsSeatAt posts s.at s.seat
 
   -- the same, and nothing was taken from the link
-  pub record IsReadyToReceive (posts : List (Post W h)) (r : Receive W h) : Type 0 where
+  pub record IsReadyToReceive (posts : List (SharedNode W h)) (r : Receive W h) : Type 0 where
     pub seat : IsSeatAt posts r.to r.seat
     pub none : taken_of r.exit ≡ []
 
-  abbrev pub IsReady : List (Post W h) → Team (Steer W h) (Receive W h) → Type 0
+  abbrev pub IsReady : List (SharedNode W h) → Team (Steer W h) (Receive W h) → Type 0
   IsReady posts team = AllOfTeam (IsReadyToSteer posts) (IsReadyToReceive posts) team
 
   -- the commands stand in order, each once with its moment, in what the driver's pass has seen, and their letters were sent; the pass made no
   -- other call but exits of children that didn't start at a command
-  pub record Steers (posts : List (Post W h)) (steer : Steer W h) (steered : Steered W h) : Type 0 where
+  pub record SteersNode (posts : List (SharedNode W h)) (steer : Steer W h) (steered : Steered W h) : Type 0 where
     pub seat : IsSeatAt posts steer.at steered.seat
     pub entries : List Entry
     pub are : map call_of entries ≡ map asked steer.commands.items
     pub stand : Sublist entries (view_of steered.seat).seen
     pub sent : AllZip (HasSent entries) steer.wires.items steered.sent.items
-    pub made : Makes (view_of steer.seat) (map asked steer.commands.items) (view_of steered.seat)
+    pub made : MakesCalls (view_of steer.seat) (map asked steer.commands.items) (view_of steered.seat)
 
   -- all that came out of the link was delivered, in its order; the pass made no other call but exits of children that didn't start at it
-  pub record Receives (posts : List (Post W h)) (receive : Receive W h) (received : Received W h) : Type 0 where
+  pub record ReceivesLetters (posts : List (SharedNode W h)) (receive : Receive W h) (received : Received W h) : Type 0 where
     pub seat : IsSeatAt posts receive.to received.seat
     pub to : received.to ≡ receive.to
     pub link : SameOut receive.exit received.exit
     pub ended : has_ended received.exit ≡ true
     pub delivered : Sublist (taken_of received.exit) (deliveries (view_of received.seat).seen)
-    pub made : Makes (view_of receive.seat) (map delivery (taken_of received.exit)) (view_of received.seat)
+    pub made : MakesCalls (view_of receive.seat) (map delivery (taken_of received.exit)) (view_of received.seat)

@@ -1,4 +1,4 @@
--- The links of a driver, and what its node's calls put into them (this project).
+-- The links of a driver, and what its node's calls put into them.
 use Rattle.std.specs.Prelude.{◌≡◌, ◌⊎◌, true, List, [], ◌∷◌, ◌++◌, map, Option}
 use Rattle.std.specs.List.{AllByRecursion}
 use Rattle.sup_specs.specs.Values.{Bytes}
@@ -30,7 +30,7 @@ abbrev pub HasLetters : List Entry → Wire → Type 0
 HasLetters entries wire = Sublist (letters_to wire.to entries) (put_of wire.entry)
 
 -- the calls stand in what was seen, in their order, and their letters were put
-pub record Did (calls : List Call) (seen : List Entry) (wires : List Wire) : Type 0 where
+pub record PutLetters (calls : List Call) (seen : List Entry) (wires : List Wire) : Type 0 where
   pub entries : List Entry
   pub are : map call_of entries ≡ calls
   pub stand : Sublist entries seen

@@ -3,8 +3,8 @@ ghost use Rattle.std.specs.Prelude.{◌++◌, IfOk, IfErr, OnOk};
 ghost use Rattle.sup_node_gate.specs.declared.view.View.{View};
 ghost use Rattle.sup_node_gate.specs.Gates.{IsOf, view_of, bound_of};
 ghost use Rattle.sup_node_gate.specs.InMemory.{failures_by, sound_by};
-ghost use Rattle.sup_station.specs.Opening.{kept_by};
-ghost use Rattle.sup_driving.specs.Called.{CalledFor, SeesMore, Tells, runs_in, StopsCalling};
+ghost use Rattle.sup_station.specs.OpenedStations.{kept_by};
+ghost use Rattle.sup_driving.specs.Called.{CalledFor, SeesMore, TellsFailedStarts, runs_in, StopsCalling};
 ghost use Rattle.sup_posts.specs.Rounds.{failed, runs_of};
 
 use crate::calling::Brought;
@@ -15,7 +15,7 @@ use std::collections::VecDeque;
 use std::sync::Wait;
 use sup_local_sup::{Effect, Effects, Incarnation};
 use sup_placement::Weigh;
-use sup_posts::{Post, Seat, ThreadFault};
+use sup_posts::{Seat, SharedNode, ThreadFault};
 use sup_replica::{Act, Event};
 use sup_specs::{ChildId, ExitReason, Plain};
 
@@ -23,7 +23,7 @@ impl<'a, R: Wait, W: Weigh, N: Runner, C> Field<'a, R, W, N, C> {
     // Tells the runner all effects, and those of the exits of children that didn't start, in the order in which the node answered them.
     pub(crate) fn act_all(
         &self,
-        post: &Post<W>,
+        post: &SharedNode<W>,
         seat: &mut Seat<W>,
         effects: Effects,
         now: u64,
@@ -31,7 +31,7 @@ impl<'a, R: Wait, W: Weigh, N: Runner, C> Field<'a, R, W, N, C> {
         requires { IsOf kept_by failures_by sound_by post.now.gate seat.old }
         ensures of { IsOf kept_by failures_by sound_by post.now.gate seat.new }
         ensures seen { OnOk result (SeesMore (view_of seat.old) (view_of seat.new)) }
-        ensures told { OnOk result (Tells now (runs_of effects) (view_of seat.old) (view_of seat.new)) }
+        ensures told { OnOk result (TellsFailedStarts now (runs_of effects) (view_of seat.old) (view_of seat.new)) }
         ensures fault { IfErr result (StopsCalling (bound_of post.now.gate) (view_of seat.new)) }
     {
         let mut waiting = VecDeque::new(self.alloc);
@@ -50,7 +50,7 @@ impl<'a, R: Wait, W: Weigh, N: Runner, C> Field<'a, R, W, N, C> {
     // Tells the runner these effects. What the exits of children that didn't start bring is left to be told.
     fn tell(
         &self,
-        post: &Post<W>,
+        post: &SharedNode<W>,
         seat: &mut Seat<W>,
         effects: &[Effect],
         now: u64,
@@ -59,8 +59,8 @@ impl<'a, R: Wait, W: Weigh, N: Runner, C> Field<'a, R, W, N, C> {
         requires { IsOf kept_by failures_by sound_by post.now.gate seat.old }
         ensures of { IsOf kept_by failures_by sound_by post.now.gate seat.new }
         ensures seen { OnOk result (SeesMore (view_of seat.old) (view_of seat.new)) }
-        ensures told { (u : View) → OnOk result (Tells now (runs_in waiting.new.items) (view_of seat.new) u
-            → Tells now (runs_of effects.now ++ runs_in waiting.old.items) (view_of seat.old) u) }
+        ensures told { (u : View) → OnOk result (TellsFailedStarts now (runs_in waiting.new.items) (view_of seat.new) u
+            → TellsFailedStarts now (runs_of effects.now ++ runs_in waiting.old.items) (view_of seat.old) u) }
         ensures fault { IfErr result (StopsCalling (bound_of post.now.gate) (view_of seat.new)) }
     {
         for effect in effects {
@@ -81,7 +81,7 @@ impl<'a, R: Wait, W: Weigh, N: Runner, C> Field<'a, R, W, N, C> {
     // Calls the exit of a child that didn't start.
     fn exit(
         &self,
-        post: &Post<W>,
+        post: &SharedNode<W>,
         seat: &mut Seat<W>,
         id: &ChildId,
         inc: Incarnation,

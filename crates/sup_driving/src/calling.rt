@@ -3,16 +3,16 @@ ghost use Rattle.std.specs.Prelude.{◌≡◌, true, IfOk, IfErr, OnOk};
 ghost use Rattle.sup_node_gate.specs.Gates.{IsOf, view_of, opening_of, bound_of};
 ghost use Rattle.sup_node_gate.specs.InMemory.{failures_by, sound_by};
 ghost use Rattle.sup_node_gate.specs.Histories.{may_enter};
-ghost use Rattle.sup_station.specs.Opening.{kept_by};
+ghost use Rattle.sup_station.specs.OpenedStations.{kept_by};
 ghost use Rattle.sup_posts.specs.Rounds.{effects_of};
-ghost use Rattle.sup_driving.specs.Called.{Called, IsFaultIn, NotEntered, letter_of};
+ghost use Rattle.sup_driving.specs.Called.{MadeCall, IsFaultIn, NotEntered, letter_of};
 
 use crate::field::Field;
 use std::alloc::Global;
 use std::sync::Wait;
 use sup_local_sup::Effects;
 use sup_placement::Weigh;
-use sup_posts::{Post, Seat, ThreadFault};
+use sup_posts::{Seat, SharedNode, ThreadFault};
 use sup_replica::{Act, Done, Letter, Refusal};
 
 /// What is left to be done of an answer.
@@ -62,14 +62,14 @@ impl<'a, R: Wait, W: Weigh, N, C> Field<'a, R, W, N, C> {
     // One act of the node, at a moment: what is left to be done of its answer.
     pub(crate) fn call(
         &self,
-        post: &Post<W>,
+        post: &SharedNode<W>,
         seat: &mut Seat<W>,
         act: Act,
         now: u64,
     ) -> Result<Brought, ThreadFault>
         requires { IsOf kept_by failures_by sound_by post.now.gate seat.old }
         ensures of { IsOf kept_by failures_by sound_by post.now.gate seat.new }
-        ensures called { IfOk result (λ brought. Called (view_of seat.old) act now brought.effects brought.letter (view_of seat.new)) }
+        ensures called { IfOk result (λ brought. MadeCall (view_of seat.old) act now brought.effects brought.letter (view_of seat.new)) }
         ensures refused { IfErr result (NotEntered W.weight_of (opening_of kept_by failures_by sound_by post.now.gate) (bound_of post.now.gate) (view_of seat.old) (view_of seat.new)) }
     {
         let answer = post.gate.call(self.rt, seat, act, now, self.weigher);

@@ -3,11 +3,11 @@ ghost use Rattle.std.specs.Prelude.{◌++◌, ◌⊎◌, [], ◌∷◌, map, IfE
 ghost use Rattle.std.specs.List.{AllZip};
 ghost use Rattle.sup_node_gate.specs.Gates.{IsOf, view_of, bound_of};
 ghost use Rattle.sup_node_gate.specs.InMemory.{failures_by, sound_by};
-ghost use Rattle.sup_station.specs.Opening.{kept_by};
+ghost use Rattle.sup_station.specs.OpenedStations.{kept_by};
 ghost use Rattle.sup_plan.specs.Calls.{Call, asked};
-ghost use Rattle.sup_posts.specs.Rounds.{Makes};
+ghost use Rattle.sup_posts.specs.Rounds.{MakesCalls};
 ghost use Rattle.sup_driving.specs.Called.{StopsCalling};
-ghost use Rattle.sup_driving.specs.Wires.{Did, HasPut, IsLater, StopsPutting};
+ghost use Rattle.sup_driving.specs.Wires.{PutLetters, HasPut, IsLater, StopsPutting};
 
 use crate::calling::Brought;
 use crate::field::Field;
@@ -17,14 +17,14 @@ use crate::wires::{Wire, put_letter};
 use std::sync::Wait;
 use sup_placement::Weigh;
 use sup_plan::Command;
-use sup_posts::{Post, Seat, ThreadFault};
+use sup_posts::{Seat, SharedNode, ThreadFault};
 use sup_replica::Letter;
 
 impl<'a, R: Wait, W: Weigh, N: Runner, C: Checkpoint> Field<'a, R, W, N, C> {
     // Makes a command, and puts its letter, behind those that lie in the outbox; then the runner is told what is to be done.
     fn make(
         &self,
-        post: &Post<W>,
+        post: &SharedNode<W>,
         seat: &mut Seat<W>,
         command: Command,
         place: u64,
@@ -33,9 +33,9 @@ impl<'a, R: Wait, W: Weigh, N: Runner, C: Checkpoint> Field<'a, R, W, N, C> {
         requires { IsOf kept_by failures_by sound_by post.now.gate seat.old }
         ensures of { IsOf kept_by failures_by sound_by post.now.gate seat.new }
         ensures later { OnOk result (AllZip IsLater wires.old wires.new) }
-        ensures did { (calls : List Call) → Did calls (view_of seat.old).seen wires.old
-            → OnOk result (Did (calls ++ asked command ∷ []) (view_of seat.new).seen wires.new) }
-        ensures made { OnOk result (Makes (view_of seat.old) (asked command ∷ []) (view_of seat.new)) }
+        ensures did { (calls : List Call) → PutLetters calls (view_of seat.old).seen wires.old
+            → OnOk result (PutLetters (calls ++ asked command ∷ []) (view_of seat.new).seen wires.new) }
+        ensures made { OnOk result (MakesCalls (view_of seat.old) (asked command ∷ []) (view_of seat.new)) }
         ensures fault { IfErr result (λ f. StopsCalling (bound_of post.now.gate) (view_of seat.new) f ⊎ StopsPutting wires.new f) }
     {
         self.checkpoint.before(&post.name, place);
@@ -61,7 +61,7 @@ impl<'a, R: Wait, W: Weigh, N: Runner, C: Checkpoint> Field<'a, R, W, N, C> {
     // Makes all commands in their order, and puts what lies in the outbox then.
     pub(crate) fn drive(
         &self,
-        post: &Post<W>,
+        post: &SharedNode<W>,
         seat: &mut Seat<W>,
         commands: Vec<Command>,
         wires: &mut [Wire],
@@ -69,8 +69,8 @@ impl<'a, R: Wait, W: Weigh, N: Runner, C: Checkpoint> Field<'a, R, W, N, C> {
         requires { IsOf kept_by failures_by sound_by post.now.gate seat.old }
         ensures of { IsOf kept_by failures_by sound_by post.now.gate seat.new }
         ensures later { OnOk result (AllZip IsLater wires.old wires.new) }
-        ensures did { OnOk result (Did (map asked commands.items) (view_of seat.new).seen wires.new) }
-        ensures made { OnOk result (Makes (view_of seat.old) (map asked commands.items) (view_of seat.new)) }
+        ensures did { OnOk result (PutLetters (map asked commands.items) (view_of seat.new).seen wires.new) }
+        ensures made { OnOk result (MakesCalls (view_of seat.old) (map asked commands.items) (view_of seat.new)) }
         ensures fault { IfErr result (λ f. StopsCalling (bound_of post.now.gate) (view_of seat.new) f ⊎ StopsPutting wires.new f) }
     {
         let mut place: u64 = 0;

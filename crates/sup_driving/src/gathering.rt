@@ -1,7 +1,7 @@
 //! What drivers and their receivers hand back, once all threads have ended.
 ghost use Rattle.std.specs.Prelude.{◌≡◌, All, IsOk, IfOk, IfErr};
 ghost use Rattle.std.specs.List.{AllZip};
-ghost use Rattle.sup_driving.specs.Gathering.{CanMeet, Met, AllMet, CanGather, Gathers, IsFaultOfTeam, IsGathered};
+ghost use Rattle.sup_driving.specs.GatheredResults.{CanMeet, MetEnds, AllMet, CanGather, GathersTeam, IsFaultOfTeam, IsGathered};
 
 use crate::work::{Received, Steered};
 use std::alloc::{AllocError, Global};
@@ -11,12 +11,15 @@ use sup_placement::Weigh;
 use sup_posts::{Arrived, Driven, ThreadFault, graver, gravest};
 
 // What a driver and its receivers hand back.
-pub(crate) type Done<W> = Team<Result<Steered<W>, ThreadFault>, Result<Received<W>, ThreadFault>>;
+pub(crate) type GatheredTeam<W> = Team<
+    Result<Steered<W>, ThreadFault>,
+    Result<Received<W>, ThreadFault>,
+>;
 
 // The ends of a link meet.
 fn meet<W: Weigh>(sent: Sent, received: Received<W>) -> Arrived<W>
     requires { CanMeet sent (Ok received) }
-    ensures { Met sent (Ok received) result }
+    ensures { MetEnds sent (Ok received) result }
 {
     let Received { to, seat, mut exit } = received;
     exit.meet(sent);
@@ -47,7 +50,7 @@ fn meet_all<W: Weigh>(
 }
 
 // What a driver hands back, with what its receivers did, or the gravest of their faults.
-fn gather<W: Weigh>(alloc: Global, done: Done<W>) -> Result<Driven<W>, ThreadFault>
+fn gather<W: Weigh>(alloc: Global, done: GatheredTeam<W>) -> Result<Driven<W>, ThreadFault>
     requires { CanGather done }
     ensures gathered { IfOk result (IsGathered done) }
     ensures fault { IfErr result (IsFaultOfTeam done) }
@@ -68,10 +71,10 @@ fn gather<W: Weigh>(alloc: Global, done: Done<W>) -> Result<Driven<W>, ThreadFau
 // What all drivers hand back, in their order.
 pub(crate) fn gather_all<W: Weigh>(
     alloc: Global,
-    done: Vec<Done<W>>,
+    done: Vec<GatheredTeam<W>>,
 ) -> Result<Vec<Result<Driven<W>, ThreadFault>>, AllocError>
     requires { All CanGather done.items }
-    ensures { IfOk result (λ results. AllZip Gathers done.items results.items) }
+    ensures { IfOk result (λ results. AllZip GathersTeam done.items results.items) }
 {
     let mut results = Vec::with_capacity(alloc, done.len())?;
     for team in done {

@@ -1,7 +1,7 @@
 //! The threads of a run, all at once.
 ghost use Rattle.std.specs.Prelude.{All, IfOk};
 ghost use Rattle.std.specs.List.{AllZip};
-ghost use Rattle.sup_posts.specs.Jobs.{Takes, Gives};
+ghost use Rattle.sup_posts.specs.Jobs.{MayTakeDrive, GivesDriven};
 
 use crate::field::Field;
 use crate::gathering::gather_all;
@@ -12,7 +12,7 @@ use std::sync::Wait;
 use std::thread::Threads;
 use sup_crew::run_teams;
 use sup_placement::Weigh;
-use sup_posts::{Drive, Driven, Post, ThreadFault};
+use sup_posts::{Drive, Driven, SharedNode, ThreadFault};
 
 /// Does the jobs of the drivers of these nodes, each in a thread of its own, with one more for each of their links, and gives what each
 /// driver hands back, in their order: its commands stand in its node's history, each once with its moment, and what the links make of
@@ -36,11 +36,11 @@ pub fn launch<
     weigher: &W,
     runner: &N,
     checkpoint: &C,
-    posts: &[Post<W>],
+    posts: &[SharedNode<W>],
     drives: Vec<Drive<W>>,
 ) -> Result<Vec<Result<Driven<W>, ThreadFault>>, AllocError>
-    requires { All (Takes posts.now) drives.items }
-    ensures { IfOk result (λ results. AllZip (Gives posts.now) drives.items results.items) }
+    requires { All (MayTakeDrive posts.now) drives.items }
+    ensures { IfOk result (λ results. AllZip (GivesDriven posts.now) drives.items results.items) }
 {
     let teams = split_all(alloc, posts, drives)?;
     let field = Field {

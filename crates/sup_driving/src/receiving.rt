@@ -3,11 +3,11 @@ ghost use Rattle.std.specs.Prelude.{◌≡◌, ◌++◌, ◌⊎◌, [], ◌∷�
 ghost use Rattle.sup_specs.specs.Values.{Bytes};
 ghost use Rattle.sup_node_gate.specs.Gates.{IsOf, view_of, bound_of};
 ghost use Rattle.sup_node_gate.specs.InMemory.{failures_by, sound_by};
-ghost use Rattle.sup_station.specs.Opening.{kept_by};
+ghost use Rattle.sup_station.specs.OpenedStations.{kept_by};
 ghost use Rattle.sup_links.specs.Ends.{SameOut, taken_of, has_ended};
 ghost use Rattle.sup_plan.specs.Calls.{deliveries};
 ghost use Rattle.sup_plan.specs.Sublists.{Sublist};
-ghost use Rattle.sup_posts.specs.Rounds.{Makes, delivery};
+ghost use Rattle.sup_posts.specs.Rounds.{MakesCalls, delivery};
 ghost use Rattle.sup_driving.specs.Called.{StopsCalling, StopsTaking};
 
 use crate::calling::Brought;
@@ -17,7 +17,7 @@ use crate::runner::Runner;
 use std::sync::Wait;
 use sup_links::LinkOut;
 use sup_placement::Weigh;
-use sup_posts::{Post, Seat, ThreadFault};
+use sup_posts::{Seat, SharedNode, ThreadFault};
 use sup_replica::{Act, Event, MessageText};
 
 // The moment of all deliveries.
@@ -25,12 +25,17 @@ const MOMENT: u64 = 0;
 
 impl<'a, R: Wait, W: Weigh, N: Runner, C> Field<'a, R, W, N, C> {
     // Gives the node a message. Its answer's letter lies in the outbox before the runner is told what is to be done.
-    fn deliver(&self, post: &Post<W>, seat: &mut Seat<W>, text: Vec<u8>) -> Result<(), ThreadFault>
+    fn deliver(
+        &self,
+        post: &SharedNode<W>,
+        seat: &mut Seat<W>,
+        text: Vec<u8>,
+    ) -> Result<(), ThreadFault>
         requires { IsOf kept_by failures_by sound_by post.now.gate seat.old }
         ensures of { IsOf kept_by failures_by sound_by post.now.gate seat.new }
         ensures delivered { (texts : List Bytes) → Sublist texts (deliveries (view_of seat.old).seen)
             → OnOk result (Sublist (texts ++ text.items ∷ []) (deliveries (view_of seat.new).seen)) }
-        ensures made { OnOk result (Makes (view_of seat.old) (delivery text.items ∷ []) (view_of seat.new)) }
+        ensures made { OnOk result (MakesCalls (view_of seat.old) (delivery text.items ∷ []) (view_of seat.new)) }
         ensures fault { IfErr result (StopsCalling (bound_of post.now.gate) (view_of seat.new)) }
     {
         let act = Act::Event(Event::Deliver(MessageText::new(text)));
@@ -54,7 +59,7 @@ impl<'a, R: Wait, W: Weigh, N: Runner, C> Field<'a, R, W, N, C> {
     // thrown away.
     pub(crate) fn receive(
         &self,
-        post: &Post<W>,
+        post: &SharedNode<W>,
         seat: &mut Seat<W>,
         exit: &mut LinkOut,
     ) -> Result<(), ThreadFault>
@@ -64,7 +69,7 @@ impl<'a, R: Wait, W: Weigh, N: Runner, C> Field<'a, R, W, N, C> {
         ensures link { SameOut exit.old exit.new }
         ensures ended { OnOk result (has_ended exit.new ≡ true) }
         ensures delivered { OnOk result (Sublist (taken_of exit.new) (deliveries (view_of seat.new).seen)) }
-        ensures made { OnOk result (Makes (view_of seat.old) (map delivery (taken_of exit.new)) (view_of seat.new)) }
+        ensures made { OnOk result (MakesCalls (view_of seat.old) (map delivery (taken_of exit.new)) (view_of seat.new)) }
         ensures fault { IfErr result (λ f. StopsCalling (bound_of post.now.gate) (view_of seat.new) f ⊎ StopsTaking exit.new f) }
     {
         for _ in self.rt.forever() {

@@ -1,7 +1,7 @@
 //! What the threads of a driver and its receivers are given.
 ghost use Rattle.std.specs.Prelude.{IfOk, All};
 ghost use Rattle.std.specs.List.{AllZip};
-ghost use Rattle.sup_posts.specs.Jobs.{IsLane, Takes};
+ghost use Rattle.sup_posts.specs.Jobs.{IsLane, MayTakeDrive};
 ghost use Rattle.sup_driving.specs.Teams.{IsWireOf, IsReceiveOf, IsReadyToReceive, IsTeamOf, IsReady};
 
 use crate::wires::Wire;
@@ -10,7 +10,7 @@ use sup_crew::Team;
 use sup_links::LinkOut;
 use sup_placement::Weigh;
 use sup_plan::Command;
-use sup_posts::{Drive, Lane, Post, Seat};
+use sup_posts::{Drive, Lane, Seat, SharedNode};
 
 /// The place of a driver's node, its commands and its ends of the links.
 #[derive(Drop)]
@@ -30,7 +30,7 @@ pub(crate) struct Receive<W: Weigh> {
 }
 
 // The two ends of a link, the first for the driver.
-fn split_lane<W: Weigh>(posts: &[Post<W>], lane: Lane<W>) -> (Wire, Receive<W>)
+fn split_lane<W: Weigh>(posts: &[SharedNode<W>], lane: Lane<W>) -> (Wire, Receive<W>)
     requires { IsLane posts.now lane }
     ensures wire { IsWireOf posts.now lane result.0 }
     ensures receive { IsReceiveOf lane result.1 }
@@ -52,7 +52,7 @@ fn split_lane<W: Weigh>(posts: &[Post<W>], lane: Lane<W>) -> (Wire, Receive<W>)
 // The ends of all these links, in their order.
 fn split_lanes<W: Weigh>(
     alloc: Global,
-    posts: &[Post<W>],
+    posts: &[SharedNode<W>],
     lanes: Vec<Lane<W>>,
 ) -> Result<(Vec<Wire>, Vec<Receive<W>>), AllocError>
     requires { All (IsLane posts.now) lanes.items }
@@ -73,10 +73,10 @@ fn split_lanes<W: Weigh>(
 // A driver and its receivers.
 fn split<W: Weigh>(
     alloc: Global,
-    posts: &[Post<W>],
+    posts: &[SharedNode<W>],
     drive: Drive<W>,
 ) -> Result<Team<Steer<W>, Receive<W>>, AllocError>
-    requires { Takes posts.now drive }
+    requires { MayTakeDrive posts.now drive }
     ensures team { IfOk result (IsTeamOf posts.now drive) }
     ensures ready { IfOk result (IsReady posts.now) }
 {
@@ -99,10 +99,10 @@ fn split<W: Weigh>(
 // All drivers and their receivers.
 pub(crate) fn split_all<W: Weigh>(
     alloc: Global,
-    posts: &[Post<W>],
+    posts: &[SharedNode<W>],
     drives: Vec<Drive<W>>,
 ) -> Result<Vec<Team<Steer<W>, Receive<W>>>, AllocError>
-    requires { All (Takes posts.now) drives.items }
+    requires { All (MayTakeDrive posts.now) drives.items }
     ensures teams { IfOk result (λ teams. AllZip (IsTeamOf posts.now) drives.items teams.items) }
     ensures ready { IfOk result (λ teams. All (IsReady posts.now) teams.items) }
 {

@@ -19,7 +19,7 @@ pub(crate) struct Wire {
 }
 
 // Whether the letter is for this node.
-#[tactic(auto, using(sup_plan::proofs::Names::named))]
+#[tactic(auto, using(sup_plan::proofs::ComparedNameLaws::named))]
 fn is_for(node: &NodeName, letter: &Letter) -> bool
     ensures { result ≡ is_named node.now letter.now.to }
 {

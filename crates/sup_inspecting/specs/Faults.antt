@@ -1,4 +1,4 @@
--- Faults of images, as faults of a job (this project).
+-- Faults of images, as faults of a job.
 use Rattle.sup_jobs.specs.declared.fault.Fault.{Fault}
 use Rattle.sup_jobs.specs.declared.fault.Fault.TheVariants.{BadImage, OutOfMemory}
 use Rattle.sup_jobs.specs.declared.fault.ImageFault.{ImageFault}

@@ -2,7 +2,7 @@
 
 ghost use Rattle.std.specs.Prelude.{◌≡◌, ◌≤◌, ◌+◌, length, string_bytes, Err, IfErr, IfOk, IfSome};
 ghost use Rattle.sup_jobs.specs.Ends.{TakesAtMost, TakesFor};
-ghost use Rattle.sup_inspecting.specs.Inspecting.{InspectsTo, Inspects, IsUntold, TellsFront, TellsImage};
+ghost use Rattle.sup_inspecting.specs.InspectedImages.{InspectsTo, InspectsImage, IsUntold, TellsFront, TellsImage};
 
 use crate::fault::fault_of;
 use std::alloc::Global;
@@ -21,7 +21,7 @@ pub fn inspect_image<G: Weigh, R: Read, W: Write, E: Write>(
     writer: &mut W,
     errors: &mut E,
 ) -> Ended
-    ensures inspects { Inspects G.weight_of (R.remaining reader.old) (R.remaining reader.new)
+    ensures inspects { InspectsImage G.weight_of (R.remaining reader.old) (R.remaining reader.new)
         (W.contents writer.old) (W.contents writer.new) (E.contents errors.old)
         (E.contents errors.new) result }
     ensures taken { TakesAtMost (LIMIT + 1) (R.remaining reader.old) (R.remaining reader.new) }

@@ -1,4 +1,4 @@
--- Scripts over a world of stations, line by line, and what each line tells: an answer without the content of its letter (this project).
+-- Scripts over a world of stations, line by line, and what each line tells: an answer without the content of its letter.
 use Rattle.std.specs.Prelude.{ℕ, ◌≡◌, List, [], ◌∷◌, map, flat_map, length, Option, Some, None, Result, Ok, Err, if◌then◌else◌}
 use Rattle.sup_specs.specs.Values.{Bytes, text_cmp}
 use Rattle.sup_specs.specs.Rising.{rising, among}

@@ -1,4 +1,4 @@
--- Settling of a world of stations, step by step: all to the first by name, then the first to all, each letter delivered at once (this project).
+-- Settling of a world of stations, step by step: all to the first by name, then the first to all, each letter delivered at once.
 use Rattle.std.specs.Prelude.{ℕ, zero, suc, ◌+◌, true, List, [], ◌∷◌, ◌++◌, map, filter, Option, Some, None, Result, Ok, Err}
 use Rattle.sup_specs.specs.Values.{Bytes, text_cmp}
 use Rattle.sup_specs.specs.Rising.{rising}

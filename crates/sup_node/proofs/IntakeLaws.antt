@@ -24,16 +24,16 @@ use Rattle.sup_replica.specs.declared.refusal.Refusal.TheVariants.{CountSpent}
 use Rattle.sup_replica.specs.Nodes.{Node}
 use Rattle.sup_node.specs.declared.change.Intake.TheVariants.{Touched}
 use Rattle.sup_node.specs.Changes.{IsIntake, IsNoIntake, wanted_with}
-use Rattle.sup_node.specs.Placed.{keeps_placed, change_of, Reaches, ended_of}
+use Rattle.sup_node.specs.Placed.{keeps_placed, change_of, ListsLeaving, ended_of}
 use Rattle.sup_node.proofs.TouchLaws.{is_replaced, reached, leaving_back, eligible_stable}
 
 -- who leaves is kept no longer
-left_then : (kept : List Kept) (ids : List Bytes) (leaving : Leaving) → Reaches ids leaving → kept_of_leaving kept leaving ≡ left_of kept (ended_of leaving)
+left_then : (kept : List Kept) (ids : List Bytes) (leaving : Leaving) → ListsLeaving ids leaving → kept_of_leaving kept leaving ≡ left_of kept (ended_of leaving)
 left_then kept ids Nobody h = refl
 left_then kept ids (Finished id) h = refl
 left_then kept ids (GaveUp id) h = absurd h
 
-module _ (g : Weigher) (n : Node State) (leaving : Leaving) (delta : State) (ids : List Bytes) (reaches : Reaches ids leaving) (ended : Option Bytes) (ee : ended ≡ ended_of leaving) where
+module _ (g : Weigher) (n : Node State) (leaving : Leaving) (delta : State) (ids : List Bytes) (reaches : ListsLeaving ids leaving) (ended : Option Bytes) (ee : ended ≡ ended_of leaving) where
   abbrev joined : State
   joined = join_states n.known delta
 

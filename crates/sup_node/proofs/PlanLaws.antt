@@ -34,11 +34,11 @@ use Rattle.sup_node.specs.declared.change.Change.{Change}
 use Rattle.sup_node.specs.declared.change.Change.TheVariants.{Nothing, Begins, Learns, Acknowledges}
 use Rattle.sup_node.specs.declared.change.Ready.{Ready}
 use Rattle.sup_node.specs.declared.planned.Planned.{Planned}
-use Rattle.sup_node.specs.Changes.{stopped_node, changed, learned, newer, saves, station_after, MakesOf, IsMadeFor, IsOwn, IsOf, checked, outcome_of, Readies}
+use Rattle.sup_node.specs.Changes.{stopped_node, changed, learned, newer, saves, station_after, ChangesTablesOf, IsMadeFor, IsOwn, IsOf, checked, outcome_of, ReadiesOutcome}
 use Rattle.sup_node.specs.Placed.{keeps_placed}
 use Rattle.sup_node.specs.Texts.{IsLetter, IsLetterOf, mail_of}
-use Rattle.sup_node.specs.NodeSteps.{Reads, stepped, MayLack, IsReady, MayChange, IsPlanOf, Plans, stopped_by, IsRestart, IsRestartRefused}
-use Rattle.sup_node.specs.Taking.{Takes, planned_of}
+use Rattle.sup_node.specs.NodeSteps.{ReadsMail, stepped, MayLack, IsReady, MayChange, IsPlanOf, PlansEvent, stopped_by, IsRestart, IsRestartRefused}
+use Rattle.sup_node.specs.TakenMail.{TakesMail, planned_of}
 
 -- names
 pub named_itself : (x : Bytes) → is_named x x ≡ true
@@ -174,13 +174,13 @@ module _ (s : Station State) where
       ap (λ d. record s { node = learned s.node l; held = holds_more s.room s.held d }) of.1 ∙ sym (held-more (learned s.node l) content refl)
   after-of content (Acknowledges from number) of = absurd of
 
-  may-own : (c : Change) → passes_greatest (changed s.node c) ≡ false → MakesOf s.node c → IsOwn s.node c → MayChange s c
+  may-own : (c : Change) → passes_greatest (changed s.node c) ≡ false → ChangesTablesOf s.node c → IsOwn s.node c → MayChange s c
   may-own Nothing w m own = tt
   may-own (Begins id now) w m own = w
   may-own (Learns l) w m own = (w, m)
   may-own (Acknowledges from number) w m own = absurd own
 
-  may-of : (content : State) (c : Change) → passes_greatest (changed s.node c) ≡ false → MakesOf s.node c → IsOf content s.node c → MayChange s c
+  may-of : (content : State) (c : Change) → passes_greatest (changed s.node c) ≡ false → ChangesTablesOf s.node c → IsOf content s.node c → MayChange s c
   may-of content Nothing w m of = tt
   may-of content (Begins id now) w m of = absurd of
   may-of content (Learns l) w m of = (w, m)
@@ -221,8 +221,8 @@ module _ (g : Weigher) (s : Station State) (event : Event) (now : ℕ) (up : s.n
   own-refused r (inr f) = inr (f.0, λ q h. lacks step-of f.1 q (go-err own-move (kept_by true step-of) q (sym (own-is true) ∙ h)))
 
   -- where the event is an own one
-  pub own-plans : ((saved : Bool) → stepped g s event now None saved ≡ own saved) → Reads event None → (((q : Refusal) → stepped g s event now None true ≡ Err q → q ≡ CountSpent) → MayLack g s event now)
-      → (ready : Result Ready Refusal) → Readies g step-of s.node ready → IfOk ready (λ p. IsOwn s.node p.change) → Plans g s event now (planned_of ready)
+  pub own-plans : ((saved : Bool) → stepped g s event now None saved ≡ own saved) → ReadsMail event None → (((q : Refusal) → stepped g s event now None true ≡ Err q → q ≡ CountSpent) → MayLack g s event now)
+      → (ready : Result Ready Refusal) → ReadiesOutcome g step-of s.node ready → IfOk ready (λ p. IsOwn s.node p.change) → PlansEvent g s event now (planned_of ready)
   own-plans same reads lack (Ok p) h is = record { mail = None; reads = reads; ready = let x = own-ready p h.0 h.1 is in record { move = x.move; moves = same true ∙ x.moves; unsaved = same false ∙ x.unsaved; done = x.done; after = x.after; fits = x.fits } }
   own-plans same reads lack (Err r) h is = elim (own-refused r h) [
     | inl e ↦ inl (None, reads, same true ∙ e)
@@ -393,7 +393,7 @@ module _ (g : Weigher) (s : Station State) (now : ℕ) (p : Planned) where
 -- ---- bytes that come
 
 module _ (g : Weigher) (s : Station State) (now : ℕ) (up : s.node.up ≡ true) where
-  pub takes-plans : (bytes : Bytes) (m : WireMessage) → IsWholeMessage m → Says IsDraftOf bytes m → (result : Result Planned Refusal) → Takes g s (mail_of m) result → Plans g s (Deliver bytes) now result
+  pub takes-plans : (bytes : Bytes) (m : WireMessage) → IsWholeMessage m → Says IsDraftOf bytes m → (result : Result Planned Refusal) → TakesMail g s (mail_of m) result → PlansEvent g s (Deliver bytes) now result
   takes-plans bytes m whole says (Ok p) x = let come : (saved : Bool) → stepped g s (Deliver bytes) now (Some (mail_of m)) saved ≡ mail_step by_tables g s (mail_of m) saved = λ saved. ap (λ b. refused_if (not b) Down (mail_step by_tables g s (mail_of m) saved)) up in record {
     mail = Some (mail_of m);
     reads = (m, whole, says, refl);
@@ -404,8 +404,8 @@ module _ (g : Weigher) (s : Station State) (now : ℕ) (up : s.node.up ≡ true)
 
 -- an own event, by whatever name it goes
 module _ (g : Weigher) (s : Station State) (event : Event) (now : ℕ) (up : s.node.up ≡ true) where
-  pub is_own : ((saved : Bool) → stepped g s event now None saved ≡ own g s event now up saved) → Reads event None → (((q : Refusal) → stepped g s event now None true ≡ Err q → q ≡ CountSpent) → MayLack g s event now)
-      → (ready : Result Ready Refusal) → Readies g (step-of g s event now up) s.node ready → IfOk ready (λ p. IsOwn s.node p.change)
-      → (other : Event) → other ≡ event → (result : Result Planned Refusal) → result ≡ planned_of ready → Plans g s other now result
+  pub is_own : ((saved : Bool) → stepped g s event now None saved ≡ own g s event now up saved) → ReadsMail event None → (((q : Refusal) → stepped g s event now None true ≡ Err q → q ≡ CountSpent) → MayLack g s event now)
+      → (ready : Result Ready Refusal) → ReadiesOutcome g (step-of g s event now up) s.node ready → IfOk ready (λ p. IsOwn s.node p.change)
+      → (other : Event) → other ≡ event → (result : Result Planned Refusal) → result ≡ planned_of ready → PlansEvent g s other now result
   is_own same reads lack ready h is other e result f =
-      subst (λ x. Plans g s x now result) (sym e) (subst (Plans g s event now) (sym f) (own-plans g s event now up same reads lack ready h is))
+      subst (λ x. PlansEvent g s x now result) (sym e) (subst (PlansEvent g s event now) (sym f) (own-plans g s event now up same reads lack ready h is))

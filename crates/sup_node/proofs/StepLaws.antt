@@ -41,7 +41,7 @@ use Rattle.sup_node.specs.declared.change.Change.TheVariants.{Nothing, Begins, L
 use Rattle.sup_node.specs.declared.change.Ready.{Ready}
 use Rattle.sup_node.specs.declared.change.Intake.{Intake}
 use Rattle.sup_node.specs.declared.change.Intake.TheVariants.{Whole}
-use Rattle.sup_node.specs.Changes.{Readies, IsIntake, IsNoIntake, kept_by, wanted_with, checked, newer, learns}
+use Rattle.sup_node.specs.Changes.{ReadiesOutcome, IsIntake, IsNoIntake, kept_by, wanted_with, checked, newer, learns}
 use Rattle.sup_node.specs.Placed.{keeps, keeps_placed}
 use Rattle.sup_node.proofs.PlanLaws.{not-above}
 
@@ -63,7 +63,7 @@ pub is_untold : (o : Outcome State) → passes_greatest o.node ≡ true → chec
 is_untold o e = ap (λ b. refused_if b CountSpent (Ok o)) e
 
 -- the same step makes the same ready
-pub ready_same : (g : Weigher) (step other : Result (Outcome State) Refusal) (n : Node State) (r : Result Ready Refusal) → step ≡ other → Readies g other n r → Readies g step n r
+pub ready_same : (g : Weigher) (step other : Result (Outcome State) Refusal) (n : Node State) (r : Result Ready Refusal) → step ≡ other → ReadiesOutcome g other n r → ReadiesOutcome g step n r
 ready_same g step other n (Ok p) e h = (ap checked e ∙ h.0, h.1)
 ready_same g step other n (Err refusal) e (inl f) = inl (ap checked e ∙ f)
 ready_same g step other n (Err refusal) e (inr f) = inr (f.0, ap is_ok e ∙ f.1)
@@ -109,14 +109,14 @@ module _ (g : Weigher) (n : Node State) (own : Option State) (reply : Reply) (le
         ap (λ s. keeps s.kept ws) is.kept ∙ and_from _ _ (none_more v.boot v.given v.kept ws) (none_less v.boot v.given v.kept ws)
 
     pub learned_ready : n.count + 1 ≤ MAX → n.supervisor.boot ≤ MAX
-        → Readies g (Ok (learns g n own reply leaving delta)) n (Ok (record { reply = reply; effects = effects; change = Learns (record { intake = intake; delta = delta; own = own }) }))
+        → ReadiesOutcome g (Ok (learns g n own reply leaving delta)) n (Ok (record { reply = reply; effects = effects; change = Learns (record { intake = intake; delta = delta; own = own }) }))
     learned_ready a c = (
       ap (λ o. checked (Ok o)) is_made
           ∙ is_told (made (kept_by n.supervisor intake) effects) (within_greatest (made (kept_by n.supervisor intake) effects).node a is.within c),
       (is.makes, keeps_then),
     )
 
-  pub untaken : (r : Refusal) → IsNoIntake g n leaving delta r → Readies g (Ok (learns g n own reply leaving delta)) n (Err r)
+  pub untaken : (r : Refusal) → IsNoIntake g n leaving delta r → ReadiesOutcome g (Ok (learns g n own reply leaving delta)) n (Err r)
   untaken r (inl e) = inr (e, refl)
   untaken r (inr e) = inl (is_untold (learns g n own reply leaving delta) (given_passes (learns g n own reply leaving delta).node (omega (arith, e.1))) ∙ ap Err (sym e.0))
 
@@ -126,10 +126,10 @@ keeps_again g n id now h = (λ i. again_wanted n.supervisor id (wanted by_tables
 
 pub begun_ready : (g : Weigher) (n : Node State) (id again : Bytes) (now : ℕ) (effects : List Effect) → again ≡ id → effects ≡ restart_effects n.supervisor id (lookup (bytes_eq id) n.supervisor.kept)
     → passes_greatest (record n { supervisor = restarted n.supervisor id now }) ≡ false → keeps_placed g n ≡ true
-    → Readies g (exit_step by_tables g n id now Restart) n (Ok (record { reply = Restarted; effects = effects; change = Begins again now }))
+    → ReadiesOutcome g (exit_step by_tables g n id now Restart) n (Ok (record { reply = Restarted; effects = effects; change = Begins again now }))
 begun_ready g n id again now effects same told passes keeps =
     let o : List Effect → Outcome State = λ es. record { done = record { reply = Restarted; effects = es }; node = record n { supervisor = restarted n.supervisor id now }; letter = None; saves = false } in
-    subst (λ x. Readies g (exit_step by_tables g n id now Restart) n (Ok (record { reply = Restarted; effects = effects; change = Begins x now }))) (sym same)
+    subst (λ x. ReadiesOutcome g (exit_step by_tables g n id now Restart) n (Ok (record { reply = Restarted; effects = effects; change = Begins x now }))) (sym same)
     (ap (λ es. checked (Ok (o es))) (sym told) ∙ is_told (o effects) passes, (tt, keeps_again g n id now keeps))
 
 -- who goes on from an image keeps what is placed on it
@@ -141,7 +141,7 @@ restarted_keeps g n s plan ws wanted se pe we ke =
 
 -- a delta that brings nothing new
 pub known_ready : (w : Weigher) (n : Node State) (delta : State) (covered : Bool) (effects : List Effect) → covered ≡ true → join_states n.known delta ≡ n.known → effects ≡ [] → passes_greatest n ≡ false → keeps_placed w n ≡ true
-    → Readies w (Ok (absorbs by_tables w n delta None covered)) n (Ok (record { reply = Known; effects = effects; change = Nothing }))
+    → ReadiesOutcome w (Ok (absorbs by_tables w n delta None covered)) n (Ok (record { reply = Known; effects = effects; change = Nothing }))
 known_ready w n delta covered effects ce je ee pe keeps = (
   ap (λ b. checked (Ok (absorbs by_tables w n delta None b))) ce
       ∙ (λ i. checked (Ok (only (record n { known = je i }) Known (sym ee i) None)))

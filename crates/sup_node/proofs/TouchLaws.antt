@@ -34,7 +34,7 @@ use Rattle.sup_local_sup.specs.Keeping.{Kept, is_for, is_wanted, is_kept}
 use Rattle.sup_local_sup.proofs.KeepingLaws.{exact_from_eq}
 use Rattle.sup_local_sup.specs.Changing.{now_list, news, is_named, by_id, IsOwn, AreChanges, IsReplaced, left_of, leaving_of}
 use Rattle.sup_replica.specs.Nodes.{is_placed_on, wanted_of, wanted_row, wanted_at}
-use Rattle.sup_node.specs.Placed.{keeps, wanted_by, wanted_under, change_of, Reaches, ended_of}
+use Rattle.sup_node.specs.Placed.{keeps, wanted_by, wanted_under, change_of, ListsLeaving, ended_of}
 use Rattle.sup_replica.proofs.WantedLaws.{first_of}
 use Rattle.sup_node.proofs.PlacingLaws.{key_there}
 
@@ -256,12 +256,12 @@ abbrev IsAmong : List Bytes → Option Bytes → Type 0
 IsAmong ids None = Unit {0}
 IsAmong ids (Some id) = among text_cmp ids id ≡ true
 
-pub reached : (ids : List Bytes) (leaving : Leaving) → Reaches ids leaving → IsAmong ids (ended_of leaving)
+pub reached : (ids : List Bytes) (leaving : Leaving) → ListsLeaving ids leaving → IsAmong ids (ended_of leaving)
 reached ids Nobody h = tt
 reached ids (Finished id) h = h
 reached ids (GaveUp id) h = absurd h
 
-pub leaving_back : (ids : List Bytes) (leaving : Leaving) → Reaches ids leaving → leaving_of (ended_of leaving) ≡ leaving
+pub leaving_back : (ids : List Bytes) (leaving : Leaving) → ListsLeaving ids leaving → leaving_of (ended_of leaving) ≡ leaving
 leaving_back ids Nobody h = refl
 leaving_back ids (Finished id) h = refl
 leaving_back ids (GaveUp id) h = absurd h

@@ -1,4 +1,4 @@
--- What an act makes ready, and what a node becomes once that is carried out (this project).
+-- What an act makes ready, and what a node becomes once that is carried out (the rules of steps and of kept children).
 use Rattle.std.specs.Prelude.{ℕ, ◌≡◌, ◌+◌, ◌≤◌, ◌<◌, Bool, true, false, List, [], Option, Some, None, Result, Ok, Err, IsOk}
 use mathlib.Core.Logic.{◌⊎◌}
 use Rattle.sup_specs.specs.declared.limits.TheConstants.{MAX}
@@ -45,9 +45,9 @@ newer (Some own) old = Some own
 newer None old = old
 
 -- whether tables of the first state become the second's
-abbrev pub Makes : Intake → State → State → Type 0
-Makes (Whole tables plan) old new = tables ≡ new
-Makes (Touched tables plan) old new = IsPlanFor tables old new
+abbrev pub ChangesTables : Intake → State → State → Type 0
+ChangesTables (Whole tables plan) old new = tables ≡ new
+ChangesTables (Touched tables plan) old new = IsPlanFor tables old new
 
 -- the supervisor then
 abbrev pub supervised : Supervisor → Intake → Supervisor
@@ -88,15 +88,15 @@ image_after n (Learns l) = Some (image_of (learned n l))
 image_after n (Acknowledges from number) = None
 
 -- what a change's tables ask of the node: that its own become those with the delta
-abbrev pub MakesOf : Node State → Change → Type 0
-MakesOf n Nothing = Unit {0}
-MakesOf n (Begins id now) = Unit {0}
-MakesOf n (Learns l) = Makes l.intake n.known (join_states n.known l.delta)
-MakesOf n (Acknowledges from number) = Unit {0}
+abbrev pub ChangesTablesOf : Node State → Change → Type 0
+ChangesTablesOf n Nothing = Unit {0}
+ChangesTablesOf n (Begins id now) = Unit {0}
+ChangesTablesOf n (Learns l) = ChangesTables l.intake n.known (join_states n.known l.delta)
+ChangesTablesOf n (Acknowledges from number) = Unit {0}
 
 -- the change is made for the node: it keeps what is placed on it then
 abbrev pub IsMadeFor : Weigher → Node State → Change → Type 0
-IsMadeFor g n change = MakesOf n change × (keeps_placed g (changed n change) ≡ true)
+IsMadeFor g n change = ChangesTablesOf n change × (keeps_placed g (changed n change) ≡ true)
 
 -- the same of a station: what it learned stands behind the held deltas, and an acknowledged number only rises
 abbrev pub station_after : Station State → Change → Station State
@@ -128,9 +128,9 @@ outcome_of n p = record { done = record { reply = p.reply; effects = p.effects }
 
 -- what is ready is the step's outcome, or it is refused as the step says; or for memory, and that only where the step says no refusal but of
 -- numbers
-abbrev pub Readies : Weigher → Result (Outcome State) Refusal → Node State → Result Ready Refusal → Type 0
-Readies g step n (Ok p) = (checked step ≡ Ok (outcome_of n p)) × IsMadeFor g n p.change
-Readies g step n (Err r) = (checked step ≡ Err r) ⊎ ((r ≡ OutOfMemory) × IsOk step)
+abbrev pub ReadiesOutcome : Weigher → Result (Outcome State) Refusal → Node State → Result Ready Refusal → Type 0
+ReadiesOutcome g step n (Ok p) = (checked step ≡ Ok (outcome_of n p)) × IsMadeFor g n p.change
+ReadiesOutcome g step n (Err r) = (checked step ≡ Err r) ⊎ ((r ≡ OutOfMemory) × IsOk step)
 
 -- a stopped node, by its image
 abbrev pub stopped_node : ℕ → ℕ → Image → Node State
@@ -158,7 +158,7 @@ wanted_with g n delta = wanted_at g n.name (join_states n.known delta).rows
 
 -- how a delta is taken in: the tables become those with it, and what is kept and told is what is wanted then, without those that leave
 pub record IsIntake (g : Weigher) (n : Node State) (leaving : Leaving) (delta : State) (intake : Intake) (effects : List Effect) : Type 0 where
-  pub makes : Makes intake n.known (join_states n.known delta)
+  pub makes : ChangesTables intake n.known (join_states n.known delta)
   pub kept : kept_by n.supervisor intake ≡ leaving_after n.supervisor leaving (wanted_with g n delta)
   pub told : effects ≡ leaving_effects n.supervisor leaving (wanted_with g n delta)
   pub within : (kept_by n.supervisor intake).given ≤ MAX

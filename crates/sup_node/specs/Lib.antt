@@ -1,11 +1,11 @@
 pub mod Placed
 pub mod Changes
-pub mod Carrying
+pub mod CarriedChanges
 pub mod Texts
 pub mod NodeStates
 pub mod Contents
 pub mod NodeSteps
 pub mod Openings
 pub mod OpenNodes
-pub mod Taking
+pub mod TakenMail
 pub mod Whereabouts

@@ -1,4 +1,4 @@
--- What a node that runs answers to an event, and what it becomes: the station's step, over the bytes that come and leave (this project).
+-- What a node that runs answers to an event, and what it becomes: the station's step, over the bytes that come and leave (the rule of steps).
 use Rattle.std.specs.Prelude.{◌≡◌, ◌≤◌, ℕ, Bool, true, false, List, [], Option, None, Result, Ok, Err, if◌then◌else◌}
 use mathlib.Core.Logic.{◌⊎◌}
 use Rattle.sup_specs.specs.Values.{Bytes}
@@ -22,24 +22,24 @@ use Rattle.sup_replica.specs.Stations.{Station, Mail, Move, station_step}
 use Rattle.sup_node.specs.declared.change.Change.{Change}
 use Rattle.sup_node.specs.declared.change.Change.TheVariants.{Nothing, Begins, Learns, Acknowledges}
 use Rattle.sup_node.specs.declared.planned.Planned.{Planned}
-use Rattle.sup_node.specs.Changes.{stopped_node, changed, learned, saves, station_after, Makes}
+use Rattle.sup_node.specs.Changes.{stopped_node, changed, learned, saves, station_after, ChangesTables}
 use Rattle.sup_node.specs.Placed.{keeps_placed}
 use Rattle.sup_node.specs.Texts.{IsReadAs, IsDoneOf, reads_as}
 
 -- what an event's bytes are read as, where it brings a message; nothing is asked of another
-abbrev pub Reads : Event → Option (Mail State) → Type 0
-Reads (Join label) mail = Unit {0}
-Reads (Leave m) mail = Unit {0}
-Reads (Drain m) mail = Unit {0}
-Reads (Start id spec) mail = Unit {0}
-Reads (Delete id) mail = Unit {0}
-Reads (Replace id spec) mail = Unit {0}
-Reads (Register name id) mail = Unit {0}
-Reads (Unregister name) mail = Unit {0}
-Reads (Exit id inc reason) mail = Unit {0}
-Reads (Ship to) mail = Unit {0}
-Reads (Push to) mail = Unit {0}
-Reads (Deliver bytes) mail = IsReadAs bytes mail
+abbrev pub ReadsMail : Event → Option (Mail State) → Type 0
+ReadsMail (Join label) mail = Unit {0}
+ReadsMail (Leave m) mail = Unit {0}
+ReadsMail (Drain m) mail = Unit {0}
+ReadsMail (Start id spec) mail = Unit {0}
+ReadsMail (Delete id) mail = Unit {0}
+ReadsMail (Replace id spec) mail = Unit {0}
+ReadsMail (Register name id) mail = Unit {0}
+ReadsMail (Unregister name) mail = Unit {0}
+ReadsMail (Exit id inc reason) mail = Unit {0}
+ReadsMail (Ship to) mail = Unit {0}
+ReadsMail (Push to) mail = Unit {0}
+ReadsMail (Deliver bytes) mail = IsReadAs bytes mail
 
 -- the step, where these bytes are read so; `saved` says whether a save holds
 abbrev pub stepped : Weigher → Station State → Event → ℕ → Option (Mail State) → Bool → Result (Move State) Refusal
@@ -52,19 +52,19 @@ MayLack g s event now = (r : Refusal) → stepped g s event now None true ≡ Er
 
 -- an event is refused: as the step says, or for memory
 abbrev pub IsRefused : Weigher → Station State → Event → ℕ → Refusal → Type 0
-IsRefused g s event now r = ((mail : Option (Mail State)) × Reads event mail × (stepped g s event now mail true ≡ Err r)) ⊎ ((r ≡ OutOfMemory) × MayLack g s event now)
+IsRefused g s event now r = ((mail : Option (Mail State)) × ReadsMail event mail × (stepped g s event now mail true ≡ Err r)) ⊎ ((r ≡ OutOfMemory) × MayLack g s event now)
 
 -- what a change asks of the node that it is carried out at, whatever children are weighed by: no number passes the greatest, its tables become those
 -- with the delta, and no more is acknowledged than there is
 abbrev pub MayChange : Station State → Change → Type 0
 MayChange s Nothing = Unit {0}
 MayChange s (Begins id now) = passes_greatest (changed s.node (Begins id now)) ≡ false
-MayChange s (Learns l) = (passes_greatest (learned s.node l) ≡ false) × Makes l.intake s.node.known (join_states s.node.known l.delta)
+MayChange s (Learns l) = (passes_greatest (learned s.node l) ≡ false) × ChangesTables l.intake s.node.known (join_states s.node.known l.delta)
 MayChange s (Acknowledges from number) = number ≤ s.node.count
 
 -- what an event's plan asks of it: that, and that the node keeps what is placed on it then
-abbrev pub Fits : Weigher → Station State → Change → Type 0
-Fits g s change = MayChange s change × (keeps_placed g (changed s.node change) ≡ true)
+abbrev pub FitsNode : Weigher → Station State → Change → Type 0
+FitsNode g s change = MayChange s change × (keeps_placed g (changed s.node change) ≡ true)
 
 -- what is made ready is the step's move, and what the node becomes; where its save fails, it is refused
 pub record IsReady (g : Weigher) (step : Bool → Result (Move State) Refusal) (s : Station State) (p : Planned) : Type 0 where
@@ -73,29 +73,29 @@ pub record IsReady (g : Weigher) (step : Bool → Result (Move State) Refusal) (
   pub unsaved : step false ≡ (if saves p.change then Err KeepFailed else Ok move)
   pub done : IsDoneOf move p.done
   pub after : station_after s p.change ≡ move.station
-  pub fits : Fits g s p.change
+  pub fits : FitsNode g s p.change
 
 pub record IsPlanOf (g : Weigher) (s : Station State) (event : Event) (now : ℕ) (p : Planned) : Type 0 where
   pub mail : Option (Mail State)
-  pub reads : Reads event mail
+  pub reads : ReadsMail event mail
   pub ready : IsReady g (stepped g s event now mail) s p
 
-abbrev pub Plans : Weigher → Station State → Event → ℕ → Result Planned Refusal → Type 0
-Plans g s event now (Ok p) = IsPlanOf g s event now p
-Plans g s event now (Err r) = IsRefused g s event now r
+abbrev pub PlansEvent : Weigher → Station State → Event → ℕ → Result Planned Refusal → Type 0
+PlansEvent g s event now (Ok p) = IsPlanOf g s event now p
+PlansEvent g s event now (Err r) = IsRefused g s event now r
 
 -- the answer to an event and what the node becomes
-pub record Answers (g : Weigher) (s : Station State) (event : Event) (now : ℕ) (done : Done) (t : Station State) : Type 0 where
+pub record CarriesOutEvent (g : Weigher) (s : Station State) (event : Event) (now : ℕ) (done : Done) (t : Station State) : Type 0 where
   pub mail : Option (Mail State)
-  pub reads : Reads event mail
+  pub reads : ReadsMail event mail
   pub move : Move State
   pub moves : stepped g s event now mail true ≡ Ok move
   pub told : IsDoneOf move done
   pub after : t ≡ move.station
 
-abbrev pub Goes : Weigher → Station State → Event → ℕ → Result Done Refusal → Station State → Type 0
-Goes g s event now (Ok done) t = Answers g s event now done t
-Goes g s event now (Err r) t = (t ≡ s) × IsRefused g s event now r
+abbrev pub AnswersEvent : Weigher → Station State → Event → ℕ → Result Done Refusal → Station State → Type 0
+AnswersEvent g s event now (Ok done) t = CarriesOutEvent g s event now done t
+AnswersEvent g s event now (Err r) t = (t ≡ s) × IsRefused g s event now r
 
 -- a node that was just made
 abbrev pub fresh_station : Bytes → Config → Station State

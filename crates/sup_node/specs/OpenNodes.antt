@@ -1,4 +1,4 @@
--- The code's node that is opened for a change: what it was, and what it is to be (this project).
+-- The code's node that is opened for a change: what it was, and what it is to be.
 use Rattle.std.specs.Prelude.{◌≡◌, true}
 use Rattle.sup_tables.specs.States.{State}
 use Rattle.sup_placement.specs.Place.{Weigher}

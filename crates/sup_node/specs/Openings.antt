@@ -1,4 +1,4 @@
--- A node that is opened for a delta: what it was, and what it is to be (this project).
+-- A node that is opened for a delta: what it was, and what it is to be.
 use Rattle.std.specs.Prelude.{◌≡◌, ◌+◌, ◌≤◌, ◌<◌}
 use Rattle.sup_specs.specs.declared.limits.TheConstants.{MAX}
 use Rattle.sup_tables.specs.States.{State}
@@ -16,9 +16,9 @@ use Rattle.sup_node.specs.declared.opened.OpenState.{OpenState}
 use Rattle.sup_node.specs.Changes.{newer}
 
 -- tables that are known here become these; those that are open are known nowhere meanwhile
-abbrev pub Becomes : OpenIntake → State → State → State → Type 0
-Becomes (Whole tables plan) here old new = (here ≡ old) × (tables ≡ new)
-Becomes (Touched tables plan) here old new = (here ≡ no_state) × IsOpen tables old new
+abbrev pub TablesBecome : OpenIntake → State → State → State → Type 0
+TablesBecome (Whole tables plan) here old new = (here ≡ old) × (tables ≡ new)
+TablesBecome (Touched tables plan) here old new = (here ≡ no_state) × IsOpen tables old new
 
 -- the supervisor then
 abbrev pub supervised : Supervisor → OpenIntake → Supervisor
@@ -46,7 +46,7 @@ grown_to o s known = record s {
 
 -- the node was the first, and is to be the second
 pub record IsOpenState (o : OpenState) (old new : Station State) : Type 0 where
-  pub tables : Becomes o.intake o.replica.known old.node.known new.node.known
+  pub tables : TablesBecome o.intake o.replica.known old.node.known new.node.known
   pub before : old ≡ with_known o old.node.known
   pub after : new ≡ grown_to o old new.node.known
   pub count : o.replica.count < MAX

@@ -1,4 +1,4 @@
--- Which children a node keeps (this project): exactly those that are placed on it, by id and dot.
+-- Which children a node keeps (the rule of kept children): exactly those that are placed on it, by id and dot.
 use Rattle.std.specs.Prelude.{◌≡◌, Bool, ◌&&◌, true, List, Option, Some, None, if◌then◌else◌}
 use Rattle.std.specs.List.{list_all}
 use Rattle.sup_specs.specs.Values.{Bytes, text_cmp}
@@ -37,10 +37,10 @@ abbrev pub change_of : Weigher → Bytes → List Bytes → List Row → Bytes �
 change_of g me hosts rows id = record { id = id; now = wanted_under g me hosts rows id }
 
 -- who leaves is among these children, and nobody else leaves
-abbrev pub Reaches : List Bytes → Leaving → Type 0
-Reaches ids Nobody = Unit {0}
-Reaches ids (Finished id) = among text_cmp ids id ≡ true
-Reaches ids (GaveUp id) = ⊥
+abbrev pub ListsLeaving : List Bytes → Leaving → Type 0
+ListsLeaving ids Nobody = Unit {0}
+ListsLeaving ids (Finished id) = among text_cmp ids id ≡ true
+ListsLeaving ids (GaveUp id) = ⊥
 
 -- whose run has ended
 abbrev pub ended_of : Leaving → Option Bytes

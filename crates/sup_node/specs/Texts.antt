@@ -1,4 +1,4 @@
--- What the bytes of a letter or an image say (this project): the forms of messages and images.
+-- What the bytes of a letter or an image say: the forms of messages and images.
 use Rattle.std.specs.Prelude.{◌≡◌, false, [], List, Option, Some, None}
 use Rattle.sup_specs.specs.Values.{Bytes}
 use Rattle.sup_tables.specs.declared.row.Row.{Row}

@@ -1,4 +1,4 @@
--- Where a name leads (this project): to its child, and to the member that the child is placed on.
+-- Where a name leads (the rules of names and of placement): to its child, and to the member that the child is placed on.
 use Rattle.std.specs.Prelude.{List, Option, Some, None, if◌then◌else◌}
 use Rattle.sup_specs.specs.Values.{Bytes}
 use Rattle.sup_tables.specs.declared.row.Row.{Row}

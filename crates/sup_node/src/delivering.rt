@@ -6,9 +6,9 @@ ghost use Rattle.sup_wire.specs.Faults.{IsInRange};
 ghost use Rattle.sup_wire.specs.Forms.{IsCount};
 ghost use Rattle.sup_replica.specs.Stations.{a_delta, a_push, an_ack};
 ghost use Rattle.sup_node.specs.NodeStates.{station_in};
-ghost use Rattle.sup_node.specs.NodeSteps.{Plans};
+ghost use Rattle.sup_node.specs.NodeSteps.{PlansEvent};
 ghost use Rattle.sup_node.specs.Placed.{keeps_placed};
-ghost use Rattle.sup_node.specs.Taking.{Takes};
+ghost use Rattle.sup_node.specs.TakenMail.{TakesMail};
 ghost use Rattle.sup_node.specs.Texts.{mail_of};
 
 use crate::letters::ack_letter;
@@ -28,7 +28,7 @@ impl NodeState {
         weigher: &W,
     ) -> Result<Planned, Refusal>
         requires { keeps_placed W.weight_of (station_in self.now).node ≡ true }
-        ensures { (now : ℕ) → Plans W.weight_of (station_in self.now) (Deliver bytes.now) now result }
+        ensures { (now : ℕ) → PlansEvent W.weight_of (station_in self.now) (Deliver bytes.now) now result }
     {
         match decode(self.replica.alloc(), bytes.as_slice()) {
             Err(WireFault::OutOfMemory) => Err(Refusal::OutOfMemory),
@@ -41,7 +41,7 @@ impl NodeState {
     fn take<W: Weigh>(&self, message: Message, weigher: &W) -> Result<Planned, Refusal>
         requires keeps { keeps_placed W.weight_of (station_in self.now).node ≡ true }
         requires in_range { IsInRange message }
-        ensures { Takes W.weight_of (station_in self.now) (mail_of message) result }
+        ensures { TakesMail W.weight_of (station_in self.now) (mail_of message) result }
     {
         match message {
             Message::Ack { from, to, n } => self.take_ack(from, &to, n),
@@ -52,7 +52,7 @@ impl NodeState {
 
     // A peer has what it was sent.
     fn take_ack(&self, from: NodeName, to: &NodeName, n: u64) -> Result<Planned, Refusal>
-        ensures { (g : Weigher) → keeps_placed g (station_in self.now).node ≡ true → Takes g (station_in self.now) (an_ack from to.now n) result }
+        ensures { (g : Weigher) → keeps_placed g (station_in self.now).node ≡ true → TakesMail g (station_in self.now) (an_ack from to.now n) result }
     {
         if !self.replica.is_named(to) {
             return Err(Refusal::WrongReceiver);
@@ -72,7 +72,7 @@ impl NodeState {
         weigher: &W,
     ) -> Result<Planned, Refusal>
         requires { keeps_placed W.weight_of (station_in self.now).node ≡ true }
-        ensures { Takes W.weight_of (station_in self.now) (a_push from to.now delta) result }
+        ensures { TakesMail W.weight_of (station_in self.now) (a_push from to.now delta) result }
     {
         if !self.replica.is_named(to) {
             return Err(Refusal::WrongReceiver);
@@ -93,7 +93,7 @@ impl NodeState {
         requires keeps { keeps_placed W.weight_of (station_in self.now).node ≡ true }
         requires differ { from ≢ to.now }
         requires number { IsCount n }
-        ensures { Takes W.weight_of (station_in self.now) (a_delta from to.now n false delta) result }
+        ensures { TakesMail W.weight_of (station_in self.now) (a_delta from to.now n false delta) result }
     {
         if !self.replica.is_named(to) {
             return Err(Refusal::WrongReceiver);

@@ -22,10 +22,10 @@ pub struct Node<W: Weigh> {
 }
 
 impl<W: Weigh> Node<W> {
-    ghost use Rattle.sup_node.specs.Carrying.{takes_memory};
+    ghost use Rattle.sup_node.specs.CarriedChanges.{takes_memory};
     ghost use Rattle.sup_node.specs.Changes.{station_after};
     ghost use Rattle.sup_node.specs.Contents.{station_of};
-    ghost use Rattle.sup_node.specs.NodeSteps.{Plans, Goes, Fits, IsRestart, IsRestartRefused, fresh_station};
+    ghost use Rattle.sup_node.specs.NodeSteps.{PlansEvent, AnswersEvent, FitsNode, IsRestart, IsRestartRefused, fresh_station};
 
     /// The node that is in this state.
     pub fn of(state: NodeState) -> Node<W>
@@ -74,7 +74,7 @@ impl<W: Weigh> Node<W> {
     /// The refusal of the first check that fails. Want of memory is told of a delivery, and of another event only where none
     /// fails but that of numbers.
     pub fn plan(&self, event: &Event, now: u64, weigher: &W) -> Result<Planned, Refusal>
-        ensures { Plans W.weight_of (station_of self.now) event.now now result }
+        ensures { PlansEvent W.weight_of (station_of self.now) event.now now result }
     {
         self.state.plan(event, now, weigher)
     }
@@ -85,7 +85,7 @@ impl<W: Weigh> Node<W> {
     ///
     /// Refused only for memory, and that for an acknowledgement or a change of the tables alone. The node is unchanged then.
     pub fn carry_out(&mut self, planned: Planned) -> Result<Done, AllocError>
-        requires { Fits W.weight_of (station_of self.old) planned.change }
+        requires { FitsNode W.weight_of (station_of self.old) planned.change }
         ensures done { IfOk result (λ done. done ≡ planned.done) }
         ensures becomes { OnOk result (station_of self.new ≡ station_after (station_of self.old) planned.change) }
         ensures refused { OnErr result (station_of self.new ≡ station_of self.old) }
@@ -106,14 +106,14 @@ impl<W: Weigh> Node<W> {
     ///
     /// As [`Node::plan`] tells; and `OutOfMemory` as [`Node::carry_out`] tells. The node is unchanged then.
     pub fn step(&mut self, event: Event, now: u64, weigher: &W) -> Result<Done, Refusal>
-        ensures { Goes W.weight_of (station_of self.old) event now result (station_of self.new) }
+        ensures { AnswersEvent W.weight_of (station_of self.old) event now result (station_of self.new) }
     {
         self.happens(&event, now, weigher)
     }
 
     // The event is made ready and carried out.
     fn happens(&mut self, event: &Event, now: u64, weigher: &W) -> Result<Done, Refusal>
-        ensures { Goes W.weight_of (station_of self.old) event.now now result (station_of self.new) }
+        ensures { AnswersEvent W.weight_of (station_of self.old) event.now now result (station_of self.new) }
     {
         match self.plan(event, now, weigher) {
             Err(refusal) => Err(refusal),

@@ -4,7 +4,7 @@ ghost use Rattle.sup_replica.specs.Stations.{Station};
 ghost use Rattle.sup_tables.specs.States.{State};
 ghost use Rattle.sup_node.specs.Changes.{saves, station_after};
 ghost use Rattle.sup_node.specs.Contents.{station_of};
-ghost use Rattle.sup_node.specs.NodeSteps.{Fits};
+ghost use Rattle.sup_node.specs.NodeSteps.{FitsNode};
 ghost use Rattle.sup_node.specs.OpenNodes.{IsOpenNode, answer_of};
 
 use crate::change::Change;
@@ -27,7 +27,7 @@ impl<W: Weigh> Node<W> {
     /// Takes all memory that a change which is saved wants, with the node as it was when it was planned. An `Err` is want of
     /// memory, and gives the node back.
     pub fn open(self, planned: Planned) -> Result<OpenNode<W>, Node<W>>
-        requires fits { Fits W.weight_of (station_of self) planned.change }
+        requires fits { FitsNode W.weight_of (station_of self) planned.change }
         requires saved { saves planned.change ≡ true }
         ensures open { IfOk result (λ o. IsOpenNode W.weight_of o (station_of self) (station_after (station_of self) planned.change)) }
         ensures done { IfOk result (λ o. answer_of o ≡ planned.done) }

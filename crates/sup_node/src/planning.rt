@@ -1,9 +1,9 @@
 //! Events, each made ready where it belongs.
 ghost use Rattle.std.specs.Prelude.{◌≡◌, true};
 ghost use Rattle.sup_node.specs.NodeStates.{station_in};
-ghost use Rattle.sup_node.specs.NodeSteps.{Plans};
+ghost use Rattle.sup_node.specs.NodeSteps.{PlansEvent};
 ghost use Rattle.sup_node.specs.Placed.{keeps_placed};
-ghost use Rattle.sup_node.specs.Taking.{planned_of};
+ghost use Rattle.sup_node.specs.TakenMail.{planned_of};
 
 use crate::change::Ready;
 use crate::planned::Planned;
@@ -20,7 +20,7 @@ impl NodeState {
         weigher: &W,
     ) -> Result<Planned, Refusal>
         requires { keeps_placed W.weight_of (station_in self.now).node ≡ true }
-        ensures { Plans W.weight_of (station_in self.now) event.now now result }
+        ensures { PlansEvent W.weight_of (station_in self.now) event.now now result }
     {
         let replica = &self.replica;
         match event {

@@ -3,7 +3,7 @@ ghost use Rattle.std.specs.Prelude.{◌≡◌, ℕ, true};
 ghost use Rattle.sup_placement.specs.Place.{Weigher};
 ghost use Rattle.sup_replica.specs.declared.event.Event.TheVariants.{Ship, Push};
 ghost use Rattle.sup_node.specs.NodeStates.{station_in};
-ghost use Rattle.sup_node.specs.NodeSteps.{Plans};
+ghost use Rattle.sup_node.specs.NodeSteps.{PlansEvent};
 ghost use Rattle.sup_node.specs.Placed.{keeps_placed};
 
 use crate::letters::{delta_letter, push_letter};
@@ -15,7 +15,7 @@ use sup_specs::NodeName;
 impl NodeState {
     // A peer is sent what it hasn't acknowledged.
     pub(crate) fn ship(&self, to: &NodeName) -> Result<Planned, Refusal>
-        ensures { (g : Weigher) (now : ℕ) → keeps_placed g (station_in self.now).node ≡ true → Plans g (station_in self.now) (Ship to.now) now result }
+        ensures { (g : Weigher) (now : ℕ) → keeps_placed g (station_in self.now).node ≡ true → PlansEvent g (station_in self.now) (Ship to.now) now result }
     {
         let replica = &self.replica;
         if replica.is_named(to) {
@@ -35,7 +35,7 @@ impl NodeState {
 
     // A peer is sent the newest own operation.
     pub(crate) fn push(&self, to: &NodeName) -> Result<Planned, Refusal>
-        ensures { (g : Weigher) (now : ℕ) → keeps_placed g (station_in self.now).node ≡ true → Plans g (station_in self.now) (Push to.now) now result }
+        ensures { (g : Weigher) (now : ℕ) → keeps_placed g (station_in self.now).node ≡ true → PlansEvent g (station_in self.now) (Push to.now) now result }
     {
         let replica = &self.replica;
         replica.is_counted();

@@ -25,9 +25,9 @@ pub struct NodeState {
 
 impl NodeState {
     ghost use Rattle.sup_node.specs.declared.change.Change.TheVariants.{Learns};
-    ghost use Rattle.sup_node.specs.Carrying.{takes_memory};
+    ghost use Rattle.sup_node.specs.CarriedChanges.{takes_memory};
     ghost use Rattle.sup_tables.specs.Joined.{join_states};
-    ghost use Rattle.sup_node.specs.Changes.{Makes, kept_by, station_after};
+    ghost use Rattle.sup_node.specs.Changes.{ChangesTables, kept_by, station_after};
     ghost use Rattle.sup_node.specs.NodeStates.{station_in};
     ghost use Rattle.sup_node.specs.NodeSteps.{MayChange, IsRestart, IsRestartRefused, fresh_station};
     ghost use Rattle.sup_node.specs.Openings.{IsOpenState};
@@ -98,7 +98,7 @@ impl NodeState {
     fn learn(&mut self, learned: Learned) -> Result<(), AllocError>
         requires count { self.old.replica.count < MOST }
         requires given { (kept_by self.old.replica.supervisor learned.intake).given ≤ MOST }
-        requires tables { Makes learned.intake self.old.replica.known (join_states self.old.replica.known learned.delta) }
+        requires tables { ChangesTables learned.intake self.old.replica.known (join_states self.old.replica.known learned.delta) }
         ensures ok { OnOk result (station_in self.new ≡ station_after (station_in self.old) (Learns learned)) }
         ensures err { OnErr result (station_in self.new ≡ station_in self.old) }
     {
@@ -112,7 +112,7 @@ impl NodeState {
     pub(crate) fn open(self, learned: Learned) -> Result<OpenState, NodeState>
         requires count { self.replica.count < MOST }
         requires given { (kept_by self.replica.supervisor learned.intake).given ≤ MOST }
-        requires tables { Makes learned.intake self.replica.known (join_states self.replica.known learned.delta) }
+        requires tables { ChangesTables learned.intake self.replica.known (join_states self.replica.known learned.delta) }
         ensures open { IfOk result (λ o. IsOpenState o (station_in self) (station_after (station_in self) (Learns learned))) }
         ensures err { IfErr result (λ s. station_in s ≡ station_in self) }
     {

@@ -1,4 +1,4 @@
--- A keeper in memory, as a gate sees it (this project).
+-- A keeper in memory, as a gate sees it.
 use Rattle.std.specs.Prelude.{ℕ, Bool, not}
 use Rattle.sup_keeper.specs.Keeping.{Kept}
 

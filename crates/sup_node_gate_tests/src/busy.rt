@@ -2,7 +2,7 @@
 ghost use Rattle.std.specs.Prelude.{◌≡◌};
 ghost use Rattle.sup_node_gate.specs.Gates.{IsOf};
 ghost use Rattle.sup_node_gate.specs.InMemory.{failures_by, sound_by};
-ghost use Rattle.sup_station.specs.Opening.{kept_by};
+ghost use Rattle.sup_station.specs.OpenedStations.{kept_by};
 
 use crate::given::{start, station};
 use crate::told::added;

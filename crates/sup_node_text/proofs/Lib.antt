@@ -1,2 +1,2 @@
 pub mod LoserLaws
-pub mod Inspections
+pub mod InspectionLaws

@@ -1,4 +1,4 @@
--- What an inspection tells (this project): what a node shows, how often its tables changed, how many deltas it holds, its context, and how far its peers have
+-- What an inspection tells (the rule of output): what a node shows, how often its tables changed, how many deltas it holds, its context, and how far its peers have
 -- acknowledged its changes. Of a stored image it tells what an image has.
 use Rattle.std.specs.Prelude.{◌≡◌, ◌==◌, ℕ, List, [], ◌∷◌, length, codes, decimal, Option, Some, None, if◌then◌else◌}
 use Rattle.std.specs.Borrow.{Bor}

@@ -1,4 +1,4 @@
--- What is shown of a node (this project): its boot; of each table each key's winner, by key, and behind it the key's losers, in dot order; then
+-- What is shown of a node (the rule of output): its boot; of each table each key's winner, by key, and behind it the key's losers, in dot order; then
 -- what it keeps running, in the order of its starts. Of a stopped node no more than that it is down.
 use Rattle.std.specs.Prelude.{ℕ, List, [], ◌∷◌, codes, decimal, Option, Some, None}
 use Rattle.std.specs.Borrow.{Bor}

@@ -1,3 +1,3 @@
-pub mod Apart
-pub mod Names
-pub mod Tests
+pub mod ApartItemLaws
+pub mod ComparedNameLaws
+pub mod ItemTestLaws

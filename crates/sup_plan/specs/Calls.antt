@@ -1,4 +1,4 @@
--- What the entries of a history are calls of, and what they send and bring (this project).
+-- What the entries of a history are calls of, and what they send and bring.
 use Rattle.std.specs.Prelude.{ℕ, List, [], ◌∷◌, flat_map, Option, Some, None, Ok, Err, if◌then◌else◌}
 use Rattle.sup_specs.specs.Values.{Bytes}
 use Rattle.sup_replica.specs.Nodes.{is_named}
@@ -6,7 +6,7 @@ use Rattle.sup_replica.specs.declared.event.Act.{Act}
 use Rattle.sup_replica.specs.declared.event.Act.TheVariants.{Event as Of}
 use Rattle.sup_replica.specs.declared.event.Event.TheVariants.{Deliver}
 use Rattle.sup_replica.specs.declared.letter.Letter.{Letter}
-use Rattle.sup_node_gate.specs.Histories.{Answer}
+use Rattle.sup_node_gate.specs.Histories.{StationAnswer}
 use Rattle.sup_node_gate.specs.declared.entry.Entry.{Entry}
 use Rattle.sup_plan.specs.declared.plan.Command.{Command}
 
@@ -25,7 +25,7 @@ abbrev pub text_to : Bytes → Option Letter → List Bytes
 text_to name None = []
 text_to name (Some letter) = if is_named name letter.to then letter.bytes ∷ [] else []
 
-abbrev pub letter_to : Bytes → Answer → List Bytes
+abbrev pub letter_to : Bytes → StationAnswer → List Bytes
 letter_to name (Ok done) = text_to name done.out
 letter_to name (Err r) = []
 

@@ -1,4 +1,4 @@
--- The parts of a plan (this project).
+-- The parts of a plan.
 use Rattle.std.specs.Prelude.{Bool, List, [], filter, find, ◌&&◌, Option, Some, None}
 use Rattle.sup_specs.specs.Values.{Bytes}
 use Rattle.sup_links.specs.declared.script.Verdict.{Verdict}

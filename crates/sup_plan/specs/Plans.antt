@@ -1,4 +1,4 @@
--- Plans that can be run (this project).
+-- Plans that can be run (the limits of a plan).
 use Rattle.std.specs.Prelude.{◌≤◌, Bool, true, false, ◌&&◌, not, List, length}
 use Rattle.std.specs.List.{AllPass, IsDistinct, list_any}
 use Rattle.std.specs.Str.{bytes_eq}

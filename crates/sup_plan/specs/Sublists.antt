@@ -1,4 +1,4 @@
--- A list that stands in another: in its order, at places of its own (this project).
+-- A list that stands in another: in its order, at places of its own.
 use Rattle.std.specs.Prelude.{◌≡◌, ◌⊎◌, List, [], ◌∷◌}
 
 abbrev pub Sublist : {X : Type 0} → List X → List X → Type 0

@@ -72,14 +72,14 @@ fn find_route<'a>(scripts: &'a [Route], from: &NodeName, to: &NodeName) -> Optio
 }
 
 // Whether the command is to this node.
-#[tactic(auto, using(crate::proofs::Names::named))]
+#[tactic(auto, using(crate::proofs::ComparedNameLaws::named))]
 fn is_to(node: &NodeName, command: &Command) -> bool
     ensures { result ≡ is_named node.now command.entry.now.node }
 {
     *node == command.node
 }
 
-#[tactic(auto, using(crate::proofs::Names::named))]
+#[tactic(auto, using(crate::proofs::ComparedNameLaws::named))]
 fn is_between(from: &NodeName, to: &NodeName, route: &Route) -> bool
     ensures { result ≡ is_between from.now to.now route.now }
 {

@@ -1,3 +1,3 @@
-pub mod Items
-pub mod Sublists
-pub mod ToldFaults
+pub mod ItemLaws
+pub mod SublistLaws
+pub mod GravestFaultLaws

@@ -1,4 +1,4 @@
--- The faults of a run's threads, and which of several is told (this project).
+-- The faults of a run's threads, and which of several is told.
 use Rattle.std.specs.Prelude.{◌≡◌, ◌≤◌, ℕ, List, All, Contains, Result, Err}
 use Rattle.sup_links.specs.declared.link_in.PutFault.{PutFault}
 use Rattle.sup_links.specs.declared.link_in.PutFault.TheVariants.{Closed, OutOfMemory as NoMemory}

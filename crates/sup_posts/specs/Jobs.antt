@@ -1,11 +1,11 @@
--- What a driver may be given, and what it gives back (this project).
+-- What a driver may be given, and what it gives back.
 use Rattle.std.specs.Prelude.{◌≡◌, ℕ, false, List, [], map, All, slice_get, Some, Result, IfOk}
 use Rattle.std.specs.List.{AllZip}
 use Rattle.sup_specs.specs.Values.{Bytes}
 use Rattle.sup_placement.specs.declared.weigh.Weigh.{Ghosts as WeighGhosts}
 use Rattle.sup_keeper.specs.contracts.mem_keeper.MemKeeperKeeper.TheImpl as InMemory
 use Rattle.sup_keeper.specs.Keeping.{Kept}
-use Rattle.sup_station.specs.Opening.{kept_by}
+use Rattle.sup_station.specs.OpenedStations.{kept_by}
 use Rattle.sup_node_gate.specs.declared.gate.Pass.{Pass}
 use Rattle.sup_node_gate.specs.declared.entry.Entry.{Entry}
 use Rattle.sup_node_gate.specs.Gates.{IsOf, view_of}
@@ -14,9 +14,9 @@ use Rattle.sup_links.specs.Image.{image}
 use Rattle.sup_links.specs.Ends.{AreOneLink, script_of, put_of, is_closed, taken_of, has_ended}
 use Rattle.sup_plan.specs.Calls.{call_of, asked, letters_to, deliveries}
 use Rattle.sup_plan.specs.Sublists.{Sublist}
-use Rattle.sup_posts.specs.Rounds.{Makes, delivery}
+use Rattle.sup_posts.specs.Rounds.{MakesCalls, delivery}
 use Rattle.sup_posts.specs.declared.thread_fault.ThreadFault.{ThreadFault}
-use Rattle.sup_posts.specs.declared.post.Post.{Post}
+use Rattle.sup_posts.specs.declared.shared_node.SharedNode.{SharedNode}
 use Rattle.sup_posts.specs.declared.jobs.Lane.{Lane}
 use Rattle.sup_posts.specs.declared.jobs.Drive.{Drive}
 use Rattle.sup_posts.specs.declared.jobs.Arrived.{Arrived}
@@ -27,11 +27,11 @@ Seat W h = Pass Kept W InMemory.ghosts h
 
 module _ {W : Type 0} {h : WeighGhosts W} where
   -- the pass is of the gate of the node at this place
-  abbrev pub IsSeatAt : List (Post W h) → ℕ → Seat W h → Type 0
-  IsSeatAt posts at seat = (post : Post W h) × (slice_get posts at ≡ Some post) × IsOf kept_by failures_by sound_by post.gate seat
+  abbrev pub IsSeatAt : List (SharedNode W h) → ℕ → Seat W h → Type 0
+  IsSeatAt posts at seat = (post : SharedNode W h) × (slice_get posts at ≡ Some post) × IsOf kept_by failures_by sound_by post.gate seat
 
   -- a link that nothing went through yet, and a pass of the gate of the node that it leads to
-  pub record IsLane (posts : List (Post W h)) (lane : Lane W h) : Type 0 where
+  pub record IsLane (posts : List (SharedNode W h)) (lane : Lane W h) : Type 0 where
     pub seat : IsSeatAt posts lane.to lane.seat
     pub link : AreOneLink lane.entry lane.exit
     pub none_put : put_of lane.entry ≡ []
@@ -40,32 +40,32 @@ module _ {W : Type 0} {h : WeighGhosts W} where
     pub not_ended : has_ended lane.exit ≡ false
 
   -- what a driver may be given
-  pub record Takes (posts : List (Post W h)) (drive : Drive W h) : Type 0 where
+  pub record MayTakeDrive (posts : List (SharedNode W h)) (drive : Drive W h) : Type 0 where
     pub seat : IsSeatAt posts drive.at drive.seat
     pub lanes : All (IsLane posts) drive.lanes.items
 
   -- some list has in order the letters to the other node of the answers of these entries, and what the link makes of it stands in order among
   -- the deliveries to that node; the pass there delivered just this, and made no other call but exits of children that didn't start at it
-  pub record Carried (posts : List (Post W h)) (entries : List Entry) (lane : Lane W h) (arrived : Arrived W h) : Type 0 where
+  pub record CarriedLetters (posts : List (SharedNode W h)) (entries : List Entry) (lane : Lane W h) (arrived : Arrived W h) : Type 0 where
     pub to : arrived.to ≡ lane.to
-    pub post : Post W h
+    pub post : SharedNode W h
     pub stands : slice_get posts lane.to ≡ Some post
     pub seat : IsOf kept_by failures_by sound_by post.gate arrived.seat
     pub put : List Bytes
     pub letters : Sublist (letters_to post.name entries) put
     pub delivered : Sublist (image (script_of lane.entry) put) (deliveries (view_of arrived.seat).seen)
-    pub made : Makes (view_of lane.seat) (map delivery (image (script_of lane.entry) put)) (view_of arrived.seat)
+    pub made : MakesCalls (view_of lane.seat) (map delivery (image (script_of lane.entry) put)) (view_of arrived.seat)
 
   -- the commands stand in order, each once with its moment, in what the driver's pass has seen, and their letters were carried; the pass made no
   -- other call but exits of children that didn't start at a command
-  pub record Drives (posts : List (Post W h)) (drive : Drive W h) (driven : Driven W h) : Type 0 where
+  pub record DrivesNode (posts : List (SharedNode W h)) (drive : Drive W h) (driven : Driven W h) : Type 0 where
     pub seat : IsSeatAt posts drive.at driven.seat
     pub entries : List Entry
     pub calls : map call_of entries ≡ map asked drive.commands.items
     pub seen : Sublist entries (view_of driven.seat).seen
-    pub made : Makes (view_of drive.seat) (map asked drive.commands.items) (view_of driven.seat)
-    pub carried : AllZip (Carried posts entries) drive.lanes.items driven.arrived.items
+    pub made : MakesCalls (view_of drive.seat) (map asked drive.commands.items) (view_of driven.seat)
+    pub carried : AllZip (CarriedLetters posts entries) drive.lanes.items driven.arrived.items
 
   -- what a driver gives back
-  abbrev pub Gives : List (Post W h) → Drive W h → Result (Driven W h) ThreadFault → Type 0
-  Gives posts drive result = IfOk result (Drives posts drive)
+  abbrev pub GivesDriven : List (SharedNode W h) → Drive W h → Result (Driven W h) ThreadFault → Type 0
+  GivesDriven posts drive result = IfOk result (DrivesNode posts drive)

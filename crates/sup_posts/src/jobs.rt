@@ -1,5 +1,5 @@
 //! The jobs of a run's threads. Nodes are named by their places among the posts.
-use crate::post::Seat;
+use crate::shared_node::Seat;
 use sup_links::{LinkIn, LinkOut};
 use sup_placement::Weigh;
 use sup_plan::Command;

@@ -3,12 +3,12 @@
 
 pub mod fault;
 pub mod jobs;
-pub mod post;
+pub mod shared_node;
 pub mod telling;
 pub mod thread_fault;
 
 pub use fault::RunFault;
 pub use jobs::{Arrived, Drive, Driven, Lane};
-pub use post::{Gate, Outbox, Post, Seat};
+pub use shared_node::{Gate, Outbox, Seat, SharedNode};
 pub use telling::{graver, gravest};
 pub use thread_fault::ThreadFault;

@@ -1,7 +1,7 @@
-pub mod SettleRuns
-pub mod PlayedRuns
-pub mod Lines
-pub mod DryLines
-pub mod Playing
-pub mod Scripts
-pub mod Endings
+pub mod SettleRunLaws
+pub mod PlayedRunLaws
+pub mod PrintedLineLaws
+pub mod DryLineLaws
+pub mod PlayedLineLaws
+pub mod WholeScriptLaws
+pub mod EndingLaws

@@ -1,6 +1,6 @@
 pub mod Prints
 pub mod Plays
-pub mod Playing
-pub mod Simulating
-pub mod Performing
+pub mod PlayedLines
+pub mod SimulatedScripts
+pub mod PerformedRequests
 pub mod Runs

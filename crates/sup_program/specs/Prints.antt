@@ -1,4 +1,4 @@
--- What a line of a script prints, and the world that it leaves (this project).
+-- What a line of a script prints, and the world that it leaves (the rule of output).
 use Rattle.std.specs.Prelude.{◌≡◌, ◌++◌, ℕ, Bool, is_some, List, Option, Some, None, Result, Ok, Err, codes, if◌then◌else◌}
 use Rattle.sup_specs.specs.Values.{Bytes}
 use Rattle.sup_tables.specs.States.{State}
@@ -14,13 +14,13 @@ use Rattle.sup_model.specs.Worlds.{World, Site, Answer as Expected, site_of}
 use Rattle.sup_model.specs.Runs.{Allows}
 use Rattle.sup_model.specs.Posts.{Real, reads}
 use Rattle.sup_world.specs.declared.answer.Answer.{Answer}
-use Rattle.sup_world.specs.Carrying.{seen_at, letter_of}
-use Rattle.sup_world.specs.Following.{IsAsOf, StandsFor, Steps}
-use Rattle.sup_world.specs.Seen.{Seen}
-use Rattle.sup_world.specs.Telling.{Shows}
+use Rattle.sup_world.specs.CarriedSteps.{seen_at, letter_of}
+use Rattle.sup_world.specs.FollowedSteps.{IsAsOf, StandsFor, MakesRealStep}
+use Rattle.sup_world.specs.SeenNodes.{SeenNode}
+use Rattle.sup_world.specs.ToldAnswers.{ShowsReal}
 use Rattle.sup_world.specs.declared.settled.Settled.{Settled}
 use Rattle.sup_world.specs.Settlements.{SettlesBy}
-use Rattle.sup_world.specs.Settling.{EndsSettling}
+use Rattle.sup_world.specs.SettledSites.{EndsSettling}
 use Rattle.sup_lines.specs.declared.line.Line.{Line}
 use Rattle.sup_lines.specs.declared.line.Line.TheVariants as line
 use Rattle.sup_text.specs.Answers.{answer_text, refusal_text, settled_text}
@@ -39,7 +39,7 @@ said_of (Err refusal) = refusal_text refusal
 -- the world in which lines are played: the model's, and the code's that stands for it, as a contract sees it
 pub record Scene : Type 0 where
   pub model : World
-  pub sites : List Seen
+  pub sites : List SeenNode
 
 -- a step that is answered as the model allows; and answer, letter and world are those of the code's step of the definitions
 pub record PrintsStep (weigher : Weigher) (s : Scene) (step : Step) (said : List ℕ) (after : Scene) : Type 0 where
@@ -47,7 +47,7 @@ pub record PrintsStep (weigher : Weigher) (s : Scene) (step : Step) (said : List
   pub answer : Result Answer Refusal
   pub allows : Allows s.model step expected after.model
   pub told : IsAsOf expected answer
-  pub steps : (real : Real State) → Shows weigher s.sites real → TellsMessages (reads real.codec) → Steps weigher real step answer after.sites
+  pub steps : (real : Real State) → ShowsReal weigher s.sites real → TellsMessages (reads real.codec) → MakesRealStep weigher real step answer after.sites
   pub says : said ≡ said_of answer
 
 -- what is printed of settling
@@ -80,36 +80,36 @@ abbrev pub lead_text : World → Bytes → Bytes → List ℕ
 lead_text w name sought = text_at (λ shown. where_text w.weigher name shown sought) (site_of w name)
 
 -- what is told of a node with these peers: of its station
-abbrev pub TellsNode : Weigher → List Bytes → Bytes → Option Seen → List ℕ → Type 0
+abbrev pub TellsNode : Weigher → List Bytes → Bytes → Option SeenNode → List ℕ → Type 0
 TellsNode weigher peers name None said = said ≡ refusal_text UnknownNode
-TellsNode weigher peers name (Some seen) said = IsInspected weigher name seen.still.node peers said
+TellsNode weigher peers name (Some seen) said = IsInspected weigher name seen.kept_station.node peers said
 
 -- the image that a node's keeper keeps, and a line feed
-abbrev pub image_text : Option Seen → List ℕ
+abbrev pub image_text : Option SeenNode → List ℕ
 image_text None = refusal_text UnknownNode
-image_text (Some seen) = seen.still.kept ++ codes "\n"
+image_text (Some seen) = seen.kept_station.kept ++ codes "\n"
 
 -- a letter that was sent, and a line feed
 abbrev pub letter_text : Option Letter → List ℕ
 letter_text None = refusal_text NoSuchMessage
 letter_text (Some letter) = letter.bytes ++ codes "\n"
 
-abbrev pub message_text : Option Seen → ℕ → List ℕ
+abbrev pub message_text : Option SeenNode → ℕ → List ℕ
 message_text None k = refusal_text UnknownNode
 message_text (Some seen) k = letter_text (letter_of seen k)
 
 module _ (weigher : Weigher) (peers : List Bytes) where
   -- From this world the line prints this and leads to that world. To show a node, an image or a message is no step.
-  abbrev pub Does : Scene → Line → List ℕ → Scene → Type 0
-  Does s (line.Step step) said after = PrintsStep weigher s step said after
-  Does s line.Settle said after = PrintsSettled weigher s said after
-  Does s (line.Show name) said after = (after ≡ s) × (said ≡ node_text s.model name)
-  Does s (line.Inspect name) said after = (after ≡ s) × TellsNode weigher peers name (seen_at s.sites name) said
-  Does s (line.Image name) said after = (after ≡ s) × (said ≡ image_text (seen_at s.sites name))
-  Does s (line.Where name sought) said after = (after ≡ s) × (said ≡ lead_text s.model name sought)
-  Does s (line.Message name k) said after = (after ≡ s) × (said ≡ message_text (seen_at s.sites name) k)
+  abbrev pub DoesLine : Scene → Line → List ℕ → Scene → Type 0
+  DoesLine s (line.Step step) said after = PrintsStep weigher s step said after
+  DoesLine s line.Settle said after = PrintsSettled weigher s said after
+  DoesLine s (line.Show name) said after = (after ≡ s) × (said ≡ node_text s.model name)
+  DoesLine s (line.Inspect name) said after = (after ≡ s) × TellsNode weigher peers name (seen_at s.sites name) said
+  DoesLine s (line.Image name) said after = (after ≡ s) × (said ≡ image_text (seen_at s.sites name))
+  DoesLine s (line.Where name sought) said after = (after ≡ s) × (said ≡ lead_text s.model name sought)
+  DoesLine s (line.Message name k) said after = (after ≡ s) × (said ≡ message_text (seen_at s.sites name) k)
 
   -- the same, and the code's world stands for the model's
-  pub record Prints (s : Scene) (line : Line) (said : List ℕ) (after : Scene) : Type 0 where
-    pub does : Does s line said after
+  pub record PrintsLine (s : Scene) (line : Line) (said : List ℕ) (after : Scene) : Type 0 where
+    pub does : DoesLine s line said after
     pub stands : StandsFor weigher after.sites after.model

@@ -1,10 +1,10 @@
--- What a run of the commands that wait for nobody does, by its words (this project).
+-- What a run of the commands that wait for nobody does, by its words.
 use Rattle.std.specs.Prelude.{◌≡◌, ℕ, List, None}
 use Rattle.clap.specs.Words.{Text}
 use Rattle.sup_command_line.specs.Requests.{request_of}
 use Rattle.sup_jobs.specs.declared.fault.Ended.{Ended}
 use Rattle.sup_jobs.specs.Ends.{KnownBytes, TakesAtMost}
-use Rattle.sup_program.specs.Performing.{Performs}
+use Rattle.sup_program.specs.PerformedRequests.{PerformsRequest}
 use Rattle.sup_program.specs.declared.run.Ran.{Ran}
 use Rattle.sup_program.specs.declared.run.Ran.TheVariants.{Status, Cluster}
 use Rattle.sup_program.specs.declared.run.Options.{Options}
@@ -25,8 +25,8 @@ EndsWith status Is = (ended : Ended) × (ended.status ≡ status) × Is ended
 
 module _ {R W E : Type 0} (remaining : R → KnownBytes) (contents : W → KnownBytes) (told : E → KnownBytes) where
   -- What a run does that was started with these words.
-  pub record Runs (words : List Text) (old left : R) (before written : W) (errors_before errors_written : E) (status : ℕ) : Type 0 where
-    pub performs : EndsWith status (Performs (request_of words) (remaining old) (remaining left) (contents before) (contents written) (told errors_before) (told errors_written))
+  pub record RunsWords (words : List Text) (old left : R) (before written : W) (errors_before errors_written : E) (status : ℕ) : Type 0 where
+    pub performs : EndsWith status (PerformsRequest (request_of words) (remaining old) (remaining left) (contents before) (contents written) (told errors_before) (told errors_written))
     pub taken : TakesAtMost 1048577 (remaining old) (remaining left)
     pub unread : request_of words ≡ None → left ≡ old
     pub unwritten : request_of words ≡ None → written ≡ before

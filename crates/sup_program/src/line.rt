@@ -4,12 +4,12 @@ ghost use Rattle.std.specs.Prelude.{◌≡◌, ◌++◌, ℕ, List, false, codes
 ghost use Rattle.std.specs.List.{AllZip};
 ghost use Rattle.sup_specs.specs.Values.{Bytes};
 ghost use Rattle.sup_model.specs.Worlds.{World as Model};
-ghost use Rattle.sup_world.specs.Carrying.{has_bytes, seen_at};
-ghost use Rattle.sup_world.specs.Following.{StandsFor};
-ghost use Rattle.sup_world.specs.Seen.{sites_of, CanFail, FailedOnceAtMost};
+ghost use Rattle.sup_world.specs.CarriedSteps.{has_bytes, seen_at};
+ghost use Rattle.sup_world.specs.FollowedSteps.{StandsFor};
+ghost use Rattle.sup_world.specs.SeenNodes.{sites_of, CanFail, FailedOnceAtMost};
 ghost use Rattle.sup_replica.specs.declared.refusal.Refusal.TheVariants.{UnknownNode};
 ghost use Rattle.sup_text.specs.Answers.{refusal_text};
-ghost use Rattle.sup_program.specs.Playing.{BringsNoBytes, MaySpeak};
+ghost use Rattle.sup_program.specs.PlayedLines.{BringsNoBytes, MaySpeak};
 ghost use Rattle.sup_program.specs.Prints.{TellsMessages, TellsNode, image_text, lead_text, message_text, node_text};
 
 use std::alloc::{AllocError, Global};

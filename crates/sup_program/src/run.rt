@@ -3,8 +3,8 @@
 ghost use Rattle.std.specs.Prelude.{◌≡◌, ◌+◌, None, Some, map};
 ghost use Rattle.sup_command_line.specs.Requests.{request_of};
 ghost use Rattle.sup_jobs.specs.Ends.{TakesAtMost};
-ghost use Rattle.sup_program.specs.Performing.{Performs, Refuses, WantsMemory};
-ghost use Rattle.sup_program.specs.Runs.{EndsWith, IfCluster, IfStatus, Runs};
+ghost use Rattle.sup_program.specs.PerformedRequests.{PerformsRequest, RefusesWords, WantsMemory};
+ghost use Rattle.sup_program.specs.Runs.{EndsWith, IfCluster, IfStatus, RunsWords};
 
 use crate::simulate::simulate;
 use clap::Error;
@@ -49,7 +49,7 @@ pub fn run_plain<S: AsStr, R: Read, W: Write, E: Write>(
     writer: &mut W,
     errors: &mut E,
 ) -> Ran
-    ensures status { IfStatus result (Runs R.remaining W.contents E.contents (map S.text words.now) reader.old reader.new
+    ensures status { IfStatus result (RunsWords R.remaining W.contents E.contents (map S.text words.now) reader.old reader.new
         writer.old writer.new errors.old errors.new) }
     ensures asked { IfCluster result (λ o. request_of (map S.text words.now) ≡ Some (Request.Cluster o.weigh o.config)) }
     ensures unread { IfCluster result (λ _. reader.new ≡ reader.old) }
@@ -71,7 +71,7 @@ fn perform<R: Read, W: Write, E: Write>(
     writer: &mut W,
     errors: &mut E,
 ) -> Ran
-    ensures status { IfStatus result (λ status. EndsWith status (Performs (Some request) (R.remaining reader.old) (R.remaining reader.new)
+    ensures status { IfStatus result (λ status. EndsWith status (PerformsRequest (Some request) (R.remaining reader.old) (R.remaining reader.new)
         (W.contents writer.old) (W.contents writer.new) (E.contents errors.old) (E.contents errors.new))) }
     ensures taken { TakesAtMost (LIMIT + 1) (R.remaining reader.old) (R.remaining reader.new) }
     ensures asked { IfCluster result (λ o. request ≡ Request.Cluster o.weigh o.config) }
@@ -105,7 +105,7 @@ fn simulate_by<R: Read, W: Write, E: Write>(
     writer: &mut W,
     errors: &mut E,
 ) -> Ended
-    ensures performs { Performs (Some (Request.Simulate weighing config)) (R.remaining reader.old) (R.remaining reader.new)
+    ensures performs { PerformsRequest (Some (Request.Simulate weighing config)) (R.remaining reader.old) (R.remaining reader.new)
         (W.contents writer.old) (W.contents writer.new) (E.contents errors.old) (E.contents errors.new) result }
     ensures taken { TakesAtMost (LIMIT + 1) (R.remaining reader.old) (R.remaining reader.new) }
 {
@@ -123,7 +123,7 @@ fn place_by<R: Read, W: Write, E: Write>(
     writer: &mut W,
     errors: &mut E,
 ) -> Ended
-    ensures performs { Performs (Some (Request.Place weighing)) (R.remaining reader.old) (R.remaining reader.new)
+    ensures performs { PerformsRequest (Some (Request.Place weighing)) (R.remaining reader.old) (R.remaining reader.new)
         (W.contents writer.old) (W.contents writer.new) (E.contents errors.old) (E.contents errors.new) result }
     ensures taken { TakesAtMost (LIMIT + 1) (R.remaining reader.old) (R.remaining reader.new) }
 {
@@ -141,7 +141,7 @@ fn inspect_by<R: Read, W: Write, E: Write>(
     writer: &mut W,
     errors: &mut E,
 ) -> Ended
-    ensures performs { Performs (Some (Request.Inspect weighing)) (R.remaining reader.old) (R.remaining reader.new)
+    ensures performs { PerformsRequest (Some (Request.Inspect weighing)) (R.remaining reader.old) (R.remaining reader.new)
         (W.contents writer.old) (W.contents writer.new) (E.contents errors.old) (E.contents errors.new) result }
     ensures taken { TakesAtMost (LIMIT + 1) (R.remaining reader.old) (R.remaining reader.new) }
 {
@@ -153,7 +153,7 @@ fn inspect_by<R: Read, W: Write, E: Write>(
 
 // Tells why the words are refused, or that memory was.
 fn refuse<E: Write>(alloc: Global, error: &Error, errors: &mut E) -> Ended
-    ensures { Refuses (E.contents errors.old) (E.contents errors.new) result }
+    ensures { RefusesWords (E.contents errors.old) (E.contents errors.new) result }
 {
     match format!(in alloc; "{error}") {
         Ok(text) => Ended {

@@ -3,7 +3,7 @@
 ghost use Rattle.std.specs.Prelude.{◌≡◌, ◌≤◌, ◌+◌, length, Err, IfOk, IfSome, IsPermutation, IsSorted};
 ghost use Rattle.sup_specs.specs.Values.{text_cmp};
 ghost use Rattle.sup_jobs.specs.Ends.{Asks, EndsAt, TakesAtMost, TakesFor};
-ghost use Rattle.sup_program.specs.Simulating.{Simulates, simulation};
+ghost use Rattle.sup_program.specs.SimulatedScripts.{SimulatesScript, simulation};
 
 use crate::play::play;
 use std::alloc::{AllocError, Global};
@@ -26,7 +26,7 @@ pub fn simulate<G: Weigh + Copy + Drop, R: Read, W: Write, E: Write>(
     writer: &mut W,
     errors: &mut E,
 ) -> Ended
-    ensures simulates { Simulates G.weight_of config (R.remaining reader.old) (R.remaining reader.new)
+    ensures simulates { SimulatesScript G.weight_of config (R.remaining reader.old) (R.remaining reader.new)
         (W.contents writer.old) (W.contents writer.new) (E.contents errors.old)
         (E.contents errors.new) result }
     ensures taken { TakesAtMost (LIMIT + 1) (R.remaining reader.old) (R.remaining reader.new) }

@@ -1,6 +1,6 @@
-pub mod Zips
-pub mod Items
-mod Deals
-mod Passes
-mod Closes
-mod Faults
+pub mod ZipLaws
+pub mod RunEndItemLaws
+mod DealtPassLaws
+mod ReturnedPassLaws
+mod CloseLaws
+mod FaultlessLaws

@@ -1,11 +1,11 @@
--- What stands between the steps of a run (this project).
+-- What stands between the steps of a run.
 use Rattle.std.specs.Prelude.{◌≡◌, ◌≢◌, ◌≤◌, ◌⊎◌, ◌==◌, not, ℕ, zero, suc, List, [], ◌∷◌, ◌++◌, length, All, Contains, map, flat_map, Some, Result, Ok, IsOk, IfOk, slice_get}
 use Rattle.std.specs.List.{AllZip, filter}
 use Rattle.sup_specs.specs.Values.{Bytes}
 use Rattle.sup_placement.specs.Place.{Weigher}
 use Rattle.sup_placement.specs.declared.weigh.Weigh.{Ghosts as WeighGhosts}
 use Rattle.sup_replica.specs.Configs.{Config}
-use Rattle.sup_station.specs.Opening.{Opens, kept_by}
+use Rattle.sup_station.specs.OpenedStations.{OpensStation, kept_by}
 use Rattle.sup_node_gate.specs.Gates.{IsOf, bound_of, view_of, opening_of}
 use Rattle.sup_node_gate.specs.InMemory.{failures_by, sound_by}
 use Rattle.sup_node_gate.specs.Histories.{IsHistory, IsPrefix}
@@ -14,8 +14,8 @@ use Rattle.sup_plan.specs.Parts.{commands_of, script_between}
 use Rattle.sup_plan.specs.declared.histories.History.{History}
 use Rattle.sup_plan.specs.declared.plan.Plan.{Plan}
 use Rattle.sup_plan.specs.declared.plan.Route.{Route}
-use Rattle.sup_posts.specs.Jobs.{Seat, IsSeatAt, Takes}
-use Rattle.sup_posts.specs.declared.post.Post.{Post}
+use Rattle.sup_posts.specs.Jobs.{Seat, IsSeatAt, MayTakeDrive}
+use Rattle.sup_posts.specs.declared.shared_node.SharedNode.{SharedNode}
 use Rattle.sup_posts.specs.declared.jobs.Lane.{Lane}
 use Rattle.sup_posts.specs.declared.jobs.Drive.{Drive}
 use Rattle.sup_posts.specs.Faults.{IsGravest}
@@ -25,8 +25,8 @@ use Rattle.sup_posts.specs.declared.jobs.Arrived.{Arrived}
 use Rattle.sup_posts.specs.declared.jobs.Driven.{Driven}
 
 -- the history begins with what the pass has seen
-abbrev pub Begins : {W : Type 0} {h : WeighGhosts W} → Seat W h → History → Type 0
-Begins seat history = IsPrefix (view_of seat).seen history.entries.items
+abbrev pub BeginsWithSeen : {W : Type 0} {h : WeighGhosts W} → Seat W h → History → Type 0
+BeginsWithSeen seat history = IsPrefix (view_of seat).seen history.entries.items
 
 -- how many messages are on their way over a link at once
 abbrev pub room : ℕ
@@ -47,22 +47,22 @@ IsFaultOf results fault = IsGravest results fault ⊎ (All IsOk results × (faul
 
 module _ {W : Type 0} {h : WeighGhosts W} where
   -- the pass is of the post's gate
-  abbrev pub IsSeatOf : Post W h → Seat W h → Type 0
+  abbrev pub IsSeatOf : SharedNode W h → Seat W h → Type 0
   IsSeatOf post seat = IsOf kept_by failures_by sound_by post.gate seat
 
   -- a node's post before the run, whose history may have so many entries at most
-  pub record IsPostOf (config : Config) (most : ℕ) (name : Bytes) (post : Post W h) : Type 0 where
+  pub record IsSharedNodeOf (config : Config) (most : ℕ) (name : Bytes) (post : SharedNode W h) : Type 0 where
     pub named : post.name ≡ name
-    pub opens : Opens name config (opening_of kept_by failures_by sound_by post.gate).still
+    pub opens : OpensStation name config (opening_of kept_by failures_by sound_by post.gate).kept_station
     pub bound : bound_of post.gate ≡ most
 
   -- the link leads to the node at this place, by the plan's script
-  pub record IsLaneTo (scripts : List Route) (from : Bytes) (at : ℕ) (other : Post W h) (lane : Lane W h) : Type 0 where
+  pub record IsLaneTo (scripts : List Route) (from : Bytes) (at : ℕ) (other : SharedNode W h) (lane : Lane W h) : Type 0 where
     pub to : lane.to ≡ at
     pub script : script_of lane.entry ≡ script_between from other.name scripts
     pub room : room_of lane.entry ≡ room
 
-  abbrev pub HasLaneTo : List Route → Bytes → List (Lane W h) → ℕ → Post W h → Type 0
+  abbrev pub HasLaneTo : List Route → Bytes → List (Lane W h) → ℕ → SharedNode W h → Type 0
   HasLaneTo scripts from lanes at other = (lane : Lane W h) × Contains lanes lane × IsLaneTo scripts from at other lane
 
   -- the places to which links lead
@@ -74,25 +74,25 @@ module _ {W : Type 0} {h : WeighGhosts W} where
     pub ends : ends_of new ≡ ends_of old ++ others_of at (to ∷ [])
 
   -- what the driver of a post's node is given: one link to each other node, and no more
-  pub record IsDriveOf (plan : Plan) (posts : List (Post W h)) (post : Post W h) (drive : Drive W h) : Type 0 where
+  pub record IsDriveOf (plan : Plan) (posts : List (SharedNode W h)) (post : SharedNode W h) (drive : Drive W h) : Type 0 where
     pub place : slice_get posts drive.at ≡ Some post
-    pub takes : Takes posts drive
+    pub takes : MayTakeDrive posts drive
     pub commands : drive.commands.items ≡ commands_of post.name plan.commands.items
-    pub reach : (at : ℕ) (other : Post W h) → slice_get posts at ≡ Some other → at ≢ drive.at → HasLaneTo plan.scripts.items post.name drive.lanes.items at other
+    pub reach : (at : ℕ) (other : SharedNode W h) → slice_get posts at ≡ Some other → at ≢ drive.at → HasLaneTo plan.scripts.items post.name drive.lanes.items at other
     pub only : ends_of drive.lanes.items ≡ others_of drive.at (places (length posts))
 
   -- the pass is of the gate at its place
-  abbrev pub IsArrived : List (Post W h) → Arrived W h → Type 0
+  abbrev pub IsArrived : List (SharedNode W h) → Arrived W h → Type 0
   IsArrived posts a = IsSeatAt posts a.to a.seat
 
   -- the history of the node at its place begins with what the pass has seen
-  pub record Ends (all : List History) (a : Arrived W h) : Type 0 where
+  pub record EndsHistory (all : List History) (a : Arrived W h) : Type 0 where
     pub history : History
     pub stands : slice_get all a.to ≡ Some history
-    pub begins : Begins a.seat history
+    pub begins : BeginsWithSeen a.seat history
 
   -- the history of a post's node, which has room for it
-  pub record IsHistoryOf (g : Weigher) (post : Post W h) (history : History) : Type 0 where
+  pub record IsHistoryOf (g : Weigher) (post : SharedNode W h) (history : History) : Type 0 where
     pub named : history.node ≡ post.name
     pub replays : IsHistory g (opening_of kept_by failures_by sound_by post.gate) history.entries.items
     pub within : length history.entries.items ≤ bound_of post.gate
@@ -109,13 +109,13 @@ module _ {W : Type 0} {h : WeighGhosts W} where
     pub others : arrived ≡ flat_map (λ d. d.arrived.items) driven
 
   -- what the driver of a post hands back
-  abbrev pub Returns : List (Post W h) → Post W h → Result (Driven W h) ThreadFault → Type 0
-  Returns posts post result = IfOk result (λ driven. IsSeatOf post driven.seat × All (IsArrived posts) driven.arrived.items)
+  abbrev pub ReturnsDriven : List (SharedNode W h) → SharedNode W h → Result (Driven W h) ThreadFault → Type 0
+  ReturnsDriven posts post result = IfOk result (λ driven. IsSeatOf post driven.seat × All (IsArrived posts) driven.arrived.items)
 
   -- the histories, of what the drivers handed back
-  pub record AreFinished (g : Weigher) (posts : List (Post W h)) (results : List (Result (Driven W h) ThreadFault)) (all : List History) : Type 0 where
+  pub record AreFinished (g : Weigher) (posts : List (SharedNode W h)) (results : List (Result (Driven W h) ThreadFault)) (all : List History) : Type 0 where
     pub driven : List (Driven W h)
     pub given : results ≡ map Ok driven
     pub histories : AllZip (IsHistoryOf g) posts all
-    pub own : AllZip (λ d history. Begins d.seat history) driven all
-    pub others : All (Ends all) (flat_map (λ d. d.arrived.items) driven)
+    pub own : AllZip (λ d history. BeginsWithSeen d.seat history) driven all
+    pub others : All (EndsHistory all) (flat_map (λ d. d.arrived.items) driven)

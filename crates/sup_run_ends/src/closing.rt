@@ -2,22 +2,22 @@
 ghost use Rattle.std.specs.Prelude.{◌≡◌, ◌==◌, not, All, IfOk, IfErr};
 ghost use Rattle.std.specs.List.{AllZip, filter};
 ghost use Rattle.sup_posts.specs.declared.thread_fault.ThreadFault.TheVariants.{OutOfMemory};
-ghost use Rattle.sup_run_ends.specs.Steps.{IsSeatOf, IsArrived, IsHistoryOf, Begins, Ends, Returns, AreFinished, IsFaultOf};
+ghost use Rattle.sup_run_ends.specs.Steps.{IsSeatOf, IsArrived, IsHistoryOf, BeginsWithSeen, EndsHistory, ReturnsDriven, AreFinished, IsFaultOf};
 
 use crate::joining::{join_all, separate, take_apart};
 use std::alloc::Global;
 use sup_placement::Weigh;
 use sup_plan::History;
-use sup_posts::{Arrived, Driven, Post, Seat, ThreadFault};
+use sup_posts::{Arrived, Driven, Seat, SharedNode, ThreadFault};
 
 // The history of a node.
-fn close<W: Weigh>(post: Post<W>, seat: Seat<W>) -> Result<History, ThreadFault>
+fn close<W: Weigh>(post: SharedNode<W>, seat: Seat<W>) -> Result<History, ThreadFault>
     requires { IsSeatOf post seat }
     ensures history { IfOk result (λ history. IsHistoryOf W.weight_of post history) }
-    ensures begins { IfOk result (λ history. Begins seat history) }
+    ensures begins { IfOk result (λ history. BeginsWithSeen seat history) }
     ensures fault { IfErr result (λ f. f ≡ OutOfMemory) }
 {
-    let Post {
+    let SharedNode {
         name,
         gate,
         outbox: _,
@@ -36,15 +36,15 @@ fn close<W: Weigh>(post: Post<W>, seat: Seat<W>) -> Result<History, ThreadFault>
 fn close_at<W: Weigh>(
     alloc: Global,
     at: usize,
-    post: Post<W>,
+    post: SharedNode<W>,
     seat: Seat<W>,
     arrived: Vec<Arrived<W>>,
 ) -> Result<(History, Vec<Arrived<W>>), ThreadFault>
     requires seat { IsSeatOf post seat }
     requires arrived { All (λ a. a.to ≡ at → IsSeatOf post a.seat) arrived.items }
     ensures history { IfOk result (λ r. IsHistoryOf W.weight_of post r.0) }
-    ensures own { IfOk result (λ r. Begins seat r.0) }
-    ensures here { IfOk result (λ r. All (λ a. a.to ≡ at → Begins a.seat r.0) arrived.items) }
+    ensures own { IfOk result (λ r. BeginsWithSeen seat r.0) }
+    ensures here { IfOk result (λ r. All (λ a. a.to ≡ at → BeginsWithSeen a.seat r.0) arrived.items) }
     ensures others { IfOk result (λ r. r.1.items ≡ filter (λ a. not (a.to == at)) arrived.items) }
     ensures fault { IfErr result (λ f. f ≡ OutOfMemory) }
 {
@@ -57,15 +57,15 @@ fn close_at<W: Weigh>(
 // The histories of all nodes, in their order.
 fn close_all<W: Weigh>(
     alloc: Global,
-    posts: Vec<Post<W>>,
+    posts: Vec<SharedNode<W>>,
     seats: Vec<Seat<W>>,
     arrived: Vec<Arrived<W>>,
 ) -> Result<Vec<History>, ThreadFault>
     requires seats { AllZip IsSeatOf posts.items seats.items }
     requires arrived { All (IsArrived posts.items) arrived.items }
     ensures histories { IfOk result (λ hs. AllZip (IsHistoryOf W.weight_of) posts.items hs.items) }
-    ensures own { IfOk result (λ hs. AllZip Begins seats.items hs.items) }
-    ensures others { IfOk result (λ hs. All (Ends hs.items) arrived.items) }
+    ensures own { IfOk result (λ hs. AllZip BeginsWithSeen seats.items hs.items) }
+    ensures others { IfOk result (λ hs. All (EndsHistory hs.items) arrived.items) }
     ensures fault { IfErr result (λ f. f ≡ OutOfMemory) }
 {
     let mut histories = Vec::new(alloc);
@@ -87,10 +87,10 @@ fn close_all<W: Weigh>(
 /// The histories, of what the drivers hand back.
 pub fn finish<W: Weigh>(
     alloc: Global,
-    posts: Vec<Post<W>>,
+    posts: Vec<SharedNode<W>>,
     results: Vec<Result<Driven<W>, ThreadFault>>,
 ) -> Result<Vec<History>, ThreadFault>
-    requires { AllZip (Returns posts.items) posts.items results.items }
+    requires { AllZip (ReturnsDriven posts.items) posts.items results.items }
     ensures histories { IfOk result (λ hs. AreFinished W.weight_of posts.items results.items hs.items) }
     ensures fault { IfErr result (IsFaultOf results.items) }
 {

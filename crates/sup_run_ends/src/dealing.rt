@@ -5,12 +5,12 @@ ghost use Rattle.sup_run_ends.specs.Steps.{IsSeatOf};
 
 use std::alloc::{AllocError, Global};
 use sup_placement::Weigh;
-use sup_posts::{Post, Seat};
+use sup_posts::{Seat, SharedNode};
 
 // A pass of each gate more, behind those that they were cut off.
 pub(crate) fn cut_row<W: Weigh>(
     alloc: Global,
-    posts: &[Post<W>],
+    posts: &[SharedNode<W>],
     seats: Vec<Seat<W>>,
 ) -> Result<(Vec<Seat<W>>, Vec<Seat<W>>), AllocError>
     requires { AllZip IsSeatOf posts.now seats.items }

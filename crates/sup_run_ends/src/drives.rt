@@ -3,7 +3,7 @@ ghost use Rattle.std.specs.Prelude.{◌≡◌, ◌≢◌, ℕ, length, All, Cont
 ghost use Rattle.std.specs.List.{AllZip};
 ghost use Rattle.sup_posts.specs.Jobs.{IsSeatAt, IsLane};
 ghost use Rattle.sup_posts.specs.declared.jobs.Lane.{Lane};
-ghost use Rattle.sup_posts.specs.declared.post.Post.{Post};
+ghost use Rattle.sup_posts.specs.declared.shared_node.SharedNode.{SharedNode};
 ghost use Rattle.sup_run_ends.specs.Steps.{IsSeatOf, IsLaneTo, HasLaneTo, IsDriveOf, LeadsOn, ends_of, others_of, places};
 
 use crate::dealing::cut_row;
@@ -11,7 +11,7 @@ use std::alloc::{AllocError, Global};
 use sup_links::link;
 use sup_placement::Weigh;
 use sup_plan::Plan;
-use sup_posts::{Drive, Lane, Post, Seat};
+use sup_posts::{Drive, Lane, Seat, SharedNode};
 use sup_specs::NodeName;
 
 // How many messages of a link are on their way at once.
@@ -23,13 +23,13 @@ fn make_lane<W: Weigh>(
     plan: &Plan,
     from: &NodeName,
     to: usize,
-    posts: &[Post<W>],
+    posts: &[SharedNode<W>],
     seat: Seat<W>,
 ) -> Result<Lane<W>, AllocError>
     requires { IsSeatAt posts.now to seat }
     ensures lane { IfOk result (IsLane posts.now) }
     ensures at { IfOk result (λ lane. lane.to ≡ to) }
-    ensures to { IfOk result (λ lane. (other : Post W _) → slice_get posts.now to ≡ Some other → IsLaneTo plan.now.scripts.items from.now to other lane) }
+    ensures to { IfOk result (λ lane. (other : SharedNode W _) → slice_get posts.now to ≡ Some other → IsLaneTo plan.now.scripts.items from.now to other lane) }
 {
     let script = plan.script_between(alloc, from, &posts[to].name)?;
     let (entry, exit) = link(alloc, script, CAPACITY)?;
@@ -48,7 +48,7 @@ fn add_lane<W: Weigh>(
     at: usize,
     from: &NodeName,
     to: usize,
-    posts: &[Post<W>],
+    posts: &[SharedNode<W>],
     seat: Seat<W>,
     lanes: &mut Vec<Lane<W>>,
 ) -> Result<(), AllocError>
@@ -56,7 +56,7 @@ fn add_lane<W: Weigh>(
     ensures lanes { OnOk result (All (IsLane posts.now) lanes.old.items → All (IsLane posts.now) lanes.new.items) }
     ensures kept { OnOk result ((lane : Lane W _) → Contains lanes.old.items lane → Contains lanes.new.items lane) }
     ensures ends { OnOk result (LeadsOn at to lanes.old.items lanes.new.items) }
-    ensures added { OnOk result ((other : Post W _) → slice_get posts.now to ≡ Some other → to ≢ at → HasLaneTo plan.now.scripts.items from.now lanes.new.items to other) }
+    ensures added { OnOk result ((other : SharedNode W _) → slice_get posts.now to ≡ Some other → to ≢ at → HasLaneTo plan.now.scripts.items from.now lanes.new.items to other) }
 {
     if to == at {
         return Ok(());
@@ -72,12 +72,12 @@ fn make_lanes<W: Weigh>(
     plan: &Plan,
     at: usize,
     from: &NodeName,
-    posts: &[Post<W>],
+    posts: &[SharedNode<W>],
     row: Vec<Seat<W>>,
 ) -> Result<Vec<Lane<W>>, AllocError>
     requires { AllZip IsSeatOf posts.now row.items }
     ensures lanes { IfOk result (λ lanes. All (IsLane posts.now) lanes.items) }
-    ensures reach { IfOk result (λ lanes. (j : ℕ) (other : Post W _) → slice_get posts.now j ≡ Some other → j ≢ at → HasLaneTo plan.now.scripts.items from.now lanes.items j other) }
+    ensures reach { IfOk result (λ lanes. (j : ℕ) (other : SharedNode W _) → slice_get posts.now j ≡ Some other → j ≢ at → HasLaneTo plan.now.scripts.items from.now lanes.items j other) }
     ensures only { IfOk result (λ lanes. ends_of lanes.items ≡ others_of at (places (length posts.now))) }
 {
     let mut lanes = Vec::new(alloc);
@@ -96,13 +96,13 @@ fn make_drive<W: Weigh>(
     alloc: Global,
     plan: &Plan,
     at: usize,
-    posts: &[Post<W>],
+    posts: &[SharedNode<W>],
     seat: Seat<W>,
     row: Vec<Seat<W>>,
 ) -> Result<Drive<W>, AllocError>
     requires seat { IsSeatAt posts.now at seat }
     requires row { AllZip IsSeatOf posts.now row.items }
-    ensures { IfOk result (λ drive. (post : Post W _) → slice_get posts.now at ≡ Some post → IsDriveOf plan.now posts.now post drive) }
+    ensures { IfOk result (λ drive. (post : SharedNode W _) → slice_get posts.now at ≡ Some post → IsDriveOf plan.now posts.now post drive) }
 {
     let from = posts[at].name;
     let commands = plan.commands_of(alloc, &from)?;
@@ -119,7 +119,7 @@ fn make_drive<W: Weigh>(
 pub fn make_drives<W: Weigh>(
     alloc: Global,
     plan: &Plan,
-    posts: &[Post<W>],
+    posts: &[SharedNode<W>],
     seats: Vec<Seat<W>>,
 ) -> Result<Vec<Drive<W>>, AllocError>
     requires { AllZip IsSeatOf posts.now seats.items }

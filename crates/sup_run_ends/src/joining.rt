@@ -5,7 +5,7 @@ ghost use Rattle.sup_run_ends.specs.Steps.{IsSeatOf, HasSeen, AreTakenApart, IsF
 
 use std::alloc::{AllocError, Global};
 use sup_placement::Weigh;
-use sup_posts::{Arrived, Driven, Post, Seat, ThreadFault, gravest};
+use sup_posts::{Arrived, Driven, Seat, SharedNode, ThreadFault, gravest};
 
 // The drivers' passes, in their order, and all of the receivers'; or the fault to be told.
 pub(crate) fn take_apart<W: Weigh>(
@@ -65,7 +65,11 @@ pub(crate) fn separate<W: Weigh>(
 }
 
 // One pass of the gate, which has seen what all these have.
-pub(crate) fn join_all<W: Weigh>(post: &Post<W>, seat: Seat<W>, others: Vec<Arrived<W>>) -> Seat<W>
+pub(crate) fn join_all<W: Weigh>(
+    post: &SharedNode<W>,
+    seat: Seat<W>,
+    others: Vec<Arrived<W>>,
+) -> Seat<W>
     requires seat { IsSeatOf post.now seat }
     requires others { All (λ a. IsSeatOf post.now a.seat) others.items }
     ensures of { IsSeatOf post.now result }

@@ -2,7 +2,7 @@
 ghost use Rattle.std.specs.Prelude.{◌≡◌, IfOk, IfErr};
 ghost use Rattle.std.specs.List.{AllZip};
 ghost use Rattle.sup_node_gate.specs.Gates.{IsBound};
-ghost use Rattle.sup_run_ends.specs.Steps.{IsPostOf, IsSeatOf};
+ghost use Rattle.sup_run_ends.specs.Steps.{IsSharedNodeOf, IsSeatOf};
 ghost use Rattle.sup_posts.specs.declared.fault.RunFault.TheVariants.{OutOfMemory};
 
 use std::alloc::Global;
@@ -10,7 +10,7 @@ use std::sync::Mutex;
 use sup_keeper::MemKeeper;
 use sup_node_gate::NodeGate;
 use sup_placement::Weigh;
-use sup_posts::{Post, RunFault, Seat};
+use sup_posts::{RunFault, Seat, SharedNode};
 use sup_replica::Config;
 use sup_specs::NodeName;
 use sup_station::Station;
@@ -21,9 +21,9 @@ fn open_post<W: Weigh>(
     name: NodeName,
     config: Config,
     bound: u64,
-) -> Result<(Post<W>, Seat<W>), RunFault>
+) -> Result<(SharedNode<W>, Seat<W>), RunFault>
     requires { IsBound bound }
-    ensures post { IfOk result (λ r. IsPostOf config bound name r.0) }
+    ensures post { IfOk result (λ r. IsSharedNodeOf config bound name r.0) }
     ensures seat { IfOk result (λ r. IsSeatOf r.0 r.1) }
     ensures fault { IfErr result (λ f. f ≡ OutOfMemory) }
 {
@@ -34,7 +34,7 @@ fn open_post<W: Weigh>(
         return Err(RunFault::OutOfMemory);
     };
     let outbox = Mutex::new(Vec::new(alloc));
-    Ok((Post { name, gate, outbox }, seat))
+    Ok((SharedNode { name, gate, outbox }, seat))
 }
 
 /// These nodes, in their order, each one's history with room for `bound` entries, from 1 to
@@ -44,9 +44,9 @@ pub fn open_posts<W: Weigh>(
     config: Config,
     bound: u64,
     nodes: &[NodeName],
-) -> Result<(Vec<Post<W>>, Vec<Seat<W>>), RunFault>
+) -> Result<(Vec<SharedNode<W>>, Vec<Seat<W>>), RunFault>
     requires { IsBound bound }
-    ensures posts { IfOk result (λ r. AllZip (IsPostOf config bound) nodes.now r.0.items) }
+    ensures posts { IfOk result (λ r. AllZip (IsSharedNodeOf config bound) nodes.now r.0.items) }
     ensures seats { IfOk result (λ r. AllZip IsSeatOf r.0.items r.1.items) }
     ensures fault { IfErr result (λ f. f ≡ OutOfMemory) }
 {

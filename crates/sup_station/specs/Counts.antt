@@ -1,4 +1,4 @@
--- What a call of its keeper leaves of the keeper's count of failures and of its tests, and what that has to do with a station's answer (this project).
+-- What a call of its keeper leaves of the keeper's count of failures and of its tests, and what that has to do with a station's answer.
 use Rattle.std.specs.Prelude.{◌≡◌, ◌≢◌, ◌<◌, ◌≤◌, ◌+◌, ℕ, Bool, true, Result, Err, IsErr, OnOk}
 use mathlib.Core.Logic.{◌⊎◌}
 use Rattle.sup_replica.specs.declared.refusal.Refusal.{Refusal}

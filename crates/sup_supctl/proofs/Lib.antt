@@ -1,2 +1,2 @@
-mod Commands
-mod Wordless
+mod CommandRunLaws
+mod WordlessRunLaws

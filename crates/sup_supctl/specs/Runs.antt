@@ -1,4 +1,4 @@
--- What a run of the program does, by its words (this project).
+-- What a run of the program does, by its words.
 use Rattle.std.specs.Prelude.{◌≡◌, ◌≢◌, ℕ, List, Option, Some, None, codes}
 use Rattle.std.specs.IoError.{error_kind}
 use Rattle.std.specs.declared.io.Error.{Error}
@@ -10,22 +10,22 @@ use Rattle.sup_command_line.specs.declared.request.Request.{Request}
 use Rattle.sup_command_line.specs.declared.request.Request.TheVariants.{Simulate, Cluster, Place, Inspect}
 use Rattle.sup_jobs.specs.declared.fault.Ended.{Ended}
 use Rattle.sup_jobs.specs.Ends.{KnownBytes, TakesAtMost}
-use Rattle.sup_clustering.specs.Clustering.{Clusters}
-use Rattle.sup_program.specs.Performing.{Performs, TellsUsage, WantsMemory}
+use Rattle.sup_clustering.specs.ClusterRuns.{RunsCluster}
+use Rattle.sup_program.specs.PerformedRequests.{PerformsRequest, TellsUsage, WantsMemory}
 use Rattle.sup_program.specs.Runs.{EndsWith}
 
 -- A cluster is run by threads. All else is done as the commands do it that wait for nobody.
 abbrev pub PerformsAll : Option Request → KnownBytes → KnownBytes → KnownBytes → KnownBytes → KnownBytes → KnownBytes → Ended → Type 0
 PerformsAll (Some (Cluster weighing config)) input left before written errors_before errors_written ended =
-    Clusters (weight_of weighing) config input left before written errors_before errors_written ended
+    RunsCluster (weight_of weighing) config input left before written errors_before errors_written ended
 PerformsAll (Some (Simulate weighing config)) input left before written errors_before errors_written ended =
-    Performs (Some (Simulate weighing config)) input left before written errors_before errors_written ended
+    PerformsRequest (Some (Simulate weighing config)) input left before written errors_before errors_written ended
 PerformsAll (Some (Place weighing)) input left before written errors_before errors_written ended =
-    Performs (Some (Place weighing)) input left before written errors_before errors_written ended
+    PerformsRequest (Some (Place weighing)) input left before written errors_before errors_written ended
 PerformsAll (Some (Inspect weighing)) input left before written errors_before errors_written ended =
-    Performs (Some (Inspect weighing)) input left before written errors_before errors_written ended
+    PerformsRequest (Some (Inspect weighing)) input left before written errors_before errors_written ended
 PerformsAll None input left before written errors_before errors_written ended =
-    Performs None input left before written errors_before errors_written ended
+    PerformsRequest None input left before written errors_before errors_written ended
 
 -- the line on standard error where the words of the command line are no text
 abbrev pub no_text_line : List ℕ

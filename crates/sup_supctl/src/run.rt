@@ -2,7 +2,7 @@
 
 ghost use Rattle.std.specs.Prelude.{◌+◌, map};
 ghost use Rattle.sup_command_line.specs.Weighings.{weight_of};
-ghost use Rattle.sup_clustering.specs.Clustering.{Clusters};
+ghost use Rattle.sup_clustering.specs.ClusterRuns.{RunsCluster};
 ghost use Rattle.sup_jobs.specs.Ends.{TakesAtMost};
 ghost use Rattle.sup_supctl.specs.Runs.{RunsAll};
 
@@ -47,7 +47,7 @@ fn run_options<T: Threads + Wait + Sync, R: Read, W: Write, E: Write>(
     writer: &mut W,
     errors: &mut E,
 ) -> Ended
-    ensures clusters { Clusters (weight_of options.weigh) options.config (R.remaining reader.old) (R.remaining reader.new)
+    ensures clusters { RunsCluster (weight_of options.weigh) options.config (R.remaining reader.old) (R.remaining reader.new)
         (W.contents writer.old) (W.contents writer.new) (E.contents errors.old) (E.contents errors.new) result }
     ensures taken { TakesAtMost (LIMIT + 1) (R.remaining reader.old) (R.remaining reader.new) }
 {

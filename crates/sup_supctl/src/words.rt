@@ -2,7 +2,7 @@
 
 ghost use Rattle.std.specs.Prelude.{◌≡◌, ◌≢◌, IfErr, IfOk, map, string_bytes};
 ghost use Rattle.std.specs.IoError.{error_kind};
-ghost use Rattle.sup_program.specs.Performing.{TellsUsage, WantsMemory};
+ghost use Rattle.sup_program.specs.PerformedRequests.{TellsUsage, WantsMemory};
 ghost use Rattle.sup_supctl.specs.Runs.{no_text_line, RunsAll, RunsWithout};
 
 use crate::run::run;

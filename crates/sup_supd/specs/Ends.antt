@@ -1,4 +1,4 @@
--- How a node's run ends (this project).
+-- How a node's run ends.
 use Rattle.std.specs.Prelude.{◌≡◌, ◌⊎◌, ℕ, Bool, List, [], ◌++◌, codes, Option, Result, Ok, Err}
 use Rattle.sup_specs.specs.Values.{Bytes}
 use Rattle.sup_placement.specs.Place.{Weigher}
@@ -14,9 +14,9 @@ use Rattle.sup_talk.specs.declared.talking.TalkEnd.{TalkEnd}
 use Rattle.sup_talk.specs.declared.talking.TalkEnd.TheVariants.{Ended as HeardOut, Over, Spent}
 use Rattle.sup_talk.specs.declared.talking.TalkFault.{TalkFault}
 use Rattle.sup_talk.specs.declared.talking.TalkFault.TheVariants.{Device as Broken, OutOfMemory as Wanting}
-use Rattle.sup_answering.specs.Answering.{Known}
-use Rattle.sup_answering.specs.Beginning.{Begins, IsNoBegin}
-use Rattle.sup_answering.specs.Serving.{Serves}
+use Rattle.sup_answering.specs.AnsweringNodes.{AnsweringNode}
+use Rattle.sup_answering.specs.BegunNodes.{BeginsNode, IsNoBegin}
+use Rattle.sup_answering.specs.ServedHosts.{ServesHost}
 use Rattle.sup_answering.specs.declared.begin.BeginFault.{BeginFault}
 use Rattle.sup_answering.specs.declared.begin.BeginFault.TheVariants.{BadImage, OthersImage, Refused, NoMemory}
 
@@ -50,17 +50,17 @@ abbrev pub IsToldAs : Told → Option (List ℕ) → Option (List ℕ) → Ended
 IsToldAs told before written ended = (ended.status ≡ told.status) × Tells ended.told before written told.line
 
 -- the node began, and served its host until this end
-pub record Served (weigher : Weigher) (most : ℕ) (is_new : Bool) (name : Bytes) (config : Config) (kept : Bytes) (before after : Seen) (end : Result TalkEnd TalkFault) : Type 0 where
+pub record ServedUntil (weigher : Weigher) (most : ℕ) (is_new : Bool) (name : Bytes) (config : Config) (kept : Bytes) (before after : Seen) (end : Result TalkEnd TalkFault) : Type 0 where
   pub first : List ℕ
-  pub begun : Known
-  pub left : Known
+  pub begun : AnsweringNode
+  pub left : AnsweringNode
   pub named : begun.name ≡ name
   pub alone : begun.peers ≡ []
-  pub begins : Begins weigher is_new name config kept begun.still first
-  pub serves : Serves weigher most begun left first before after end
+  pub begins : BeginsNode weigher is_new name config kept begun.kept_station first
+  pub serves : ServesHost weigher most begun left first before after end
 
 -- How a node's run ends: it didn't begin, and its host was told nothing; or it served.
 abbrev pub RunsTo : Weigher → ℕ → Bool → Bytes → Config → Bytes → Seen → Seen → Option (List ℕ) → Option (List ℕ) → Ended → Type 0
 RunsTo weigher most is_new name config kept before after errors_before errors_written ended =
     ((fault : BeginFault) × IsNoBegin weigher name config kept fault × (after ≡ before) × IsToldAs (fault_told fault) errors_before errors_written ended)
-    ⊎ ((end : Result TalkEnd TalkFault) × Served weigher most is_new name config kept before after end × IsToldAs (end_told end) errors_before errors_written ended)
+    ⊎ ((end : Result TalkEnd TalkFault) × ServedUntil weigher most is_new name config kept before after end × IsToldAs (end_told end) errors_before errors_written ended)

@@ -1,1 +1,1 @@
-pub mod Drawing
+pub mod DrawnScripts

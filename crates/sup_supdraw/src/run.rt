@@ -4,8 +4,8 @@ ghost use Rattle.std.specs.Prelude.{◌≡◌, ◌≢◌, [], IfErr, IfOk};
 ghost use Rattle.std.specs.IoError.{error_kind};
 ghost use Rattle.sup_placement.specs.Weights.{sha256_weight};
 ghost use Rattle.sup_replica.specs.Configs.{default};
-ghost use Rattle.sup_program.specs.Performing.{WantsMemory};
-ghost use Rattle.sup_supdraw.specs.Drawing.{DrawsTo, DrawsWith, Refuses, RefusesWithout, TellsUsage};
+ghost use Rattle.sup_program.specs.PerformedRequests.{WantsMemory};
+ghost use Rattle.sup_supdraw.specs.DrawnScripts.{DrawsTo, DrawsWith, RefusesScript, RefusesWithout, TellsUsage};
 
 use crate::script::draw;
 use std::alloc::Global;
@@ -30,7 +30,7 @@ pub fn run_with<R: Read, W: Write, E: Write>(
 ) -> u8
     ensures draws { IfOk words (λ given. given.items ≡ [] → DrawsWith sha256_weight default (R.remaining reader.old) (R.remaining reader.new)
         (W.contents writer.old) (W.contents writer.new) (E.contents errors.old) (E.contents errors.new) result) }
-    ensures refuses { IfOk words (λ given. given.items ≢ [] → Refuses (E.contents errors.old) (E.contents errors.new) result) }
+    ensures refuses { IfOk words (λ given. given.items ≢ [] → RefusesScript (E.contents errors.old) (E.contents errors.new) result) }
     ensures without { IfErr words (λ error. RefusesWithout error (E.contents errors.old) (E.contents errors.new) result) }
 {
     match words {
@@ -52,7 +52,7 @@ fn run<R: Read, W: Write, E: Write>(
 ) -> u8
     ensures draws { words.now ≡ [] → DrawsWith sha256_weight default (R.remaining reader.old) (R.remaining reader.new)
         (W.contents writer.old) (W.contents writer.new) (E.contents errors.old) (E.contents errors.new) result }
-    ensures refuses { words.now ≢ [] → Refuses (E.contents errors.old) (E.contents errors.new) result }
+    ensures refuses { words.now ≢ [] → RefusesScript (E.contents errors.old) (E.contents errors.new) result }
 {
     match words {
         [] => draw_plain(alloc, reader, writer, errors).status,

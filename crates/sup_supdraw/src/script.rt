@@ -3,7 +3,7 @@
 ghost use Rattle.std.specs.Prelude.{◌≡◌, ◌≤◌, drop, length, Err, IfSome};
 ghost use Rattle.sup_jobs.specs.Ends.{Asks, EndsAt, TakesFor};
 ghost use Rattle.sup_drawing.specs.Lines.{captions_of};
-ghost use Rattle.sup_supdraw.specs.Drawing.{DrawsTo, drawing};
+ghost use Rattle.sup_supdraw.specs.DrawnScripts.{DrawsTo, drawing};
 
 use std::alloc::Global;
 use std::io::{Read, Write};

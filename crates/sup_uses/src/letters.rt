@@ -1,6 +1,6 @@
 //! Two stations that exchange letters by hand.
 ghost use Rattle.std.specs.Prelude.{◌≡◌, false, true, IfOk};
-ghost use Rattle.sup_station.specs.Stills.{still_of};
+ghost use Rattle.sup_station.specs.KeptStations.{kept_station_of};
 ghost use Rattle.sup_uses.specs.Letters.{IsUpToDate, SentNothing};
 
 use sup_keeper::Keeper;
@@ -23,8 +23,8 @@ pub fn exchange<K: Keeper, W: Weigh>(
     times: u32,
     weigher: &W,
 ) -> Result<bool, Refusal>
-    ensures left { IfOk result (λ all. all ≡ true → IsUpToDate W.weight_of (still_of K.kept left.new) right_name) }
-    ensures right { IfOk result (λ all. all ≡ true → IsUpToDate W.weight_of (still_of K.kept right.new) left_name) }
+    ensures left { IfOk result (λ all. all ≡ true → IsUpToDate W.weight_of (kept_station_of K.kept left.new) right_name) }
+    ensures right { IfOk result (λ all. all ≡ true → IsUpToDate W.weight_of (kept_station_of K.kept right.new) left_name) }
 {
     for _ in 0..times {
         let there = send(left, right, right_name, weigher)?;
@@ -43,7 +43,7 @@ fn send<K: Keeper, W: Weigh>(
     receiver: NodeName,
     weigher: &W,
 ) -> Result<bool, Refusal>
-    ensures { IfOk result (λ sent. sent ≡ false → SentNothing W.weight_of receiver (still_of K.kept from.old) (still_of K.kept to.old) (still_of K.kept from.new) (still_of K.kept to.new)) }
+    ensures { IfOk result (λ sent. sent ≡ false → SentNothing W.weight_of receiver (kept_station_of K.kept from.old) (kept_station_of K.kept to.old) (kept_station_of K.kept from.new) (kept_station_of K.kept to.new)) }
 {
     match from.step(Act::Event(Event::Ship(receiver)), 0, weigher) {
         Ok(done) => {

@@ -2,9 +2,9 @@
 ghost use Rattle.std.specs.Prelude.{IfSome};
 ghost use Rattle.sup_node_gate.specs.Gates.{IsOf};
 ghost use Rattle.sup_node_gate.specs.InMemory.{failures_by, sound_by};
-ghost use Rattle.sup_station.specs.Opening.{kept_by};
+ghost use Rattle.sup_station.specs.OpenedStations.{kept_by};
 ghost use Rattle.sup_node_gate.specs.Histories.{counted_of};
-ghost use Rattle.sup_uses.specs.Sharing.{IsReplayed};
+ghost use Rattle.sup_uses.specs.SharedGates.{IsReplayed};
 
 use std::alloc::Global;
 use std::sync::Wait;

@@ -17,7 +17,7 @@ use Rattle.sup_model.specs.Worlds.{Ops, Site, Stepped, World, acted, message_of,
 use Rattle.sup_model.proofs.Afters.{After, after-or_refused, after-refused_if, after-then_do}
 use Rattle.sup_model.proofs.CleanWorld.{find-in}
 use Rattle.sup_world.specs.ModelStays.{message_sent, model_comes_to, ModelNodesStay, ModelMessagesStay}
-use Rattle.sup_world.proofs.Localities.{still}
+use Rattle.sup_world.proofs.LocalityLaws.{still}
 use Rattle.sup_world.proofs.NameLaws.{KeepsName, act_named, deliver_named, kept_after}
 
 abbrev in_sites : List Site → Bytes → Option Site

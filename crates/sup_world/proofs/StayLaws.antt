@@ -23,10 +23,10 @@ use Rattle.sup_model.specs.Refines.{real_answer_of}
 use Rattle.sup_node.proofs.PlanLaws.{named_same}
 use Rattle.sup_model.proofs.Afters.{After, after-refused_if}
 use Rattle.sup_world.specs.Alone.{has_target, names_in, mail_sent, world_by}
-use Rattle.sup_world.specs.Staying.{real_comes_to, after_step, NodesStay, MessagesStay, OthersGoFurther, IsFurther, TextsArrive, WasSent, EntriesStay}
+use Rattle.sup_world.specs.StayingNodes.{real_comes_to, after_step, NodesStay, MessagesStay, OthersGoFurther, IsFurther, TextsArrive, WasSent, EntriesStay}
 use Rattle.sup_world.proofs.AloneLaws.{acts, refused_then, or_found, or_both, targets_same, mail_as_read, after_alone}
 use Rattle.sup_world.proofs.NameLaws.{StaysNamed, arrives_named, post_named}
-use Rattle.sup_world.proofs.Localities.{names_by, weigher_by, codec_by, own_by, other_by, name_is, mail_there, mail_stays}
+use Rattle.sup_world.proofs.LocalityLaws.{names_by, weigher_by, codec_by, own_by, other_by, name_is, mail_there, mail_stays}
 
 -- ---- a step at the node that it comes to
 abbrev came : Real State → Option (Mail State) → ℕ → Bool → Station State → Result (Move State) Refusal

@@ -1,4 +1,4 @@
--- What a step of the model's world leaves as it is (this project).
+-- What a step of the model's world leaves as it is.
 use Rattle.std.specs.Prelude.{◌≡◌, ℕ, false, [], Option, Some, unwrap_or}
 use Rattle.std.specs.Option.{option_map, option_and_then}
 use Rattle.sup_specs.specs.Values.{Bytes}

@@ -1,4 +1,4 @@
--- Settling as a list of the world's own steps (this project): which they are, and what is told of their answers.
+-- Settling as a list of the world's own steps (the rule of settling): which they are, and what is told of their answers.
 use Rattle.std.specs.Prelude.{◌≡◌, ◌≢◌, ◌+◌, ℕ, Bool, false, List, [], ◌∷◌, ◌++◌, length, filter, map, is_some, Option, Some, None, Result, Ok, Err, IsSorted, IsPermutation}
 use Rattle.std.specs.List.{flat_map}
 use mathlib.Core.Logic.{◌⊎◌}
@@ -13,10 +13,10 @@ use Rattle.sup_world.specs.declared.settled.Settled.{Settled}
 use Rattle.sup_world.specs.declared.tally.Tally.{Tally}
 use Rattle.sup_world.specs.Exchanges.{running}
 use Rattle.sup_world.specs.Pairs.{ship_of, arrival}
-use Rattle.sup_world.specs.Reaching.{LeadsOn}
-use Rattle.sup_world.specs.Runs.{StepGoes, Ran}
-use Rattle.sup_world.specs.Seen.{Seen}
-use Rattle.sup_world.specs.Settling.{pairs_of}
+use Rattle.sup_world.specs.ReachedWorlds.{LeadsOn}
+use Rattle.sup_world.specs.Runs.{StepGoes, RanSteps}
+use Rattle.sup_world.specs.SeenNodes.{SeenNode}
+use Rattle.sup_world.specs.SettledSites.{pairs_of}
 
 abbrev pub Answered : Type 0
 Answered = Result Answer Refusal
@@ -63,16 +63,16 @@ AreExchanges (pair ∷ pairs) steps answers =
     × IsExchange pair.0 pair.1 here told × AreExchanges pairs more rest × (steps ≡ here ++ more) × (answers ≡ told ++ rest)
 
 -- a step is refused so, or there is no memory to note its answer
-abbrev pub Ends : Answered → Refusal → Type 0
-Ends (Ok answer) r = r ≡ OutOfMemory
-Ends (Err q) r = r ≡ q
+abbrev pub StepEnds : Answered → Refusal → Type 0
+StepEnds (Ok answer) r = r ≡ OutOfMemory
+StepEnds (Err q) r = r ≡ q
 
 -- the steps of an exchange that ends early: at its ship, at the delivery, or at that of the acknowledgement
 pub record EndsAtShip (a b : Bytes) (steps : List Step) (answers : List Answered) (r : Refusal) : Type 0 where
   pub last : Answered
   pub steps_are : steps ≡ ship_of a b ∷ []
   pub answers_are : answers ≡ last ∷ []
-  pub ends : Ends last r
+  pub ends : StepEnds last r
   pub not_passed : r ≢ UpToDate
 
 pub record EndsAtArrival (a b : Bytes) (steps : List Step) (answers : List Answered) (r : Refusal) : Type 0 where
@@ -82,7 +82,7 @@ pub record EndsAtArrival (a b : Bytes) (steps : List Step) (answers : List Answe
   pub last : Answered
   pub steps_are : steps ≡ ship_of a b ∷ arrival a k ∷ []
   pub answers_are : answers ≡ Ok shipped ∷ last ∷ []
-  pub ends : Ends last r
+  pub ends : StepEnds last r
 
 pub record EndsAtLast (a b : Bytes) (steps : List Step) (answers : List Answered) (r : Refusal) : Type 0 where
   pub shipped : Answer
@@ -94,7 +94,7 @@ pub record EndsAtLast (a b : Bytes) (steps : List Step) (answers : List Answered
   pub last : Answered
   pub steps_are : steps ≡ ship_of a b ∷ arrival a k ∷ arrival b n ∷ []
   pub answers_are : answers ≡ Ok shipped ∷ Ok came ∷ last ∷ []
-  pub ends : Ends last r
+  pub ends : StepEnds last r
 
 abbrev pub EndsIn : Bytes → Bytes → List Step → List Answered → Refusal → Type 0
 EndsIn a b steps answers r = EndsAtShip a b steps answers r ⊎ (EndsAtArrival a b steps answers r ⊎ EndsAtLast a b steps answers r)
@@ -127,34 +127,34 @@ IsShipNotedAs (Err q) old (Ok number) new = (q ≡ UpToDate) × (number ≡ None
 IsShipNotedAs (Err q) old (Err r) new = (r ≡ q) × (r ≢ UpToDate)
 
 -- one step was made and noted
-pub record MakesOne (g : Weigher) (sites : List Seen) (step : Step) (old : Tally) (result : Result (Option ℕ) Refusal) (new : Tally) (after : List Seen) : Type 0 where
+pub record MakesOne (g : Weigher) (sites : List SeenNode) (step : Step) (old : Tally) (result : Result (Option ℕ) Refusal) (new : Tally) (after : List SeenNode) : Type 0 where
   pub answer : Answered
   pub goes : StepGoes g sites step answer after
   pub noted : IsNotedAs answer old result new
 
-pub record ShipsOne (g : Weigher) (sites : List Seen) (a b : Bytes) (old : Tally) (result : Result (Option ℕ) Refusal) (new : Tally) (after : List Seen) : Type 0 where
+pub record ShipsOne (g : Weigher) (sites : List SeenNode) (a b : Bytes) (old : Tally) (result : Result (Option ℕ) Refusal) (new : Tally) (after : List SeenNode) : Type 0 where
   pub answer : Answered
   pub goes : StepGoes g sites (ship_of a b) answer after
   pub noted : IsShipNotedAs answer old result new
 
 -- these pairs exchanged, and the answers were noted; or they ended early
-abbrev pub Come : {X : Type 0} → List (Bytes × Bytes) → List Step → List Answered → Tally → Result X Refusal → Tally → Type 0
-Come pairs steps answers old (Ok x) new = AreExchanges pairs steps answers × NotesAll answers old new
-Come pairs steps answers old (Err r) new = EndsAmong pairs steps answers r
+abbrev pub PairsCome : {X : Type 0} → List (Bytes × Bytes) → List Step → List Answered → Tally → Result X Refusal → Tally → Type 0
+PairsCome pairs steps answers old (Ok x) new = AreExchanges pairs steps answers × NotesAll answers old new
+PairsCome pairs steps answers old (Err r) new = EndsAmong pairs steps answers r
 
-pub record MakesPairs {X : Type 0} (g : Weigher) (sites : List Seen) (pairs : List (Bytes × Bytes)) (old : Tally) (result : Result X Refusal) (new : Tally) (after : List Seen) : Type 0 where
+pub record MakesPairs {X : Type 0} (g : Weigher) (sites : List SeenNode) (pairs : List (Bytes × Bytes)) (old : Tally) (result : Result X Refusal) (new : Tally) (after : List SeenNode) : Type 0 where
   pub steps : List Step
   pub answers : List Answered
-  pub ran : Ran g sites steps answers after
-  pub come : Come pairs steps answers old result new
+  pub ran : RanSteps g sites steps answers after
+  pub come : PairsCome pairs steps answers old result new
 
 -- the names of the nodes that run, in their order
-pub record AreRunning (sites : List Seen) (names : List Bytes) : Type 0 where
+pub record AreRunning (sites : List SeenNode) (names : List Bytes) : Type 0 where
   pub sorted : IsSorted text_cmp names
   pub all : IsPermutation (running sites) names
 
 -- what is told of these steps: how many messages left, and each effect with its node; or why they ended early
-abbrev pub IsToldBy : List Seen → List Step → List Answered → Result Settled Refusal → Type 0
+abbrev pub IsToldBy : List SeenNode → List Step → List Answered → Result Settled Refusal → Type 0
 IsToldBy sites steps answers (Ok settled) =
     (names : List Bytes) × AreRunning sites names × AreExchanges (pairs_of names) steps answers
     × (settled.messages ≡ messages_in answers) × (settled.effects.items ≡ effects_in answers)
@@ -163,9 +163,9 @@ IsToldBy sites steps answers (Err r) =
     ⊎ ((names : List Bytes) × AreRunning sites names × EndsAmong (pairs_of names) steps answers r)
 
 -- settling is these steps of the world, answered so; they lead on as any steps do
-pub record SettlesBy (g : Weigher) (sites : List Seen) (result : Result Settled Refusal) (after : List Seen) : Type 0 where
+pub record SettlesBy (g : Weigher) (sites : List SeenNode) (result : Result Settled Refusal) (after : List SeenNode) : Type 0 where
   pub steps : List Step
   pub answers : List Answered
-  pub ran : Ran g sites steps answers after
+  pub ran : RanSteps g sites steps answers after
   pub told : IsToldBy sites steps answers result
   pub leads : LeadsOn g sites steps answers after

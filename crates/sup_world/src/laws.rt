@@ -1,6 +1,6 @@
 //! What steps of other nodes leave as it is.
 ghost use Rattle.sup_world.specs.ModelStays.{ModelNodesStay, ModelMessagesStay};
-ghost use Rattle.sup_world.specs.Staying.{NodesStay, MessagesStay, OthersGoFurther, EntriesStay, TextsArrive};
+ghost use Rattle.sup_world.specs.StayingNodes.{NodesStay, MessagesStay, OthersGoFurther, EntriesStay, TextsArrive};
 
 /// A step of one node leaves the other nodes as they are, and takes no message away.
 pub fn a_step_is_one_nodes()

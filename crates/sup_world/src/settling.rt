@@ -3,13 +3,13 @@ ghost use Rattle.std.specs.Prelude.{◌≡◌, ◌≢◌, ◌∷◌, [], None, t
 ghost use Rattle.std.specs.List.{AllZip};
 ghost use Rattle.sup_specs.specs.Values.{text_cmp};
 ghost use Rattle.sup_model.specs.Worlds.{World as Model};
-ghost use Rattle.sup_world.specs.Carrying.{carried, has_bytes, lets_save, Knows};
-ghost use Rattle.sup_world.specs.Exchanges.{Makes, Ships, Comes, Goes, ends, running};
-ghost use Rattle.sup_world.specs.Following.{StandsFor};
-ghost use Rattle.sup_world.specs.Seen.{sites_of, FailedNoMore};
+ghost use Rattle.sup_world.specs.CarriedSteps.{carried, has_bytes, lets_save, KnowsBytes};
+ghost use Rattle.sup_world.specs.Exchanges.{MakesStep, ShipsState, MessageComes, ExchangesPairs, ends, running};
+ghost use Rattle.sup_world.specs.FollowedSteps.{StandsFor};
+ghost use Rattle.sup_world.specs.SeenNodes.{sites_of, FailedNoMore};
 ghost use Rattle.sup_world.specs.Pairs.{arrival};
 ghost use Rattle.sup_world.specs.Settlements.{MakesOne, ShipsOne, MakesPairs, SettlesBy};
-ghost use Rattle.sup_world.specs.Settling.{SettlesTo};
+ghost use Rattle.sup_world.specs.SettledSites.{SettlesTo};
 
 use crate::settled::Settled;
 use crate::state::World;
@@ -60,7 +60,7 @@ impl<W: Weigh> World<W> {
         tally: &mut Tally,
     ) -> Result<(), Refusal>
         ensures goes { (model : Model) → StandsFor W.weight_of (sites_of self.old) model
-            → Goes W.weight_of model (map (ends way first.now) others.now) tally.old result tally.new (sites_of self.new) }
+            → ExchangesPairs W.weight_of model (map (ends way first.now) others.now) tally.old result tally.new (sites_of self.new) }
         ensures steps { MakesPairs W.weight_of (sites_of self.old) (map (ends way first.now) others.now) tally.old result tally.new (sites_of self.new) }
         ensures counted { AllZip FailedNoMore (sites_of self.old) (sites_of self.new) }
     {
@@ -76,7 +76,7 @@ impl<W: Weigh> World<W> {
     // One ships to the other, which acknowledges.
     fn exchange(&mut self, from: &NodeName, to: &NodeName, tally: &mut Tally) -> Result<(), Refusal>
         ensures goes { (model : Model) → StandsFor W.weight_of (sites_of self.old) model
-            → Goes W.weight_of model ((from.now, to.now) ∷ []) tally.old result tally.new (sites_of self.new) }
+            → ExchangesPairs W.weight_of model ((from.now, to.now) ∷ []) tally.old result tally.new (sites_of self.new) }
         ensures steps { MakesPairs W.weight_of (sites_of self.old) ((from.now, to.now) ∷ []) tally.old result tally.new (sites_of self.new) }
         ensures counted { AllZip FailedNoMore (sites_of self.old) (sites_of self.new) }
     {
@@ -98,7 +98,7 @@ impl<W: Weigh> World<W> {
         tally: &mut Tally,
     ) -> Result<Option<u64>, Refusal>
         ensures ships { (model : Model) → StandsFor W.weight_of (sites_of self.old) model
-            → Ships W.weight_of model from.now to.now tally.old result tally.new (sites_of self.new) }
+            → ShipsState W.weight_of model from.now to.now tally.old result tally.new (sites_of self.new) }
         ensures steps { ShipsOne W.weight_of (sites_of self.old) from.now to.now tally.old result tally.new (sites_of self.new) }
         ensures counted { AllZip FailedNoMore (sites_of self.old) (sites_of self.new) }
     {
@@ -122,7 +122,7 @@ impl<W: Weigh> World<W> {
         tally: &mut Tally,
     ) -> Result<Option<u64>, Refusal>
         ensures comes { (model : Model) → StandsFor W.weight_of (sites_of self.old) model
-            → Comes W.weight_of model from.now number tally.old result tally.new (sites_of self.new) }
+            → MessageComes W.weight_of model from.now number tally.old result tally.new (sites_of self.new) }
         ensures steps { MakesOne W.weight_of (sites_of self.old) (arrival from.now number) tally.old result tally.new (sites_of self.new) }
         ensures counted { AllZip FailedNoMore (sites_of self.old) (sites_of self.new) }
     {
@@ -141,8 +141,8 @@ impl<W: Weigh> World<W> {
     fn make(&mut self, step: &Step, tally: &mut Tally) -> Result<Option<u64>, Refusal>
         requires bytes { has_bytes step.now ≡ false }
         requires saves { lets_save step.now ≡ true }
-        ensures makes { (model : Model) → StandsFor W.weight_of (sites_of self.old) model → Knows model.is_message step.now
-            → Makes W.weight_of model (carried (sites_of self.old) step.now) tally.old result tally.new (sites_of self.new) }
+        ensures makes { (model : Model) → StandsFor W.weight_of (sites_of self.old) model → KnowsBytes model.is_message step.now
+            → MakesStep W.weight_of model (carried (sites_of self.old) step.now) tally.old result tally.new (sites_of self.new) }
         ensures steps { MakesOne W.weight_of (sites_of self.old) step.now tally.old result tally.new (sites_of self.new) }
         ensures counted { AllZip FailedNoMore (sites_of self.old) (sites_of self.new) }
     {

@@ -1,6 +1,6 @@
 //! Steps of a world, made as its condition wants it: none brings bytes by itself.
 ghost use Rattle.std.specs.Prelude.{◌≡◌, All, false};
-ghost use Rattle.sup_world.specs.Carrying.{has_bytes};
+ghost use Rattle.sup_world.specs.CarriedSteps.{has_bytes};
 
 use std::alloc::AllocError;
 use std::process::Abort;

@@ -1,4 +1,4 @@
--- What the program does that was started with words that no clause knows (this project).
+-- What the program does that was started with words that no clause knows.
 use Rattle.std.specs.Prelude.{◌⊎◌, ℕ, List}
 use Rattle.std.specs.declared.io.Error.{Error}
 use Rattle.clap.specs.Words.{Text}

@@ -6,8 +6,8 @@ ghost use Rattle.sup_tables.specs.Joined.{no_state};
 ghost use Rattle.sup_tables.specs.Planned.{IsPlanFor};
 ghost use Rattle.sup_tables.specs.Opened.{IsOpen};
 ghost use Rattle.sup_local_sup.specs.Planning.{restarted};
-ghost use Rattle.sup_node.specs.Changes.{Makes, kept_by, newer};
-ghost use Rattle.sup_node.specs.Openings.{Becomes, kept_with};
+ghost use Rattle.sup_node.specs.Changes.{ChangesTables, kept_by, newer};
+ghost use Rattle.sup_node.specs.Openings.{TablesBecome, kept_with};
 
 use crate::change::Intake;
 use crate::opened::OpenIntake;
@@ -35,10 +35,10 @@ impl Replica {
 
     // Takes a delta in, as it was made ready. An `Err` is want of memory, and changes nothing.
     pub(crate) fn take_in(&mut self, intake: Intake, own: Option<Tables>) -> Result<(), AllocError>
-        requires tables { (new : State) × Makes intake self.old.known new }
+        requires tables { (new : State) × ChangesTables intake self.old.known new }
         requires given { (kept_by self.old.supervisor intake).given ≤ MOST }
         requires count { self.old.count < MOST }
-        ensures ok { OnOk result ((new : State) → Makes intake self.old.known new → self.new ≡ record self.old { known = new; count = self.old.count + 1; supervisor = kept_by self.old.supervisor intake; newest = newer own self.old.newest }) }
+        ensures ok { OnOk result ((new : State) → ChangesTables intake self.old.known new → self.new ≡ record self.old { known = new; count = self.old.count + 1; supervisor = kept_by self.old.supervisor intake; newest = newer own self.old.newest }) }
         ensures err { OnErr result (self.new ≡ self.old) }
     {
         match intake {
@@ -97,9 +97,9 @@ impl Replica {
 
     // It has taken in what it was opened for, but for the count.
     pub(crate) fn with_intake(self, intake: OpenIntake) -> Replica
-        requires tables { (old : State) × (new : State) × Becomes intake self.known old new }
+        requires tables { (old : State) × (new : State) × TablesBecome intake self.known old new }
         requires given { (kept_with self.supervisor intake).given ≤ MOST }
-        ensures becomes { (old : State) (new : State) → Becomes intake self.known old new → result ≡ record self { known = new; supervisor = kept_with self.supervisor intake } }
+        ensures becomes { (old : State) (new : State) → TablesBecome intake self.known old new → result ≡ record self { known = new; supervisor = kept_with self.supervisor intake } }
         ensures count { result.count ≡ self.count }
         ensures up { result.up ≡ self.up }
     {

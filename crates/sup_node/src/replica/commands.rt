@@ -9,7 +9,7 @@ ghost use Rattle.sup_tables.specs.OneOperation.{state_of_one, counter_in, next_a
 ghost use Rattle.sup_replica.specs.declared.event.Event.TheVariants.{Join, Leave, Drain, Start, Replace, Delete, Register, Unregister};
 ghost use Rattle.sup_replica.specs.ByTables.{by_tables};
 ghost use Rattle.sup_replica.specs.Steps.{up_step};
-ghost use Rattle.sup_node.specs.Changes.{Readies, IsOwn};
+ghost use Rattle.sup_node.specs.Changes.{ReadiesOutcome, IsOwn};
 ghost use Rattle.sup_node.specs.Placed.{keeps_placed};
 
 use crate::change::Ready;
@@ -26,7 +26,7 @@ impl Replica {
     // The node joins.
     pub(crate) fn join<W: Weigh>(&self, label: &Text, weigher: &W) -> Result<Ready, Refusal>
         requires keeps { keeps_placed W.weight_of self.now ≡ true }
-        ensures ready { Readies W.weight_of (up_step by_tables W.weight_of self.now (Join label.now) 0) self.now result }
+        ensures ready { ReadiesOutcome W.weight_of (up_step by_tables W.weight_of self.now (Join label.now) 0) self.now result }
         ensures own { IfOk result (λ p. IsOwn self.now p.change) }
     {
         if self.is_joined() {
@@ -45,7 +45,7 @@ impl Replica {
     // A member leaves.
     pub(crate) fn leave<W: Weigh>(&self, m: &NodeName, weigher: &W) -> Result<Ready, Refusal>
         requires keeps { keeps_placed W.weight_of self.now ≡ true }
-        ensures ready { Readies W.weight_of (up_step by_tables W.weight_of self.now (Leave m.now) 0) self.now result }
+        ensures ready { ReadiesOutcome W.weight_of (up_step by_tables W.weight_of self.now (Leave m.now) 0) self.now result }
         ensures own { IfOk result (λ p. IsOwn self.now p.change) }
     {
         if !self.is_member(m) {
@@ -59,7 +59,7 @@ impl Replica {
     // A member stays, and keeps no children.
     pub(crate) fn drain<W: Weigh>(&self, m: &NodeName, weigher: &W) -> Result<Ready, Refusal>
         requires keeps { keeps_placed W.weight_of self.now ≡ true }
-        ensures ready { Readies W.weight_of (up_step by_tables W.weight_of self.now (Drain m.now) 0) self.now result }
+        ensures ready { ReadiesOutcome W.weight_of (up_step by_tables W.weight_of self.now (Drain m.now) 0) self.now result }
         ensures own { IfOk result (λ p. IsOwn self.now p.change) }
     {
         if !self.is_member(m) {
@@ -89,7 +89,7 @@ impl Replica {
         weigher: &W,
     ) -> Result<Ready, Refusal>
         requires keeps { keeps_placed W.weight_of self.now ≡ true }
-        ensures ready { Readies W.weight_of (up_step by_tables W.weight_of self.now (Start id.now spec.now) 0) self.now result }
+        ensures ready { ReadiesOutcome W.weight_of (up_step by_tables W.weight_of self.now (Start id.now spec.now) 0) self.now result }
         ensures own { IfOk result (λ p. IsOwn self.now p.change) }
     {
         if self.is_child(id) {
@@ -113,7 +113,7 @@ impl Replica {
         weigher: &W,
     ) -> Result<Ready, Refusal>
         requires keeps { keeps_placed W.weight_of self.now ≡ true }
-        ensures ready { Readies W.weight_of (up_step by_tables W.weight_of self.now (Replace id.now spec.now) 0) self.now result }
+        ensures ready { ReadiesOutcome W.weight_of (up_step by_tables W.weight_of self.now (Replace id.now spec.now) 0) self.now result }
         ensures own { IfOk result (λ p. IsOwn self.now p.change) }
     {
         if !self.is_child(id) {
@@ -135,7 +135,7 @@ impl Replica {
     // A child goes.
     pub(crate) fn delete<W: Weigh>(&self, id: &ChildId, weigher: &W) -> Result<Ready, Refusal>
         requires keeps { keeps_placed W.weight_of self.now ≡ true }
-        ensures ready { Readies W.weight_of (up_step by_tables W.weight_of self.now (Delete id.now) 0) self.now result }
+        ensures ready { ReadiesOutcome W.weight_of (up_step by_tables W.weight_of self.now (Delete id.now) 0) self.now result }
         ensures own { IfOk result (λ p. IsOwn self.now p.change) }
     {
         if !self.is_child(id) {
@@ -154,7 +154,7 @@ impl Replica {
         weigher: &W,
     ) -> Result<Ready, Refusal>
         requires keeps { keeps_placed W.weight_of self.now ≡ true }
-        ensures ready { Readies W.weight_of (up_step by_tables W.weight_of self.now (Register name.now id.now) 0) self.now result }
+        ensures ready { ReadiesOutcome W.weight_of (up_step by_tables W.weight_of self.now (Register name.now id.now) 0) self.now result }
         ensures own { IfOk result (λ p. IsOwn self.now p.change) }
     {
         if !self.is_child(id) {
@@ -176,7 +176,7 @@ impl Replica {
     // A name is taken back.
     pub(crate) fn unregister<W: Weigh>(&self, name: &Name, weigher: &W) -> Result<Ready, Refusal>
         requires keeps { keeps_placed W.weight_of self.now ≡ true }
-        ensures ready { Readies W.weight_of (up_step by_tables W.weight_of self.now (Unregister name.now) 0) self.now result }
+        ensures ready { ReadiesOutcome W.weight_of (up_step by_tables W.weight_of self.now (Unregister name.now) 0) self.now result }
         ensures own { IfOk result (λ p. IsOwn self.now p.change) }
     {
         if !self.is_name(name) {

@@ -10,7 +10,7 @@ ghost use Rattle.sup_local_sup.specs.Planning.{ruling};
 ghost use Rattle.sup_replica.specs.declared.event.Event.TheVariants.{Exit};
 ghost use Rattle.sup_replica.specs.ByTables.{by_tables};
 ghost use Rattle.sup_replica.specs.Steps.{up_step, exit_step};
-ghost use Rattle.sup_node.specs.Changes.{Readies, IsOwn};
+ghost use Rattle.sup_node.specs.Changes.{ReadiesOutcome, IsOwn};
 ghost use Rattle.sup_node.specs.Placed.{keeps_placed};
 
 use crate::change::{Change, Ready};
@@ -34,7 +34,7 @@ impl Replica {
         weigher: &W,
     ) -> Result<Ready, Refusal>
         requires keeps { keeps_placed W.weight_of self.now ≡ true }
-        ensures ready { Readies W.weight_of (up_step by_tables W.weight_of self.now (Exit id.now inc reason.now) now) self.now result }
+        ensures ready { ReadiesOutcome W.weight_of (up_step by_tables W.weight_of self.now (Exit id.now inc reason.now) now) self.now result }
         ensures own { IfOk result (λ p. IsOwn self.now p.change) }
     {
         match self.ruling(id, inc, reason, now) {
@@ -55,7 +55,7 @@ impl Replica {
 
     // The child begins a new run, and no table changes.
     fn begin_again(&self, id: &ChildId, now: u64) -> Result<Ready, Refusal>
-        ensures ready { (w : Weigher) → keeps_placed w self.now ≡ true → Readies w (exit_step by_tables w self.now id.now now Restart) self.now result }
+        ensures ready { (w : Weigher) → keeps_placed w self.now ≡ true → ReadiesOutcome w (exit_step by_tables w self.now id.now now Restart) self.now result }
         ensures own { IfOk result (λ p. IsOwn self.now p.change) }
     {
         let again = id.try_clone(self.alloc)?;
@@ -74,7 +74,7 @@ impl Replica {
     fn finish<W: Weigh>(&self, id: &ChildId, dot: &Dot, weigher: &W) -> Result<Ready, Refusal>
         requires counted { IsCounted dot.now }
         requires keeps { keeps_placed W.weight_of self.now ≡ true }
-        ensures ready { Readies W.weight_of (exit_step by_tables W.weight_of self.now id.now 0 (Finish dot.now)) self.now result }
+        ensures ready { ReadiesOutcome W.weight_of (exit_step by_tables W.weight_of self.now id.now 0 (Finish dot.now)) self.now result }
         ensures own { IfOk result (λ p. IsOwn self.now p.change) }
     {
         let delta = self.finished(dot)?;
@@ -86,7 +86,7 @@ impl Replica {
     // The node leaves, and stops all other children.
     fn give_up<W: Weigh>(&self, id: &ChildId, weigher: &W) -> Result<Ready, Refusal>
         requires keeps { keeps_placed W.weight_of self.now ≡ true }
-        ensures ready { Readies W.weight_of (exit_step by_tables W.weight_of self.now id.now 0 GiveUp) self.now result }
+        ensures ready { ReadiesOutcome W.weight_of (exit_step by_tables W.weight_of self.now id.now 0 GiveUp) self.now result }
         ensures own { IfOk result (λ p. IsOwn self.now p.change) }
     {
         let (delta, dots) = self.drop_itself()?;

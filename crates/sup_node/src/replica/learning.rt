@@ -4,7 +4,7 @@ ghost use Rattle.sup_tables.specs.Joined.{join_states, covers_state};
 ghost use Rattle.sup_replica.specs.ByTables.{by_tables};
 ghost use Rattle.sup_replica.specs.Steps.{issues};
 ghost use Rattle.sup_replica.specs.Acts.{absorbs};
-ghost use Rattle.sup_node.specs.Changes.{Readies, IsOwn, IsOf, learns};
+ghost use Rattle.sup_node.specs.Changes.{ReadiesOutcome, IsOwn, IsOf, learns};
 ghost use Rattle.sup_node.specs.Placed.{keeps_placed};
 
 use crate::change::{Change, Learned, Ready};
@@ -27,7 +27,7 @@ impl Replica {
         weigher: &W,
     ) -> Result<Ready, Refusal>
         requires keeps { keeps_placed W.weight_of self.now ≡ true }
-        ensures ready { Readies W.weight_of (Ok (issues by_tables W.weight_of self.now reply leaving.now delta)) self.now result }
+        ensures ready { ReadiesOutcome W.weight_of (Ok (issues by_tables W.weight_of self.now reply leaving.now delta)) self.now result }
         ensures own { IfOk result (λ p. IsOwn self.now p.change) }
     {
         let own = delta.try_clone(self.alloc)?;
@@ -37,7 +37,7 @@ impl Replica {
     // Makes ready what comes of received tables.
     pub(crate) fn absorb<W: Weigh>(&self, delta: Tables, weigher: &W) -> Result<Ready, Refusal>
         requires keeps { keeps_placed W.weight_of self.now ≡ true }
-        ensures ready { Readies W.weight_of (Ok (absorbs by_tables W.weight_of self.now delta None (covers_state self.now.known delta))) self.now result }
+        ensures ready { ReadiesOutcome W.weight_of (Ok (absorbs by_tables W.weight_of self.now delta None (covers_state self.now.known delta))) self.now result }
         ensures of { IfOk result (λ p. IsOf delta self.now p.change) }
     {
         // For its clause: no number is past the greatest.
@@ -62,7 +62,7 @@ impl Replica {
         weigher: &W,
     ) -> Result<Ready, Refusal>
         requires keeps { keeps_placed W.weight_of self.now ≡ true }
-        ensures ready { Readies W.weight_of (Ok (learns W.weight_of self.now own reply leaving.now delta)) self.now result }
+        ensures ready { ReadiesOutcome W.weight_of (Ok (learns W.weight_of self.now own reply leaving.now delta)) self.now result }
         ensures own { own ≡ Some delta → IfOk result (λ p. IsOwn self.now p.change) }
         ensures of { own ≡ None → IfOk result (λ p. IsOf delta self.now p.change) }
     {

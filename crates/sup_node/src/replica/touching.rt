@@ -8,7 +8,7 @@ ghost use Rattle.sup_tables.specs.States.{State};
 ghost use Rattle.sup_tables.specs.Planned.{IsPlanFor};
 ghost use Rattle.sup_local_sup.specs.Keeping.{AreCounted};
 ghost use Rattle.sup_local_sup.specs.Changing.{news};
-ghost use Rattle.sup_node.specs.Placed.{Reaches, ended_of, wanted_under, change_of};
+ghost use Rattle.sup_node.specs.Placed.{ListsLeaving, ended_of, wanted_under, change_of};
 
 use crate::placing::is_here;
 use crate::replica::Replica;
@@ -64,7 +64,7 @@ impl Replica {
 
 // Whether whoever leaves is among these children, and nobody else leaves.
 pub(super) fn reaches(children: &[ChildId], leaving: &Leaving) -> bool
-    ensures { result ≡ true → Reaches children.now leaving.now }
+    ensures { result ≡ true → ListsLeaving children.now leaving.now }
 {
     match leaving {
         Leaving::Nobody => true,

@@ -5,7 +5,7 @@ ghost use Rattle.sup_tables.specs.Rows.{AreInOrder};
 ghost use Rattle.sup_tables.specs.States.{State, HasDotsOf};
 ghost use Rattle.sup_tables.specs.Planned.{IsPlanFor};
 ghost use Rattle.sup_image_text.specs.Next.{IsChanged, IsNext};
-ghost use Rattle.sup_node.specs.Changes.{Makes, image_with};
+ghost use Rattle.sup_node.specs.Changes.{ChangesTables, image_with};
 
 use crate::change::Intake;
 use crate::replica::Replica;
@@ -19,7 +19,7 @@ impl Replica {
     // Its image once a delta is taken in.
     pub(crate) fn next_image<'a>(&'a self, intake: &'a Intake) -> Result<NextImage<'a>, AllocError>
         requires { self.now.count < MOST }
-        ensures { IfOk result (λ next. (new : State) → Makes intake.now self.now.known new → IsNext self.now.known.rows (image_with self.now new) next) }
+        ensures { IfOk result (λ next. (new : State) → ChangesTables intake.now self.now.known new → IsNext self.now.known.rows (image_with self.now new) next) }
     {
         match intake {
             Intake::Whole(tables, _) => self.with_all_rows(tables),

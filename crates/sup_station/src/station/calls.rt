@@ -5,9 +5,9 @@ ghost use Rattle.sup_node.specs.Contents.{station_of};
 ghost use Rattle.sup_replica.specs.declared.event.Act.TheVariants.{Restart};
 ghost use Rattle.sup_replica.specs.declared.refusal.Refusal.TheVariants.{KeepFailed};
 ghost use Rattle.sup_keeper.specs.Keeping.{failing_next};
-ghost use Rattle.sup_station.specs.Opening.{Opens, IsKeepRefusal, kept_by};
-ghost use Rattle.sup_station.specs.Plans.{IsPreparedFor, IsReadyFor, Commits, is_saved};
-ghost use Rattle.sup_station.specs.Stills.{still_of, keeper_of, Goes, Refuses, FailsToSave, ComesToSave, IsUnsaved};
+ghost use Rattle.sup_station.specs.OpenedStations.{OpensStation, IsKeepRefusal, kept_by};
+ghost use Rattle.sup_station.specs.PreparedActs.{IsPreparedFor, IsReadyFor, CommitsPrepared, is_saved};
+ghost use Rattle.sup_station.specs.KeptStations.{kept_station_of, keeper_of, AnswersAct, RefusesAct, FailsToSave, ComesToSave, IsUnsaved};
 
 use crate::prepared::Prepared;
 use crate::station::becoming::{change_to, save_and_change};
@@ -32,7 +32,7 @@ impl<K: Keeper, W: Weigh> Station<K, W> {
         config: Config,
         keeper: K,
     ) -> Result<Station<K, W>, Refused<K>>
-        ensures opens { IfOk result (λ s. Opens name config (still_of K.kept s)) }
+        ensures opens { IfOk result (λ s. OpensStation name config (kept_station_of K.kept s)) }
         ensures refused { IfErr result (λ r. K.kept r.keeper ≡ K.kept keeper) }
         ensures reason { IfErr result (λ r. IsKeepRefusal r.reason) }
         ensures rose { IfErr result (λ r. r.reason ≡ KeepFailed → K.failures keeper < K.failures r.keeper) }
@@ -61,7 +61,7 @@ impl<K: Keeper, W: Weigh> Station<K, W> {
 
     /// A station whose node is stopped. A restart goes on from what the keeper keeps.
     pub fn stopped(alloc: Global, name: NodeName, config: Config, keeper: K) -> Station<K, W>
-        ensures still { still_of K.kept result ≡ record { name = name; config = config; node = None; kept = K.kept keeper } }
+        ensures still { kept_station_of K.kept result ≡ record { name = name; config = config; node = None; kept = K.kept keeper } }
         ensures keeper { keeper_of result ≡ keeper }
     {
         let node = None;
@@ -77,7 +77,7 @@ impl<K: Keeper, W: Weigh> Station<K, W> {
 
     /// Its node, or none while it is stopped.
     pub fn node(&self) -> Option<&Node<W>>
-        ensures { option_map station_of (option_copied result) ≡ (still_of K.kept self.now).node }
+        ensures { option_map station_of (option_copied result) ≡ (kept_station_of K.kept self.now).node }
     {
         self.node.as_ref()
     }
@@ -98,8 +98,8 @@ impl<K: Keeper, W: Weigh> Station<K, W> {
     /// refused as its node's plan is. A restart is refused with `KeepFailed` where the load fails, `BadMessage` where the
     /// bytes are no image of this node, `CountSpent` where the boot would pass `MAX`, and `OutOfMemory`.
     pub fn prepare(&mut self, act: &Act, now: u64, weigher: &W) -> Result<Prepared, Refusal>
-        ensures same { still_of K.kept self.new ≡ still_of K.kept self.old }
-        ensures answer { MatchResult result (IsPreparedFor W.weight_of (still_of K.kept self.old) act.now now) (Refuses W.weight_of (still_of K.kept self.old) (still_of K.kept self.old).node act.now now) }
+        ensures same { kept_station_of K.kept self.new ≡ kept_station_of K.kept self.old }
+        ensures answer { MatchResult result (IsPreparedFor W.weight_of (kept_station_of K.kept self.old) act.now now) (RefusesAct W.weight_of (kept_station_of K.kept self.old) (kept_station_of K.kept self.old).node act.now now) }
         ensures loads { act.now ≢ Restart → (keeper_of self.new ≡ keeper_of self.old) × (result ≢ Err KeepFailed) }
         ensures rose { result ≡ Err KeepFailed → K.failures (keeper_of self.old) < K.failures (keeper_of self.new) }
         ensures told { K.failures (keeper_of self.old) < K.failures (keeper_of self.new) → result ≡ Err KeepFailed }
@@ -128,8 +128,8 @@ impl<K: Keeper, W: Weigh> Station<K, W> {
     ///
     /// `KeepFailed` where the save fails; `OutOfMemory`. The station is unchanged then.
     pub fn commit(&mut self, prepared: Prepared) -> Result<Done, Refusal>
-        requires { IsReadyFor W.weight_of (still_of K.kept self.old) prepared }
-        ensures answer { Commits (still_of K.kept self.old) prepared result (still_of K.kept self.new) }
+        requires { IsReadyFor W.weight_of (kept_station_of K.kept self.old) prepared }
+        ensures answer { CommitsPrepared (kept_station_of K.kept self.old) prepared result (kept_station_of K.kept self.new) }
         ensures rose { result ≡ Err KeepFailed → K.failures (keeper_of self.old) < K.failures (keeper_of self.new) }
         ensures told { K.failures (keeper_of self.old) < K.failures (keeper_of self.new) → result ≡ Err KeepFailed }
         ensures never_falls { K.failures (keeper_of self.old) ≤ K.failures (keeper_of self.new) }
@@ -160,16 +160,16 @@ impl<K: Keeper, W: Weigh> Station<K, W> {
     ///
     /// As these two tell. The station is unchanged then, but for the keeper's count of failures.
     pub fn step(&mut self, act: Act, now: u64, weigher: &W) -> Result<Done, Refusal>
-        ensures goes { Goes W.weight_of (still_of K.kept self.old) act now result (still_of K.kept self.new) }
+        ensures goes { AnswersAct W.weight_of (kept_station_of K.kept self.old) act now result (kept_station_of K.kept self.new) }
         ensures failed { result ≡ Err KeepFailed → K.failures (keeper_of self.old) < K.failures (keeper_of self.new) }
         ensures told { K.failures (keeper_of self.old) < K.failures (keeper_of self.new) → result ≡ Err KeepFailed }
         ensures never_falls { K.failures (keeper_of self.old) ≤ K.failures (keeper_of self.new) }
         ensures by_one { K.failures (keeper_of self.new) ≤ K.failures (keeper_of self.old) + 1 }
         ensures uncounted { OnOk result (K.failures (keeper_of self.new) ≡ K.failures (keeper_of self.old)) }
-        ensures failing { K.failing (keeper_of self.old) ≡ true → ComesToSave W.weight_of (still_of K.kept self.old) (still_of K.kept self.old).node act now → IsUnsaved result }
+        ensures failing { K.failing (keeper_of self.old) ≡ true → ComesToSave W.weight_of (kept_station_of K.kept self.old) (kept_station_of K.kept self.old).node act now → IsUnsaved result }
         ensures sound { K.sound (keeper_of self.old) ≡ true → result ≢ Err KeepFailed }
-        ensures unsaved { (K.failing (keeper_of self.old) ≡ true) ⊎ (K.sound (keeper_of self.old) ≡ true) → result ≡ Err KeepFailed → FailsToSave W.weight_of (still_of K.kept self.old) (still_of K.kept self.old).node act now }
-        ensures order { K.readable (keeper_of self.old) ≡ true → result ≡ Err KeepFailed → FailsToSave W.weight_of (still_of K.kept self.old) (still_of K.kept self.old).node act now }
+        ensures unsaved { (K.failing (keeper_of self.old) ≡ true) ⊎ (K.sound (keeper_of self.old) ≡ true) → result ≡ Err KeepFailed → FailsToSave W.weight_of (kept_station_of K.kept self.old) (kept_station_of K.kept self.old).node act now }
+        ensures order { K.readable (keeper_of self.old) ≡ true → result ≡ Err KeepFailed → FailsToSave W.weight_of (kept_station_of K.kept self.old) (kept_station_of K.kept self.old).node act now }
         ensures stays_sound { K.sound (keeper_of self.old) ≡ true → K.sound (keeper_of self.new) ≡ true }
         ensures stays_readable { K.readable (keeper_of self.old) ≡ true → K.readable (keeper_of self.new) ≡ true }
         ensures steady { K.sound (keeper_of self.old) ≡ true → K.failures (keeper_of self.new) ≡ K.failures (keeper_of self.old) }
@@ -183,7 +183,7 @@ impl<W: Weigh> Station<MemKeeper, W> {
     /// Whether the next save of its keeper fails. None does once `u64::MAX` have.
     pub fn fail_next(&mut self, fails: bool)
         ensures keeper { keeper_of self.new ≡ failing_next (keeper_of self.old) fails }
-        ensures still { still_of kept_by self.new ≡ still_of kept_by self.old }
+        ensures still { kept_station_of kept_by self.new ≡ kept_station_of kept_by self.old }
     {
         self.keeper.fail_next(fails);
     }

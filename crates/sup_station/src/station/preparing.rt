@@ -4,10 +4,10 @@ ghost use Rattle.sup_replica.specs.declared.event.Act.TheVariants.{Event as Of, 
 ghost use Rattle.sup_specs.specs.declared.limits.TheConstants.{MAX as MOST};
 ghost use Rattle.sup_node.specs.Changes.{image_after};
 ghost use Rattle.sup_node.specs.Contents.{station_of};
-ghost use Rattle.sup_node.specs.NodeSteps.{Fits};
+ghost use Rattle.sup_node.specs.NodeSteps.{FitsNode};
 ghost use Rattle.sup_station.specs.Counts.{CountsLoad};
-ghost use Rattle.sup_station.specs.Plans.{IsPreparedFor, Prepares, IsKept, IsKeptOf};
-ghost use Rattle.sup_station.specs.Stills.{still_of, keeper_of, Refuses, IsOwnImage, IsNoOwnImage};
+ghost use Rattle.sup_station.specs.PreparedActs.{IsPreparedFor, PreparesAct, IsKept, IsKeptOf};
+ghost use Rattle.sup_station.specs.KeptStations.{kept_station_of, keeper_of, RefusesAct, IsOwnImage, IsNoOwnImage};
 
 use crate::prepared::{Next, Prepared};
 use crate::station::Station;
@@ -30,7 +30,7 @@ impl<K: Keeper, W: Weigh> Station<K, W> {
         now: u64,
         weigher: &W,
     ) -> Result<Prepared, Refusal>
-        ensures { Prepares W.weight_of (still_of K.kept self.now) (Of event.now) now result }
+        ensures { PreparesAct W.weight_of (kept_station_of K.kept self.now) (Of event.now) now result }
     {
         let Some(node) = &self.node else {
             return Err(Refusal::Down);
@@ -45,8 +45,8 @@ impl<K: Keeper, W: Weigh> Station<K, W> {
 
     // The text of its node's next image, if what was made ready changes it.
     fn text_after(&self, node: &Node<W>, planned: &Planned) -> Result<Option<ArrayText>, AllocError>
-        requires here { (still_of K.kept self.now).node ≡ Some (station_of node.now) }
-        requires fits { Fits W.weight_of (station_of node.now) planned.now.change }
+        requires here { (kept_station_of K.kept self.now).node ≡ Some (station_of node.now) }
+        requires fits { FitsNode W.weight_of (station_of node.now) planned.now.change }
         ensures { IfOk result (λ text. IsKeptOf (image_after (station_of node.now).node planned.now.change) text) }
     {
         let Some(next) = node.next_image(planned)? else {
@@ -61,7 +61,7 @@ impl<K: Keeper, W: Weigh> Station<K, W> {
 
     // Makes a stop ready.
     pub(super) fn prepare_stop(&self, now: u64) -> Result<Prepared, Refusal>
-        ensures { Prepares W.weight_of (still_of K.kept self.now) Stop now result }
+        ensures { PreparesAct W.weight_of (kept_station_of K.kept self.now) Stop now result }
     {
         if self.node.is_none() {
             return Err(Refusal::Down);
@@ -79,8 +79,8 @@ impl<K: Keeper, W: Weigh> Station<K, W> {
 
     // Makes a restart ready.
     pub(super) fn prepare_restart(&mut self, now: u64, weigher: &W) -> Result<Prepared, Refusal>
-        ensures same { still_of K.kept self.new ≡ still_of K.kept self.old }
-        ensures answer { MatchResult result (IsPreparedFor W.weight_of (still_of K.kept self.old) Restart now) (Refuses W.weight_of (still_of K.kept self.old) (still_of K.kept self.old).node Restart now) }
+        ensures same { kept_station_of K.kept self.new ≡ kept_station_of K.kept self.old }
+        ensures answer { MatchResult result (IsPreparedFor W.weight_of (kept_station_of K.kept self.old) Restart now) (RefusesAct W.weight_of (kept_station_of K.kept self.old) (kept_station_of K.kept self.old).node Restart now) }
         ensures counts { CountsLoad K.failures K.failing K.sound K.readable (keeper_of self.old) (keeper_of self.new) result }
     {
         if self.node.is_some() {
@@ -94,9 +94,9 @@ impl<K: Keeper, W: Weigh> Station<K, W> {
 
     // Makes a restart from these bytes ready, which the keeper keeps.
     fn restart_from(&self, bytes: &[u8], now: u64, weigher: &W) -> Result<Prepared, Refusal>
-        requires stopped { (still_of K.kept self.now).node ≡ None }
-        requires kept { bytes.now ≡ (still_of K.kept self.now).kept }
-        ensures { Prepares W.weight_of (still_of K.kept self.now) Restart now result }
+        requires stopped { (kept_station_of K.kept self.now).node ≡ None }
+        requires kept { bytes.now ≡ (kept_station_of K.kept self.now).kept }
+        ensures { PreparesAct W.weight_of (kept_station_of K.kept self.now) Restart now result }
     {
         let image = self.own_image(bytes)?;
         self.restart_by(image, now, weigher)
@@ -104,7 +104,7 @@ impl<K: Keeper, W: Weigh> Station<K, W> {
 
     // The image of this node that the bytes are read as.
     fn own_image(&self, bytes: &[u8]) -> Result<Image, Refusal>
-        ensures { MatchResult result (IsOwnImage (still_of K.kept self.now).name bytes.now) (IsNoOwnImage (still_of K.kept self.now).name bytes.now) }
+        ensures { MatchResult result (IsOwnImage (kept_station_of K.kept self.now).name bytes.now) (IsNoOwnImage (kept_station_of K.kept self.now).name bytes.now) }
     {
         match decode_image(self.alloc, bytes) {
             Ok(image) => {
@@ -120,9 +120,9 @@ impl<K: Keeper, W: Weigh> Station<K, W> {
 
     // Makes a restart from an image ready.
     fn restart_by(&self, image: Image, now: u64, weigher: &W) -> Result<Prepared, Refusal>
-        requires stopped { (still_of K.kept self.now).node ≡ None }
-        requires own { IsOwnImage (still_of K.kept self.now).name (still_of K.kept self.now).kept image }
-        ensures { Prepares W.weight_of (still_of K.kept self.now) Restart now result }
+        requires stopped { (kept_station_of K.kept self.now).node ≡ None }
+        requires own { IsOwnImage (kept_station_of K.kept self.now).name (kept_station_of K.kept self.now).kept image }
+        ensures { PreparesAct W.weight_of (kept_station_of K.kept self.now) Restart now result }
     {
         let boot = image.boot + 1;
         let (image, text) = with_next_boot(self.alloc, image)?;

@@ -1,8 +1,8 @@
 //! Saves of an image.
 ghost use Rattle.std.specs.Prelude.{◌≡◌, IfErr, IfOk, OnOk, OnErr};
 ghost use Rattle.sup_station.specs.Counts.{CountsSave};
-ghost use Rattle.sup_station.specs.Opening.{IsKeepRefusal, refusal_of};
-ghost use Rattle.sup_station.specs.Plans.{IsKept};
+ghost use Rattle.sup_station.specs.OpenedStations.{IsKeepRefusal, refusal_of};
+ghost use Rattle.sup_station.specs.PreparedActs.{IsKept};
 
 use std::alloc::{AllocError, Global};
 use sup_array_text::ArrayText;

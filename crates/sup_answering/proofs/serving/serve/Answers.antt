@@ -1,13 +1,13 @@
 use Rattle.std.proofs.Common.{inl}
-use Rattle.sup_station.specs.Stills.{keeper_of, still_of}
-use Rattle.sup_answering.specs.Answering.{known, AnswersLine}
-use Rattle.sup_answering.proofs.Knowing.{talks-as}
+use Rattle.sup_station.specs.KeptStations.{keeper_of, kept_station_of}
+use Rattle.sup_answering.specs.AnsweringNodes.{known, AnswersLine}
+use Rattle.sup_answering.proofs.TalkStateLaws.{talks-as}
 use Rattle.sup_answering.proofs.serving.serve.Goals as goal
 
 pub returns-in-Ok : goal.returns-in-Ok
 returns-in-Ok g c = inl (
   g.H.Host.seen c.tell.new.self,
   c.in-Ok.ensures,
-  talks-as c.args.filter.now c.talk.new.answerer (λ f. known f.name (still_of g.K.Keeper.kept f.station) f.peers.items (g.K.ImageKeeper.lost (keeper_of f.station)))
+  talks-as c.args.filter.now c.talk.new.answerer (λ f. known f.name (kept_station_of g.K.Keeper.kept f.station) f.peers.items (g.K.ImageKeeper.lost (keeper_of f.station)))
       (λ a heard text b. AnswersLine g.W.Weigh.weight_of a heard text b) (λ k. k.lost) 67108864 _ _ _ c.talk.ensures,
 )

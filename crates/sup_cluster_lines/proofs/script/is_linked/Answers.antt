@@ -2,7 +2,7 @@ use Rattle.std.proofs.Common.{rules, tests, ◌∙◌}
 use Rattle.std.proofs.lemmas.Iterator.{YieldsList-from_slice}
 use Rattle.std.proofs.lemmas.Iterator.Search.{any_from_yields_List}
 use Rattle.sup_plan.specs.Plans.{is_same_link}
-use Rattle.sup_cluster_lines.proofs.Linked.{any_link}
+use Rattle.sup_cluster_lines.proofs.LinkSearchLaws.{any_link}
 use Rattle.sup_cluster_lines.proofs.script.is_linked.Goals as goal
 
 pub returns : goal.returns

@@ -1,5 +1,5 @@
 use Rattle.sup_cluster_lines.specs.Scripts.{asked_in}
-use Rattle.sup_cluster_texts.proofs.ReadPlans.{read_plans_run}
+use Rattle.sup_cluster_texts.proofs.ReadPlanLaws.{read_plans_run}
 use Rattle.sup_cluster_texts.proofs.plan.read_plan.Goals as goal
 
 pub returns-in-Ok-clause-runs : goal.returns-in-Ok-clause-runs

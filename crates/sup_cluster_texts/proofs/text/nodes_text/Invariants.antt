@@ -1,6 +1,6 @@
 use Rattle.std.proofs.Common.{◌≡◌, take, string_bytes}
 use Rattle.std.specs.List.{flat_map}
-use Rattle.sup_world.specs.Seen.{sites_of}
+use Rattle.sup_world.specs.SeenNodes.{sites_of}
 use Rattle.sup_cluster_texts.specs.Texts.{named_text}
 use Rattle.sup_cluster_texts.proofs.text.nodes_text.Given as goal
 

@@ -1,5 +1,5 @@
 use Rattle.std.proofs.Common.{string_bytes, inr}
-use Rattle.sup_clustering.proofs.Ended.{cut, no_device, printed, unprinted}
+use Rattle.sup_clustering.proofs.EndedClusterLaws.{cut, no_device, printed, unprinted}
 use Rattle.sup_clustering.proofs.cluster.run_bytes.Goals as goal
 
 pub returns-in-Err-plan_text-clause-ends : goal.returns-in-Err-plan_text-clause-ends

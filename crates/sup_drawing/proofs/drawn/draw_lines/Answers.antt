@@ -1,6 +1,6 @@
 use Rattle.std.proofs.Common.{◌∙◌}
 use Rattle.sup_noting.specs.Noted.{noted_of}
-use Rattle.sup_world.specs.Seen.{sites_of}
+use Rattle.sup_world.specs.SeenNodes.{sites_of}
 use Rattle.sup_drawing.proofs.drawn.draw_lines.Goals as goal
 
 pub returns : goal.returns

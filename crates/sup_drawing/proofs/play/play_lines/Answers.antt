@@ -1,8 +1,8 @@
 use Rattle.std.proofs.Common.{arith}
 use Rattle.sup_noting.specs.Noted.{noted_of}
-use Rattle.sup_world.specs.Seen.{sites_of}
+use Rattle.sup_world.specs.SeenNodes.{sites_of}
 use Rattle.sup_drawing.specs.Lines.{captions_of}
-use Rattle.sup_drawing.proofs.Noting.{goes_on, goes_to_its_end}
+use Rattle.sup_drawing.proofs.NotedLineLaws.{goes_on, goes_to_its_end}
 use Rattle.sup_drawing.proofs.play.play_lines.Goals as goal
 
 pub loop-line-init : goal.loop-line-init

@@ -1,7 +1,7 @@
 use Rattle.std.specs.Prelude.{Ok, Err}
 use Rattle.sup_noting.specs.Noted.{noted_of}
-use Rattle.sup_world.specs.Seen.{sites_of}
-use Rattle.sup_drawing.proofs.Noting.{step_noted}
+use Rattle.sup_world.specs.SeenNodes.{sites_of}
+use Rattle.sup_drawing.proofs.NotedLineLaws.{step_noted}
 use Rattle.sup_drawing.proofs.play.play_step.Goals as goal
 
 pub returns-in-Ok : goal.returns-in-Ok

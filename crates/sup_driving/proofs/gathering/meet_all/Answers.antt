@@ -2,9 +2,9 @@ use Rattle.std.proofs.Common.{rules, ◌≡◌, ◌++◌, [], ◌∷◌, length,
 use Rattle.std.specs.Prelude.{IsOk}
 use Rattle.std.specs.List.{AllZip}
 use Rattle.std.proofs.lemmas.List.Elements.{All-rest}
-use Rattle.sup_driving.specs.Gathering.{CanMeet, Met, AllMet}
-use Rattle.sup_posts.proofs.Items.{none_left}
-use Rattle.sup_driving.proofs.Gathers.{met_more, none_paired}
+use Rattle.sup_driving.specs.GatheredResults.{CanMeet, MetEnds, AllMet}
+use Rattle.sup_posts.proofs.ItemLaws.{none_left}
+use Rattle.sup_driving.proofs.LinkEndLaws.{met_more, none_paired}
 use Rattle.sup_driving.proofs.gathering.meet_all.Goals as goal
 
 pub meet-pass-requires : goal.meet-pass-requires
@@ -28,7 +28,7 @@ loop-end-preserved g c =
             ∙ (ap (λ l. c.loop-end.invariant.3.0 ++ l) (sym c.in-Some-next.ensures.items) ∙ c.loop-end.invariant.3.1),
         subst (AllMet (c.loop-end.invariant.3.0 ++ c.in-Some-next.sent ∷ []) (c.loop-end.yielded ++ c.in-Some.end ∷ [])) (sym c.in_ok-push.ensures.items)
             (met_more c.loop-end.invariant.3.0 c.loop-end.yielded c.loop-end.arrived.items c.in-Some-next.sent c.in-Some.end c.meet-pass.result c.loop-end.invariant.3.2
-            (subst (λ r. Met c.in-Some-next.sent r c.meet-pass.result) (sym is) c.meet-pass.ensures)),
+            (subst (λ r. MetEnds c.in-Some-next.sent r c.meet-pass.result) (sym is) c.meet-pass.ensures)),
       ),
     )
 

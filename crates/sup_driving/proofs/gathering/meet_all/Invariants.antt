@@ -2,7 +2,7 @@ use Rattle.std.proofs.Common.{◌≡◌, ◌++◌, List, All}
 use Rattle.std.specs.Prelude.{IsOk}
 use Rattle.std.specs.List.{AllZip}
 use Rattle.sup_links.specs.declared.link_in.Sent.{Sent}
-use Rattle.sup_driving.specs.Gathering.{CanMeet, AllMet}
+use Rattle.sup_driving.specs.GatheredResults.{CanMeet, AllMet}
 use Rattle.sup_driving.proofs.gathering.meet_all.Given as goal
 
 abbrev pub invariant-loop-end : goal.invariant-loop-end

@@ -1,5 +1,5 @@
 use Rattle.std.proofs.lemmas.Result.{IfOk-weaker}
-use Rattle.sup_driving.proofs.Launches.{can_all, gives_all}
+use Rattle.sup_driving.proofs.LaunchLaws.{can_all, gives_all}
 use Rattle.sup_driving.proofs.launching.launch.Goals as goal
 
 pub gather_all-requires : goal.gather_all-requires

@@ -1,5 +1,5 @@
 use Rattle.std.proofs.Common.{Some}
-use Rattle.sup_driving.proofs.Puts.{all_same, all_later, put_later}
+use Rattle.sup_driving.proofs.WirePutLaws.{all_same, all_later, put_later}
 use Rattle.sup_driving.proofs.outbox.empty.Goals as goal
 
 pub loop-letter-init : goal.loop-letter-init

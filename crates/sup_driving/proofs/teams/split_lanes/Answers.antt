@@ -4,8 +4,8 @@ use Rattle.std.proofs.lemmas.List.Elements.{All-rest}
 use Rattle.std.proofs.lemmas.Slice.Zip.{all_zipped_more}
 use Rattle.sup_posts.specs.Jobs.{IsLane}
 use Rattle.sup_driving.specs.Teams.{IsWireOf, IsReceiveOf, IsReadyToReceive}
-use Rattle.sup_posts.proofs.Items.{all_none, all_snoc}
-use Rattle.sup_driving.proofs.Places.{first_of}
+use Rattle.sup_posts.proofs.ItemLaws.{all_none, all_snoc}
+use Rattle.sup_driving.proofs.ItemPlaceLaws.{first_of}
 use Rattle.sup_driving.proofs.teams.split_lanes.Goals as goal
 
 pub loop-lane-init : goal.loop-lane-init

@@ -2,7 +2,7 @@ use Rattle.std.proofs.Common.{◌≡◌, ◌∙◌, ap, sym, rules, string_bytes
 use Rattle.std.specs.Prelude.{IfOk}
 use Rattle.sup_node_text.specs.Shown.{tables_text}
 use Rattle.sup_node_text.specs.Inspected.{stored_text}
-use Rattle.sup_node_text.proofs.Inspections.{still_told}
+use Rattle.sup_node_text.proofs.InspectionLaws.{still_told}
 use Rattle.sup_node_text.proofs.inspect.still_text.Goals as goal
 
 pub returns : goal.returns

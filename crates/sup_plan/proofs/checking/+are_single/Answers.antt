@@ -5,7 +5,7 @@ use Rattle.std.proofs.lemmas.Iterator.{YieldsList-from_slice}
 use Rattle.std.proofs.lemmas.Iterator.Search.{any_from_yields_List}
 use Rattle.sup_plan.specs.Plans.{is_same_link}
 use Rattle.sup_plan.specs.declared.plan.Route.{Route}
-use Rattle.sup_plan.proofs.Apart.{apart_more, found_again, none_apart}
+use Rattle.sup_plan.proofs.ApartItemLaws.{apart_more, found_again, none_apart}
 use Rattle.sup_plan.proofs.checking.+are_single.Goals as goal
 
 pub returns-in_default : goal.returns-in_default

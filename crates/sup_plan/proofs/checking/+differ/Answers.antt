@@ -4,7 +4,7 @@ use Rattle.std.specs.Str.{bytes_eq}
 use Rattle.std.specs.Cmp.Lexicographic.{nat_list_eq_equiv}
 use Rattle.std.specs.Prelude.{not}
 use Rattle.sup_specs.specs.Values.{Bytes}
-use Rattle.sup_plan.proofs.Apart.{apart_more, found_again, none_apart}
+use Rattle.sup_plan.proofs.ApartItemLaws.{apart_more, found_again, none_apart}
 use Rattle.sup_plan.proofs.checking.+differ.Goals as goal
 
 pub returns-in_default : goal.returns-in_default

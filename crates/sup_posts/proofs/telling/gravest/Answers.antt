@@ -1,8 +1,8 @@
 use Rattle.std.proofs.Common.{◌≡◌, ◌+◌, ◌++◌, [], ◌∷◌, ap, sym, ◌∙◌, subst, rules, take, Err}
 use Rattle.std.specs.Prelude.{IsOk}
 use Rattle.std.proofs.lemmas.List.{take_more, take_all}
-use Rattle.sup_posts.proofs.Items.{all_none}
-use Rattle.sup_posts.proofs.ToldFaults.{Told, told_item, told_fault, told_some, told_none}
+use Rattle.sup_posts.proofs.ItemLaws.{all_none}
+use Rattle.sup_posts.proofs.GravestFaultLaws.{Told, told_item, told_fault, told_some, told_none}
 use Rattle.sup_posts.proofs.telling.gravest.Goals.{in-Ok, in-Err}
 use Rattle.sup_posts.proofs.telling.gravest.Goals as goal
 

@@ -1,5 +1,5 @@
 use Rattle.std.proofs.Common.{take}
-use Rattle.sup_posts.proofs.ToldFaults.{Told}
+use Rattle.sup_posts.proofs.GravestFaultLaws.{Told}
 use Rattle.sup_posts.proofs.telling.gravest.Given as goal
 
 abbrev pub invariant-loop-result : goal.invariant-loop-result

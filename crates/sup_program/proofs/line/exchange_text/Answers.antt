@@ -1,8 +1,8 @@
 use Rattle.std.specs.Prelude.{vec_items}
 use Rattle.std.proofs.Common.{◌∙◌, ap}
-use Rattle.sup_world.proofs.Counts.{failed_no_more}
+use Rattle.sup_world.proofs.FailureCountLaws.{failed_no_more}
 use Rattle.sup_program.specs.Prints.{said_settled}
-use Rattle.sup_program.proofs.Lines.{settle_speaks, spoken}
+use Rattle.sup_program.proofs.PrintedLineLaws.{settle_speaks, spoken}
 use Rattle.sup_program.proofs.line.exchange_text.Goals as goal
 
 pub returns-in-Ok-clause-speaks : goal.returns-in-Ok-clause-speaks

@@ -1,6 +1,6 @@
 use Rattle.std.proofs.Common.{◌∙◌, ◌++◌, ap, sym, codes, vec_items}
-use Rattle.sup_station.specs.Opening.{kept_by}
-use Rattle.sup_program.proofs.Lines.{image_there, said_as}
+use Rattle.sup_station.specs.OpenedStations.{kept_by}
+use Rattle.sup_program.proofs.PrintedLineLaws.{image_there, said_as}
 use Rattle.sup_program.proofs.line.image_text.Goals as goal
 
 pub returns-in-Some : goal.returns-in-Some

@@ -1,10 +1,10 @@
 use Rattle.std.specs.Prelude.{◌≡◌, vec_items, refl}
 use Rattle.sup_lines.specs.declared.line.Line.TheVariants as line
-use Rattle.sup_world.specs.Carrying.{seen_at}
-use Rattle.sup_world.specs.Seen.{sites_of}
+use Rattle.sup_world.specs.CarriedSteps.{seen_at}
+use Rattle.sup_world.specs.SeenNodes.{sites_of}
 use Rattle.sup_program.specs.Prints.{TellsNode, image_text, lead_text, message_text, node_text}
-use Rattle.sup_world.proofs.Counts.{failed_same}
-use Rattle.sup_program.proofs.Lines.{looks}
+use Rattle.sup_world.proofs.FailureCountLaws.{failed_same}
+use Rattle.sup_program.proofs.PrintedLineLaws.{looks}
 use Rattle.sup_program.proofs.line.line_text.Goals as goal
 
 pub returns-in-Step-clause-speaks : goal.returns-in-Step-clause-speaks

@@ -1,7 +1,7 @@
 use Rattle.std.proofs.Common.{sym, vec_items}
-use Rattle.sup_world.specs.Carrying.{seen_at}
-use Rattle.sup_world.specs.Seen.{sites_of}
-use Rattle.sup_program.proofs.Lines.{message_none, message_there, message_unsent, said_as}
+use Rattle.sup_world.specs.CarriedSteps.{seen_at}
+use Rattle.sup_world.specs.SeenNodes.{sites_of}
+use Rattle.sup_program.proofs.PrintedLineLaws.{message_none, message_there, message_unsent, said_as}
 use Rattle.sup_program.proofs.line.message_text.Goals as goal
 
 pub returns-in-Some-message : goal.returns-in-Some-message

@@ -1,7 +1,7 @@
 use Rattle.std.specs.Prelude.{vec_items}
 use Rattle.std.proofs.Common.{◌∙◌, ap}
 use Rattle.sup_program.specs.Prints.{said_of}
-use Rattle.sup_program.proofs.Lines.{knows, spoken, step_speaks}
+use Rattle.sup_program.proofs.PrintedLineLaws.{knows, spoken, step_speaks}
 use Rattle.sup_program.proofs.line.step_text.Goals as goal
 
 pub returns-in-Ok-clause-speaks : goal.returns-in-Ok-clause-speaks

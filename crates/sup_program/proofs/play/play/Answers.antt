@@ -1,7 +1,7 @@
 use Rattle.std.proofs.Common.{arith}
-use Rattle.sup_world.specs.Seen.{sites_of}
-use Rattle.sup_world.proofs.Counts.{failed_once_more, unfailed}
-use Rattle.sup_program.proofs.Playing.{begins, goes_on, whole, ended, of_fault}
+use Rattle.sup_world.specs.SeenNodes.{sites_of}
+use Rattle.sup_world.proofs.FailureCountLaws.{failed_once_more, unfailed}
+use Rattle.sup_program.proofs.PlayedLineLaws.{begins, goes_on, whole, ended, of_fault}
 use Rattle.sup_program.proofs.play.play.Goals as goal
 
 pub returns-in_err-play_line-clause-until : goal.returns-in_err-play_line-clause-until

@@ -1,10 +1,10 @@
 use Rattle.std.proofs.Common.{take}
 use Rattle.sup_model.specs.Worlds.{World}
-use Rattle.sup_world.specs.Following.{StandsFor}
-use Rattle.sup_world.specs.Seen.{sites_of}
+use Rattle.sup_world.specs.FollowedSteps.{StandsFor}
+use Rattle.sup_world.specs.SeenNodes.{sites_of}
 use Rattle.sup_program.specs.Prints.{TellsMessages}
-use Rattle.sup_world.proofs.Counts.{FailedAtMost}
-use Rattle.sup_program.proofs.Playing.{PlaysTo}
+use Rattle.sup_world.proofs.FailureCountLaws.{FailedAtMost}
+use Rattle.sup_program.proofs.PlayedLineLaws.{PlaysTo}
 use Rattle.sup_program.proofs.play.play.Given as goal
 
 abbrev pub invariant-loop-line : goal.invariant-loop-line

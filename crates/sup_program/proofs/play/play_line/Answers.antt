@@ -1,5 +1,5 @@
 use Rattle.std.proofs.KnownBytes.{Keeps-refl}
-use Rattle.sup_program.proofs.Playing.{said_short, said_all}
+use Rattle.sup_program.proofs.PlayedLineLaws.{said_short, said_all}
 use Rattle.sup_program.proofs.play.play_line.Goals as goal
 
 pub returns-in-Err-clause-plays : goal.returns-in-Err-clause-plays

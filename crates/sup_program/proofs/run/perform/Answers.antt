@@ -1,4 +1,4 @@
-use Rattle.sup_program.proofs.Endings.{ended_so}
+use Rattle.sup_program.proofs.EndingLaws.{ended_so}
 use Rattle.sup_program.proofs.run.perform.Goals as goal
 
 pub returns-in-Simulate-clause-status : goal.returns-in-Simulate-clause-status

@@ -1,7 +1,7 @@
 use Rattle.std.proofs.Common.{◌∙◌, sym, true≢false}
 use Rattle.std.specs.Prelude.{map}
 use Rattle.sup_command_line.specs.Requests.{request_of}
-use Rattle.sup_program.proofs.Endings.{ran_so, refused, unperformed, unstarted_run}
+use Rattle.sup_program.proofs.EndingLaws.{ran_so, refused, unperformed, unstarted_run}
 use Rattle.sup_program.proofs.run.run_plain.Goals as goal
 
 pub returns-in-Ok-clause-status : goal.returns-in-Ok-clause-status

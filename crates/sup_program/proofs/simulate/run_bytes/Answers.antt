@@ -4,12 +4,12 @@ use Rattle.sup_jobs.proofs.Endings.{stopped}
 use Rattle.sup_jobs.specs.declared.fault.Fault.TheVariants.{Device}
 use Rattle.sup_model.specs.Worlds.{new}
 use Rattle.sup_world.specs.Newness.{setting_in}
-use Rattle.sup_world.specs.Seen.{sites_of}
+use Rattle.sup_world.specs.SeenNodes.{sites_of}
 use Rattle.sup_program.specs.Plays.{AreInOrder, PrintsPart}
 use Rattle.sup_program.specs.Prints.{TellsMessages}
-use Rattle.sup_program.specs.Simulating.{simulation}
-use Rattle.sup_program.proofs.DryLines.{script_dry}
-use Rattle.sup_program.proofs.Scripts.{prints_all, prints_part, stops_part}
+use Rattle.sup_program.specs.SimulatedScripts.{simulation}
+use Rattle.sup_program.proofs.DryLineLaws.{script_dry}
+use Rattle.sup_program.proofs.WholeScriptLaws.{prints_all, prints_part, stops_part}
 use Rattle.sup_program.proofs.simulate.run_bytes.Goals as goal
 
 pub play-requires-clause-bytes : goal.play-requires-clause-bytes

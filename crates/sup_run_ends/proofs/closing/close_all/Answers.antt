@@ -4,11 +4,11 @@ use Rattle.std.specs.List.{AllZip}
 use Rattle.std.proofs.lemmas.Slice.Zip.{all_zipped_more}
 use Rattle.sup_posts.specs.Jobs.{Seat}
 use Rattle.sup_posts.specs.declared.jobs.Arrived.{Arrived}
-use Rattle.sup_run_ends.specs.Steps.{IsSeatOf, IsArrived, IsHistoryOf, Begins, Ends}
-use Rattle.sup_run_ends.proofs.Zips.{zip_same_length}
-use Rattle.sup_posts.proofs.Items.{none_left}
-use Rattle.sup_posts.proofs.Items.{all_weaken}
-use Rattle.sup_run_ends.proofs.Closes.{of_next, others_are, others_later, ends_more, ends_all, own_more, each_left, longer}
+use Rattle.sup_run_ends.specs.Steps.{IsSeatOf, IsArrived, IsHistoryOf, BeginsWithSeen, EndsHistory}
+use Rattle.sup_run_ends.proofs.ZipLaws.{zip_same_length}
+use Rattle.sup_posts.proofs.ItemLaws.{none_left}
+use Rattle.sup_posts.proofs.ItemLaws.{all_weaken}
+use Rattle.sup_run_ends.proofs.CloseLaws.{of_next, others_are, others_later, ends_more, ends_all, own_more, each_left, longer}
 use Rattle.sup_run_ends.proofs.closing.close_all.Goals as goal
 
 pub loop-post-init : goal.loop-post-init
@@ -18,7 +18,7 @@ loop-post-init g c =
       refl,
       subst (λ l. AllZip IsSeatOf l c.into_iter-seats.result.rest.items) gives (subst (AllZip IsSeatOf c.args.posts.items) (sym c.into_iter-seats.ensures.rest) c.requires.seats),
       subst (AllZip (IsHistoryOf {W = g.row.W.Denot} {h = g.W.Weigh} g.W.Weigh.weight_of) []) none tt,
-      ([], refl, subst (AllZip (Begins {W = g.row.W.Denot} {h = g.W.Weigh}) []) none tt),
+      ([], refl, subst (AllZip (BeginsWithSeen {W = g.row.W.Denot} {h = g.W.Weigh}) []) none tt),
       subst (λ l. All (IsArrived l) c.args.arrived.items) gives c.requires.arrived,
       subst (λ l. All (λ (a : Arrived g.row.W.Denot g.W.Weigh). length l ≤ a.to) c.args.arrived.items) none (λ k d lt. omega arith),
       each_left c.new-histories.result.items c.args.arrived.items,
@@ -48,7 +48,7 @@ loop-post-preserved g c =
       z.1,
       subst (AllZip (IsHistoryOf g.W.Weigh.weight_of) (c.loop-post.yielded ++ c.in-Some.post ∷ [])) put
           (all_zipped_more (IsHistoryOf g.W.Weigh.weight_of) c.loop-post.yielded c.loop-post.histories.items c.in-Some.post c.in_ok-history.history c.loop-post.invariant.2 c.in_ok-history.ensures.history),
-      subst (λ l. (x : List (Seat g.row.W.Denot g.W.Weigh)) × (x ++ c.next-in-loop-post.new.self.rest.items ≡ c.into_iter-seats.result.rest.items) × AllZip Begins x l) put
+      subst (λ l. (x : List (Seat g.row.W.Denot g.W.Weigh)) × (x ++ c.next-in-loop-post.new.self.rest.items ≡ c.into_iter-seats.result.rest.items) × AllZip BeginsWithSeen x l) put
           (own_more c.loop-post.invariant.3.0 c.in-Some-next.seat c.loop-post.seats.rest.items c.next-in-loop-post.new.self.rest.items c.into_iter-seats.result.rest.items c.loop-post.histories.items c.in_ok-history.history
           c.in-Some-next.ensures.items c.loop-post.invariant.3.1 c.loop-post.invariant.3.2 c.in_ok-history.ensures.own),
       others_are (IsArrived c.into_iter-post-iterator.result.rest.items) c.len.result c.loop-post.arrived.items c.in_ok-history.others.items c.in_ok-history.ensures.others c.loop-post.invariant.4,
@@ -57,7 +57,7 @@ loop-post-preserved g c =
           (λ a le. longer c.loop-post.histories.items c.in_ok-history.history c.len.result a.to at le) c.in_ok-history.others.items
           (others_later c.len.result c.loop-post.arrived.items c.in_ok-history.others.items c.in_ok-history.ensures.others
           (subst (λ n. All (λ (a : Arrived g.row.W.Denot g.W.Weigh). n ≤ a.to) c.loop-post.arrived.items) (sym at) c.loop-post.invariant.5))),
-      subst (λ l. All (λ (a : Arrived g.row.W.Denot g.W.Weigh). Ends l a ⊎ Contains c.in_ok-history.others.items a) c.args.arrived.items) put
+      subst (λ l. All (λ (a : Arrived g.row.W.Denot g.W.Weigh). EndsHistory l a ⊎ Contains c.in_ok-history.others.items a) c.args.arrived.items) put
           (ends_more c.loop-post.histories.items c.in_ok-history.history c.len.result c.loop-post.arrived.items c.in_ok-history.others.items c.args.arrived.items at c.in_ok-history.ensures.others c.in_ok-history.ensures.here c.loop-post.invariant.6),
     )
 
@@ -70,7 +70,7 @@ pub returns-clause-own : goal.returns-clause-own
 returns-clause-own g c =
     let none : length c.loop-post.post-iterator.rest.items ≡ 0 = sym c.loop-post.post-iterator.rest.ok.0 ∙ c.in-None.ensures.steps.0 in
     let long = zip_same_length IsSeatOf c.loop-post.post-iterator.rest.items c.loop-post.seats.rest.items c.loop-post.invariant.1 in
-    subst (λ l. AllZip Begins l c.loop-post.histories.items)
+    subst (λ l. AllZip BeginsWithSeen l c.loop-post.histories.items)
     (none_left c.loop-post.invariant.3.0 c.loop-post.seats.rest.items c.args.seats.items (sym long ∙ none) (c.loop-post.invariant.3.1 ∙ c.into_iter-seats.ensures.rest))
     c.loop-post.invariant.3.2
 

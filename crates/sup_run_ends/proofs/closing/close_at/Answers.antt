@@ -1,8 +1,8 @@
 use Rattle.sup_node_gate.specs.Gates.{view_of}
-use Rattle.sup_node_gate.proofs.Lists.{prefix_trans}
+use Rattle.sup_node_gate.proofs.HistoryListLaws.{prefix_trans}
 use Rattle.sup_posts.specs.declared.jobs.Arrived.{Arrived}
-use Rattle.sup_run_ends.specs.Steps.{IsSeatOf, Begins}
-use Rattle.sup_run_ends.proofs.Passes.{here_all, here_back, begins_all}
+use Rattle.sup_run_ends.specs.Steps.{IsSeatOf, BeginsWithSeen}
+use Rattle.sup_run_ends.proofs.ReturnedPassLaws.{here_all, here_back, begins_all}
 use Rattle.sup_run_ends.proofs.closing.close_at.Goals as goal
 
 pub join_all-seat-requires-clause-others : goal.join_all-seat-requires-clause-others
@@ -13,5 +13,5 @@ returns-clause-own g c = prefix_trans (view_of c.args.seat).seen (view_of c.join
 
 pub returns-clause-here : goal.returns-clause-here
 returns-clause-here g c =
-    here_back (λ (a : Arrived g.row.W.Denot g.W.Weigh). Begins a.seat c.in_ok-history.history) c.args.at c.args.arrived.items c.in_ok-here.here.items c.in_ok-here.ensures.here
+    here_back (λ (a : Arrived g.row.W.Denot g.W.Weigh). BeginsWithSeen a.seat c.in_ok-history.history) c.args.at c.args.arrived.items c.in_ok-here.here.items c.in_ok-here.ensures.here
     (begins_all c.join_all-seat.result c.in_ok-history.history c.in_ok-here.here.items c.in_ok-history.ensures.begins c.join_all-seat.ensures.others)

@@ -1,10 +1,10 @@
 use Rattle.std.proofs.Common.{subst, All, ◌∙◌}
 use Rattle.std.specs.List.{AllZip}
 use Rattle.sup_posts.specs.declared.jobs.Driven.{Driven}
-use Rattle.sup_run_ends.specs.Steps.{Begins, Ends}
-use Rattle.sup_run_ends.proofs.Passes.{seats_taken, arrived_taken}
-use Rattle.sup_run_ends.proofs.Zips.{zip_map_left}
-use Rattle.sup_run_ends.proofs.Faults.{want_of_none}
+use Rattle.sup_run_ends.specs.Steps.{BeginsWithSeen, EndsHistory}
+use Rattle.sup_run_ends.proofs.ReturnedPassLaws.{seats_taken, arrived_taken}
+use Rattle.sup_run_ends.proofs.ZipLaws.{zip_map_left}
+use Rattle.sup_run_ends.proofs.FaultlessLaws.{want_of_none}
 use Rattle.sup_run_ends.proofs.closing.finish.Goals as goal
 
 pub close_all-requires-clause-seats : goal.close_all-requires-clause-seats
@@ -20,8 +20,8 @@ returns-clause-histories g c =
       driven = t.driven;
       given = t.all;
       histories = c.in_ok-histories.ensures.histories;
-      own = zip_map_left Begins (λ (d : Driven g.row.W.Denot g.W.Weigh). d.seat) t.driven c.in_ok-histories.histories.items (subst (λ l. AllZip Begins l c.in_ok-histories.histories.items) t.own c.in_ok-histories.ensures.own);
-      others = subst (All (Ends c.in_ok-histories.histories.items)) t.others c.in_ok-histories.ensures.others;
+      own = zip_map_left BeginsWithSeen (λ (d : Driven g.row.W.Denot g.W.Weigh). d.seat) t.driven c.in_ok-histories.histories.items (subst (λ l. AllZip BeginsWithSeen l c.in_ok-histories.histories.items) t.own c.in_ok-histories.ensures.own);
+      others = subst (All (EndsHistory c.in_ok-histories.histories.items)) t.others c.in_ok-histories.ensures.others;
     }
 
 pub returns-in_err-histories-clause-fault : goal.returns-in_err-histories-clause-fault

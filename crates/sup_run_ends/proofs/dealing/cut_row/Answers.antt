@@ -1,7 +1,7 @@
 use Rattle.std.proofs.Common.{◌+◌, take, drop, sym, subst}
 use Rattle.std.specs.List.{AllZip}
 use Rattle.sup_run_ends.specs.Steps.{IsSeatOf}
-use Rattle.sup_run_ends.proofs.Zips.{zip_next, zip_taken}
+use Rattle.sup_run_ends.proofs.ZipLaws.{zip_next, zip_taken}
 use Rattle.sup_run_ends.proofs.dealing.cut_row.Goals as goal
 
 pub loop-post-preserved : goal.loop-post-preserved

@@ -1,9 +1,9 @@
 use Rattle.std.proofs.Common.{All, sym, ap, ◌∙◌, subst}
 use Rattle.std.specs.Prelude.{Contains}
 use Rattle.sup_posts.specs.Jobs.{IsLane}
-use Rattle.sup_posts.proofs.Items.{last_contained}
-use Rattle.sup_run_ends.proofs.Deals.{lane_added, itself, ends_more}
-use Rattle.sup_run_ends.proofs.Passes.{is_same, isnt_same}
+use Rattle.sup_posts.proofs.ItemLaws.{last_contained}
+use Rattle.sup_run_ends.proofs.DealtPassLaws.{lane_added, itself, ends_more}
+use Rattle.sup_run_ends.proofs.ReturnedPassLaws.{is_same, isnt_same}
 use Rattle.sup_run_ends.specs.Steps.{ends_of}
 use Rattle.sup_run_ends.proofs.drives.add_lane.Goals as goal
 

@@ -2,8 +2,8 @@ use Rattle.std.proofs.Common.{arith, ◌+◌, take, drop, sym, subst}
 use Rattle.std.specs.List.{AllZip}
 use Rattle.std.proofs.lemmas.Option.{get_or_from_slice_get}
 use Rattle.sup_run_ends.specs.Steps.{IsSeatOf, IsDriveOf}
-use Rattle.sup_run_ends.proofs.Deals.{seat_at, some_left}
-use Rattle.sup_run_ends.proofs.Zips.{zip_next, zip_taken}
+use Rattle.sup_run_ends.proofs.DealtPassLaws.{seat_at, some_left}
+use Rattle.sup_run_ends.proofs.ZipLaws.{zip_next, zip_taken}
 use Rattle.sup_run_ends.proofs.drives.make_drives.Goals as goal
 
 pub unreachable-requires : goal.unreachable-requires

@@ -2,8 +2,8 @@ use Rattle.std.proofs.Common.{◌≡◌, rules, arith, drop, subst, sym, ap, ◌
 use Rattle.std.specs.List.{AllZip}
 use Rattle.std.proofs.lemmas.Option.{slice_get_within}
 use Rattle.sup_run_ends.specs.Steps.{IsSeatOf, ends_of, others_of, places}
-use Rattle.sup_run_ends.proofs.Deals.{seat_at, some_left, reach_more, others_more}
-use Rattle.sup_run_ends.proofs.Zips.{zip_next}
+use Rattle.sup_run_ends.proofs.DealtPassLaws.{seat_at, some_left, reach_more, others_more}
+use Rattle.sup_run_ends.proofs.ZipLaws.{zip_next}
 use Rattle.sup_run_ends.proofs.drives.make_lanes.Goals as goal
 
 pub loop-to-init : goal.loop-to-init

@@ -1,11 +1,11 @@
 use Rattle.std.proofs.Common.{rules, ◌++◌, [], ◌∷◌, ap, sym, ◌∙◌, append_assoc, subst, All}
 use Rattle.std.proofs.lemmas.List.Elements.{All-rest}
 use Rattle.sup_node_gate.specs.Gates.{view_of}
-use Rattle.sup_node_gate.proofs.Lists.{prefix_trans}
+use Rattle.sup_node_gate.proofs.HistoryListLaws.{prefix_trans}
 use Rattle.sup_posts.specs.declared.jobs.Arrived.{Arrived}
 use Rattle.sup_run_ends.specs.Steps.{IsSeatOf, HasSeen}
-use Rattle.sup_posts.proofs.Items.{none_left}
-use Rattle.sup_run_ends.proofs.Passes.{seen_more}
+use Rattle.sup_posts.proofs.ItemLaws.{none_left}
+use Rattle.sup_run_ends.proofs.ReturnedPassLaws.{seen_more}
 use Rattle.sup_run_ends.proofs.joining.join_all.Goals as goal
 
 pub loop-pass-preserved : goal.loop-pass-preserved

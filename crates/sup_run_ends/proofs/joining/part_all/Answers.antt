@@ -1,7 +1,7 @@
 use Rattle.std.proofs.Common.{rules, ◌++◌, [], ◌∷◌, ap, sym, ◌∙◌, append_assoc}
 use Rattle.std.specs.Prelude.{IsOk}
 use Rattle.std.proofs.lemmas.List.Elements.{All-rest}
-use Rattle.sup_run_ends.proofs.Passes.{taken_more}
+use Rattle.sup_run_ends.proofs.ReturnedPassLaws.{taken_more}
 use Rattle.sup_run_ends.proofs.joining.part_all.Goals as goal
 
 pub loop-ended-preserved : goal.loop-ended-preserved

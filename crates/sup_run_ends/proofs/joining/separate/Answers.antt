@@ -2,8 +2,8 @@ use Rattle.std.proofs.Common.{rules, ◌==◌, ◌++◌, [], ◌∷◌, ap, sym,
 use Rattle.std.specs.Prelude.{not}
 use Rattle.std.proofs.lemmas.Bool.{not_from_false, not_from_true}
 use Rattle.sup_posts.specs.declared.jobs.Arrived.{Arrived}
-use Rattle.sup_run_ends.proofs.Items.{filter_in, filter_out}
-use Rattle.sup_run_ends.proofs.Passes.{is_same, isnt_same}
+use Rattle.sup_run_ends.proofs.RunEndItemLaws.{filter_in, filter_out}
+use Rattle.sup_run_ends.proofs.ReturnedPassLaws.{is_same, isnt_same}
 use Rattle.sup_run_ends.proofs.joining.separate.Goals as goal
 
 pub loop-pass-preserved-in-Continue-1 : goal.loop-pass-preserved-in-Continue-1

@@ -1,4 +1,4 @@
-use Rattle.sup_supctl.proofs.Commands.{all, clustered}
+use Rattle.sup_supctl.proofs.CommandRunLaws.{all, clustered}
 use Rattle.sup_supctl.proofs.run.run.Goals as goal
 
 pub returns-in-Status : goal.returns-in-Status

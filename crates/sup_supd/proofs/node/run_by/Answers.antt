@@ -1,6 +1,6 @@
 use Rattle.std.proofs.Common.{refl, inl, inr}
-use Rattle.sup_station.specs.Stills.{keeper_of, still_of}
-use Rattle.sup_answering.specs.Answering.{known}
+use Rattle.sup_station.specs.KeptStations.{keeper_of, kept_station_of}
+use Rattle.sup_answering.specs.AnsweringNodes.{known}
 use Rattle.sup_supd.proofs.node.run_by.Goals as goal
 
 pub returns-in-Ok : goal.returns-in-Ok
@@ -10,8 +10,8 @@ returns-in-Ok g c =
       c.serve-end.result,
       record {
         first = c.in-Ok.begun.first.items;
-        begun = known begun.name (still_of g.K.Keeper.kept begun.station) begun.peers.items (g.K.ImageKeeper.lost (keeper_of begun.station));
-        left = known left.name (still_of g.K.Keeper.kept left.station) left.peers.items (g.K.ImageKeeper.lost (keeper_of left.station));
+        begun = known begun.name (kept_station_of g.K.Keeper.kept begun.station) begun.peers.items (g.K.ImageKeeper.lost (keeper_of begun.station));
+        left = known left.name (kept_station_of g.K.Keeper.kept left.station) left.peers.items (g.K.ImageKeeper.lost (keeper_of left.station));
         named = c.in-Ok.ensures.name;
         alone = c.in-Ok.ensures.peers;
         begins = c.in-Ok.ensures.begins;

@@ -2,9 +2,9 @@ use Rattle.std.proofs.Common.{List, ℕ}
 use Rattle.std.proofs.lemmas.List.Elements.{All-weaker}
 use Rattle.std.specs.String.{string_bytes}
 use Rattle.sup_drawing.specs.Lines.{IsDry}
-use Rattle.sup_program.proofs.DryLines.{script_dry}
-use Rattle.sup_program.specs.Playing.{BringsNoBytes}
-use Rattle.sup_supdraw.proofs.Scripts.{asks_all, asks_short, dry, stops_short}
+use Rattle.sup_program.proofs.DryLineLaws.{script_dry}
+use Rattle.sup_program.specs.PlayedLines.{BringsNoBytes}
+use Rattle.sup_supdraw.proofs.DrawnScriptLaws.{asks_all, asks_short, dry, stops_short}
 use Rattle.sup_supdraw.proofs.script.draw_bytes.Goals as goal
 
 pub draw_lines-requires : goal.draw_lines-requires

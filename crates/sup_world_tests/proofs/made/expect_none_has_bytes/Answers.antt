@@ -3,7 +3,7 @@ use Rattle.std.proofs.Common.{subst, rules}
 use Rattle.std.proofs.lemmas.List.{take_all}
 use Rattle.std.proofs.lemmas.List.Elements.{All-more}
 use Rattle.sup_model.specs.declared.step.Step.{Step}
-use Rattle.sup_world.specs.Carrying.{has_bytes}
+use Rattle.sup_world.specs.CarriedSteps.{has_bytes}
 use Rattle.sup_world_tests.proofs.made.expect_none_has_bytes.Goals as goal
 
 pub loop-step-preserved : goal.loop-step-preserved

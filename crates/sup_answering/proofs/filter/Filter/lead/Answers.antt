@@ -1,7 +1,7 @@
 use Rattle.std.proofs.Common.{◌≡◌, ℕ, List, ◌∙◌, ap, subst, IfOk}
 use Rattle.sup_node_text.specs.Shown.{where_text}
 use Rattle.sup_told.specs.Told.{ended_text}
-use Rattle.sup_answering.proofs.Lent.{shown_lent}
+use Rattle.sup_answering.proofs.LentStationLaws.{shown_lent}
 use Rattle.sup_answering.proofs.filter.Filter.lead.Goals as goal
 
 pub returns : goal.returns

@@ -1,7 +1,7 @@
 use Rattle.std.proofs.Common.{◌≡◌, ℕ, List, ◌∙◌, ap, subst, IfOk}
 use Rattle.sup_told.specs.Told.{ended_text}
-use Rattle.sup_answering.specs.Answering.{members_of}
-use Rattle.sup_answering.proofs.Lent.{node_lent}
+use Rattle.sup_answering.specs.AnsweringNodes.{members_of}
+use Rattle.sup_answering.proofs.LentStationLaws.{node_lent}
 use Rattle.sup_answering.proofs.filter.Filter.members.Goals as goal
 
 pub returns : goal.returns

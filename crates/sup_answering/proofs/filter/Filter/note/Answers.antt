@@ -1,5 +1,5 @@
 use Rattle.std.proofs.Common.{sym, ◌∙◌}
-use Rattle.sup_answering.proofs.OnePeer.{with_peer-known, with_peer-new}
+use Rattle.sup_answering.proofs.OnePeerLaws.{with_peer-known, with_peer-new}
 use Rattle.sup_answering.proofs.filter.Filter.note.Goals as goal
 
 pub returns-then-contains-clause-peers : goal.returns-then-contains-clause-peers

@@ -1,9 +1,9 @@
 use Rattle.std.proofs.Common.{◌++◌, [], ◌∷◌, subst}
 use Rattle.std.proofs.lemmas.Result.{IfOk-weaker}
 use Rattle.sup_node_gate.specs.Gates.{view_of}
-use Rattle.sup_posts.specs.Rounds.{Makes, delivery}
-use Rattle.sup_driving.proofs.Calls.{delivered_one, more_deliveries}
-use Rattle.sup_driving.proofs.Rounds.{makes_one}
+use Rattle.sup_posts.specs.Rounds.{MakesCalls, delivery}
+use Rattle.sup_driving.proofs.PassCallLaws.{delivered_one, more_deliveries}
+use Rattle.sup_driving.proofs.RoundLaws.{makes_one}
 use Rattle.sup_driving.proofs.field.Field.deliver.Goals as goal
 
 pub returns-clause-delivered : goal.returns-clause-delivered
@@ -14,6 +14,6 @@ returns-clause-delivered g c = λ texts h. IfOk-weaker c.act_all.result _ _
 
 pub returns-clause-made : goal.returns-clause-made
 returns-clause-made g c = IfOk-weaker c.act_all.result _ _
-    (λ u told. subst (λ l. Makes (view_of c.args.seat.now) (delivery l ∷ []) (view_of c.act_all.new.seat)) c.new.ensures
+    (λ u told. subst (λ l. MakesCalls (view_of c.args.seat.now) (delivery l ∷ []) (view_of c.act_all.new.seat)) c.new.ensures
     (makes_one (view_of c.args.seat.now) (view_of c.call.new.seat) (view_of c.act_all.new.seat) _ 0 c.in_ok-effects.field-0.effects c.in_ok-effects.field-0.letter c.in_ok-effects.ensures.called told))
     c.act_all.ensures.told

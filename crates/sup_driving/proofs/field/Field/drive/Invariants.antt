@@ -1,11 +1,11 @@
 use Rattle.std.proofs.Common.{◌≡◌, ◌++◌, map}
 use Rattle.std.specs.List.{AllZip}
-use Rattle.sup_station.specs.Opening.{kept_by}
+use Rattle.sup_station.specs.OpenedStations.{kept_by}
 use Rattle.sup_node_gate.specs.Gates.{IsOf, view_of}
 use Rattle.sup_node_gate.specs.InMemory.{failures_by, sound_by}
 use Rattle.sup_plan.specs.Calls.{asked}
-use Rattle.sup_posts.specs.Rounds.{Makes}
-use Rattle.sup_driving.specs.Wires.{Did, IsLater}
+use Rattle.sup_posts.specs.Rounds.{MakesCalls}
+use Rattle.sup_driving.specs.Wires.{PutLetters, IsLater}
 use Rattle.sup_driving.proofs.field.Field.drive.Given as goal
 
 abbrev pub invariant-loop-command : goal.invariant-loop-command
@@ -13,5 +13,5 @@ invariant-loop-command g l =
     (l.yielded ++ l.command-iterator.rest.items ≡ l.initial.command-iterator.rest.items)
     × IsOf kept_by failures_by sound_by l.post.gate l.seat
     × AllZip IsLater l.fn.wires l.wires
-    × Did (map asked l.yielded) (view_of l.seat).seen l.wires
-    × Makes (view_of l.fn.seat) (map asked l.yielded) (view_of l.seat)
+    × PutLetters (map asked l.yielded) (view_of l.seat).seen l.wires
+    × MakesCalls (view_of l.fn.seat) (map asked l.yielded) (view_of l.seat)

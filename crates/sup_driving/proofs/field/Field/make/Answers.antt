@@ -1,7 +1,7 @@
 use Rattle.std.proofs.lemmas.Result.{IfOk-weaker}
 use Rattle.sup_node_gate.specs.Gates.{view_of}
-use Rattle.sup_driving.proofs.Rounds.{makes_one}
-use Rattle.sup_driving.proofs.Puts.{all_later, put_later, did_more}
+use Rattle.sup_driving.proofs.RoundLaws.{makes_one}
+use Rattle.sup_driving.proofs.WirePutLaws.{all_later, put_later, did_more}
 use Rattle.sup_driving.proofs.field.Field.make.Goals as goal
 
 pub returns-clause-later : goal.returns-clause-later

@@ -1,7 +1,7 @@
 use Rattle.std.proofs.Common.{subst, sym}
 use Rattle.std.specs.List.{AllZip}
 use Rattle.sup_driving.specs.Wires.{HasPut}
-use Rattle.sup_driving.proofs.Puts.{none_put}
+use Rattle.sup_driving.proofs.WirePutLaws.{none_put}
 use Rattle.sup_driving.proofs.field.Field.put.Goals as goal
 
 pub returns-in-None-clause-put : goal.returns-in-None-clause-put

@@ -4,8 +4,8 @@ use Rattle.sup_node_gate.specs.Gates.{view_of}
 use Rattle.sup_links.specs.Ends.{taken_of}
 use Rattle.sup_plan.specs.Calls.{deliveries}
 use Rattle.sup_plan.specs.Sublists.{Sublist}
-use Rattle.sup_posts.specs.Rounds.{Makes, delivery}
-use Rattle.sup_driving.proofs.Rounds.{makes_then}
+use Rattle.sup_posts.specs.Rounds.{MakesCalls, delivery}
+use Rattle.sup_driving.proofs.RoundLaws.{makes_then}
 use Rattle.sup_driving.proofs.field.Field.receive.Goals as goal
 
 pub loop-preserved : goal.loop-preserved
@@ -18,6 +18,6 @@ loop-preserved g c =
       c.deliver.ensures.of,
       c.take.ensures.link ∙ c.loop.invariant.3,
       subst (λ l. Sublist l (deliveries (view_of c.deliver.new.seat).seen)) (sym more) (c.in-Ok-deliver.ensures.delivered were c.loop.invariant.4),
-      subst (λ l. Makes (view_of c.args.seat.now) l (view_of c.deliver.new.seat)) (sym (ap (map delivery) more ∙ map-append delivery were (text ∷ [])))
+      subst (λ l. MakesCalls (view_of c.args.seat.now) l (view_of c.deliver.new.seat)) (sym (ap (map delivery) more ∙ map-append delivery were (text ∷ [])))
           (makes_then (view_of c.args.seat.now) (view_of c.loop.seat) (view_of c.deliver.new.seat) (map delivery were) (delivery text ∷ []) c.loop.invariant.5 c.in-Ok-deliver.ensures.made),
     )

@@ -1,11 +1,11 @@
 use Rattle.std.proofs.Common.{map}
-use Rattle.sup_station.specs.Opening.{kept_by}
+use Rattle.sup_station.specs.OpenedStations.{kept_by}
 use Rattle.sup_node_gate.specs.Gates.{IsOf, view_of}
 use Rattle.sup_node_gate.specs.InMemory.{failures_by, sound_by}
 use Rattle.sup_links.specs.Ends.{SameOut, taken_of}
 use Rattle.sup_plan.specs.Calls.{deliveries}
 use Rattle.sup_plan.specs.Sublists.{Sublist}
-use Rattle.sup_posts.specs.Rounds.{Makes, delivery}
+use Rattle.sup_posts.specs.Rounds.{MakesCalls, delivery}
 use Rattle.sup_driving.proofs.field.Field.receive.Given as goal
 
 abbrev pub invariant-loop : goal.invariant-loop
@@ -14,4 +14,4 @@ invariant-loop g l =
     × IsOf kept_by failures_by sound_by l.post.gate l.seat
     × SameOut l.fn.exit l.exit
     × Sublist (taken_of l.exit) (deliveries (view_of l.seat).seen)
-    × Makes (view_of l.fn.seat) (map delivery (taken_of l.exit)) (view_of l.seat)
+    × MakesCalls (view_of l.fn.seat) (map delivery (taken_of l.exit)) (view_of l.seat)

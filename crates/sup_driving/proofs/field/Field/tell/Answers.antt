@@ -3,8 +3,8 @@ use Rattle.std.proofs.lemmas.List.{drop_more}
 use Rattle.sup_local_sup.specs.declared.effect.Effect.TheVariants.{Start}
 use Rattle.sup_node_gate.specs.Gates.{view_of}
 use Rattle.sup_posts.specs.Rounds.{failed}
-use Rattle.sup_driving.proofs.Calls.{more_then, called_more}
-use Rattle.sup_driving.proofs.Rounds.{tells_on, tells_exit}
+use Rattle.sup_driving.proofs.PassCallLaws.{more_then, called_more}
+use Rattle.sup_driving.proofs.RoundLaws.{tells_on, tells_exit}
 use Rattle.sup_driving.proofs.field.Field.tell.Goals as goal
 
 pub loop-effect-preserved-then-act : goal.loop-effect-preserved-then-act

@@ -1,17 +1,17 @@
 use Rattle.std.proofs.Common.{◌++◌, length, take, drop, subst, ap, ◌∙◌}
 use Rattle.std.proofs.lemmas.Option.{get_or_from_slice_get}
-use Rattle.sup_station.specs.Opening.{kept_by}
+use Rattle.sup_station.specs.OpenedStations.{kept_by}
 use Rattle.sup_node_gate.specs.Gates.{IsOf}
 use Rattle.sup_node_gate.specs.InMemory.{failures_by, sound_by}
-use Rattle.sup_posts.specs.declared.post.Post.{Post}
+use Rattle.sup_posts.specs.declared.shared_node.SharedNode.{SharedNode}
 use Rattle.std.specs.List.{AllZip}
 use Rattle.sup_driving.specs.Wires.{IsLater, IsEnded}
-use Rattle.sup_driving.proofs.Puts.{sent_all, whole}
+use Rattle.sup_driving.proofs.WirePutLaws.{sent_all, whole}
 use Rattle.sup_driving.proofs.work.FieldWorkSteerResultSteeredThreadFault.run.Goals as goal
 
 pub returns-in_ok-sent-in-Ok : goal.returns-in_ok-sent-in-Ok
 returns-in_ok-sent-in-Ok g c = let did = c.in-Ok.ensures.did in record {
-  seat = (c.requires.0, c.requires.1, subst (λ (p : Post g.row.W.Denot g.W.Weigh). IsOf kept_by failures_by sound_by p.gate c.drive.new.seat) (get_or_from_slice_get c.args.self.now.posts.now c.args.steer.at c.requires.0 c.index-self-at.result c.requires.1) c.drive.ensures.of);
+  seat = (c.requires.0, c.requires.1, subst (λ (p : SharedNode g.row.W.Denot g.W.Weigh). IsOf kept_by failures_by sound_by p.gate c.drive.new.seat) (get_or_from_slice_get c.args.self.now.posts.now c.args.steer.at c.requires.0 c.index-self-at.result c.requires.1) c.drive.ensures.of);
   entries = did.entries;
   are = did.are;
   stand = did.stand;

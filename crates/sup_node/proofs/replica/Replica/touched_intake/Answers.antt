@@ -12,7 +12,7 @@ use Rattle.sup_replica.specs.declared.refusal.Refusal.TheVariants.{CountSpent}
 use Rattle.sup_replica.specs.Nodes.{Node}
 use Rattle.sup_node.specs.declared.change.Intake.TheVariants.{Touched}
 use Rattle.sup_node.specs.Changes.{IsIntake, IsNoIntake, wanted_with}
-use Rattle.sup_node.specs.Placed.{Reaches}
+use Rattle.sup_node.specs.Placed.{ListsLeaving}
 use Rattle.sup_node.proofs.TouchLaws.{are_changes}
 use Rattle.sup_node.proofs.IntakeLaws.{replaced_seen, touched_is, touched_spent}
 use Rattle.sup_node.proofs.replica.Replica.touched_intake.Goals as goal
@@ -42,7 +42,7 @@ returns-in-Ok-clause-intake g c =
     let joined = join_states n.known delta in
     let plan = c.in_ok-plan.ensures in
     let ids = c.in_ok-touched.touched.children.items in
-    let reach : Reaches ids leaving = subst (λ (is : List Bytes). Reaches is leaving) c.deref.ensures.value (c.reaches.ensures c.if-not-reaches.false) in
+    let reach : ListsLeaving ids leaving = subst (λ (is : List Bytes). ListsLeaving is leaving) c.deref.ensures.value (c.reaches.ensures c.if-not-reaches.false) in
     let is = replaced_seen w n leaving delta ids reach (now_of c.ended.result) c.ended.ensures c.args.self.now c.self.view_is c.in_ok-plan.plan plan c.in_ok-touched.ensures.rise
     (c.in_ok-touched.ensures.children joined plan) c.in_ok-touched.touched.members (c.in_ok-touched.ensures.members joined plan) c.if-touched.false c.deref-2.result.now c.deref-3.result.now
     (c.deref-2.ensures.value ∙ c.in_ok-hosts.ensures) c.deref-3.ensures.value c.deref-4.result.now (λ new p. c.deref-4.ensures.value ∙ c.in_ok-changes.ensures.changes new p) c.requires.keeps in
@@ -59,7 +59,7 @@ returns-in-Err-CountSpent-clause-refused g c =
     let joined = join_states n.known delta in
     let plan = c.in_ok-plan.ensures in
     let ids = c.in_ok-touched.touched.children.items in
-    let reach : Reaches ids leaving = subst (λ (is : List Bytes). Reaches is leaving) c.deref.ensures.value (c.reaches.ensures c.if-not-reaches.false) in
+    let reach : ListsLeaving ids leaving = subst (λ (is : List Bytes). ListsLeaving is leaving) c.deref.ensures.value (c.reaches.ensures c.if-not-reaches.false) in
     let is = replaced_seen w n leaving delta ids reach (now_of c.ended.result) c.ended.ensures c.args.self.now c.self.view_is c.in_ok-plan.plan plan c.in_ok-touched.ensures.rise
     (c.in_ok-touched.ensures.children joined plan) c.in_ok-touched.touched.members (c.in_ok-touched.ensures.members joined plan) c.if-touched.false c.deref-2.result.now c.deref-3.result.now
     (c.deref-2.ensures.value ∙ c.in_ok-hosts.ensures) c.deref-3.ensures.value c.deref-4.result.now (λ new p. c.deref-4.ensures.value ∙ c.in_ok-changes.ensures.changes new p) c.requires.keeps in

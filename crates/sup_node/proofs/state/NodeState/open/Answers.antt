@@ -9,7 +9,7 @@ use Rattle.sup_local_sup.specs.Supervising.{Supervisor}
 use Rattle.sup_replica.specs.Nodes.{Node}
 use Rattle.sup_node.specs.declared.change.Intake.{Intake}
 use Rattle.sup_node.specs.declared.opened.OpenIntake.TheVariants.{Touched}
-use Rattle.sup_node.specs.Changes.{Makes, kept_by, newer}
+use Rattle.sup_node.specs.Changes.{ChangesTables, kept_by, newer}
 use Rattle.sup_node.specs.NodeStates.{station_in}
 use Rattle.sup_node.specs.Openings.{kept_with}
 use Rattle.sup_node.proofs.state.NodeState.open.Goals as goal
@@ -24,7 +24,7 @@ returns-in-Ok-clause-open c =
     let is = c.in-Touched.is in
     let b = buffer_of c.args.self.buffer in
     record {
-      tables = (ap (λ (m : Node State). m.known) rest, c.in-Ok.ensures.open joined (subst (λ (i : Intake). Makes i n.known joined) is c.requires.tables));
+      tables = (ap (λ (m : Node State). m.known) rest, c.in-Ok.ensures.open joined (subst (λ (i : Intake). ChangesTables i n.known joined) is c.requires.tables));
       before = ap (λ (m : Node State). record { node = record m { known = n.known }; held = b.held; room = b.room; acked = b.acked }) (sym rest);
       after =
           ap (λ (i : Intake). record s { node = record n { known = joined; count = n.count + 1; supervisor = kept_by n.supervisor i; newest = newer l.own n.newest }; held = holds_more s.room s.held l.delta }) is;

@@ -2,7 +2,7 @@ use Rattle.std.specs.Prelude.{refl}
 use Rattle.std.proofs.Common.{sym, subst}
 use Rattle.sup_replica.specs.declared.event.Event.TheVariants.{Join, Leave, Drain, Start, Delete, Replace, Register, Unregister, Exit}
 use Rattle.sup_node.specs.NodeStates.{station_in}
-use Rattle.sup_node.specs.NodeSteps.{Plans}
+use Rattle.sup_node.specs.NodeSteps.{PlansEvent}
 use Rattle.sup_node.proofs.PlanLaws.{is_own}
 use Rattle.sup_node.proofs.state.NodeState.plan.Goals as goal
 
@@ -34,10 +34,10 @@ pub returns-in-Exit : goal.returns-in-Exit
 returns-in-Exit g c = is_own g.W.Weigh.weight_of (station_in c.args.self.now) (Exit c.in-Exit.id c.in-Exit.inc c.in-Exit.reason) c.args.now c.args.self.now.runs (λ b. refl) tt (λ x. x) c.exit.result c.exit.ensures.ready c.exit.ensures.own c.args.event.now c.in-Exit.is c.planned-in-Exit.result c.planned-in-Exit.ensures
 
 pub returns-in-Ship : goal.returns-in-Ship
-returns-in-Ship g c = subst (λ e. Plans g.W.Weigh.weight_of (station_in c.args.self.now) e c.args.now c.ship.result) (sym c.in-Ship.is) (c.ship.ensures g.W.Weigh.weight_of c.args.now c.requires)
+returns-in-Ship g c = subst (λ e. PlansEvent g.W.Weigh.weight_of (station_in c.args.self.now) e c.args.now c.ship.result) (sym c.in-Ship.is) (c.ship.ensures g.W.Weigh.weight_of c.args.now c.requires)
 
 pub returns-in-Push : goal.returns-in-Push
-returns-in-Push g c = subst (λ e. Plans g.W.Weigh.weight_of (station_in c.args.self.now) e c.args.now c.push.result) (sym c.in-Push.is) (c.push.ensures g.W.Weigh.weight_of c.args.now c.requires)
+returns-in-Push g c = subst (λ e. PlansEvent g.W.Weigh.weight_of (station_in c.args.self.now) e c.args.now c.push.result) (sym c.in-Push.is) (c.push.ensures g.W.Weigh.weight_of c.args.now c.requires)
 
 pub returns-in-Deliver : goal.returns-in-Deliver
-returns-in-Deliver g c = subst (λ e. Plans g.W.Weigh.weight_of (station_in c.args.self.now) e c.args.now c.deliver.result) (sym c.in-Deliver.is) (c.deliver.ensures c.args.now)
+returns-in-Deliver g c = subst (λ e. PlansEvent g.W.Weigh.weight_of (station_in c.args.self.now) e c.args.now c.deliver.result) (sym c.in-Deliver.is) (c.deliver.ensures c.args.now)

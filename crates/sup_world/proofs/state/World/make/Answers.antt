@@ -1,8 +1,8 @@
-use Rattle.sup_world.specs.Carrying.{carried}
-use Rattle.sup_world.specs.Seen.{sites_of}
-use Rattle.sup_world.proofs.Making.{makes_err, makes_taken}
+use Rattle.sup_world.specs.CarriedSteps.{carried}
+use Rattle.sup_world.specs.SeenNodes.{sites_of}
+use Rattle.sup_world.proofs.MadeStepLaws.{makes_err, makes_taken}
 use Rattle.std.specs.Prelude.{Ok, Err}
-use Rattle.sup_world.proofs.Pairing.{refused_as, taken_as}
+use Rattle.sup_world.proofs.ExchangePairLaws.{refused_as, taken_as}
 use Rattle.sup_world.proofs.state.World.make.Goals as goal
 
 pub returns-in_err-answer-clause-makes : goal.returns-in_err-answer-clause-makes

@@ -1,0 +1,50 @@
+-- How a node begins, and why it doesn't.
+use Rattle.std.specs.Prelude.{◌≡◌, ◌≢◌, ◌⊎◌, ℕ, Bool, true, false, List, [], Some, None, Ok}
+use Rattle.sup_specs.specs.Values.{Bytes}
+use Rattle.sup_placement.specs.Place.{Weigher}
+use Rattle.sup_wire.specs.declared.image.Image.{Image}
+use Rattle.sup_wire.specs.Drafts.{SaysImage}
+use Rattle.sup_wire.specs.Faults.{IsFault}
+use Rattle.sup_inspecting.specs.Faults.{text_fault}
+use Rattle.sup_replica.specs.Configs.{Config}
+use Rattle.sup_replica.specs.declared.event.Act.TheVariants.{Restart}
+use Rattle.sup_replica.specs.declared.done.Done.{Done}
+use Rattle.sup_replica.specs.declared.done.Reply.TheVariants.{Boot}
+use Rattle.sup_replica.specs.declared.refusal.Refusal.TheVariants.{BadMessage}
+use Rattle.sup_node.specs.Texts.{IsImageReadAs}
+use Rattle.sup_station.specs.KeptStations.{KeptStation, AnswersAct, RefusesAct}
+use Rattle.sup_station.specs.OpenedStations.{OpensStation, IsKeepRefusal}
+use Rattle.sup_told.specs.Told.{told_text}
+use Rattle.sup_answering.specs.declared.begin.BeginFault.{BeginFault}
+use Rattle.sup_answering.specs.declared.begin.BeginFault.TheVariants.{BadImage, OthersImage, Refused, NoMemory}
+
+-- a node that was stopped, of which these bytes are kept
+abbrev pub stopped : Bytes → Config → Bytes → KeptStation
+stopped name config kept = record { name = name; config = config; node = None; kept = kept }
+
+-- the answer of a node that was just made
+abbrev pub first_done : Done
+first_done = record { reply = Boot 1; effects = []; out = None }
+
+-- What the node becomes, and what it tells unasked: it was just made, and its image is saved; or it begins its next boot from what is kept.
+abbrev pub BeginsNode : Weigher → Bool → Bytes → Config → Bytes → KeptStation → List ℕ → Type 0
+BeginsNode weigher true name config kept after text = OpensStation name config after × (text ≡ told_text (Ok first_done))
+BeginsNode weigher false name config kept after text = (done : Done) × AnswersAct weigher (stopped name config kept) Restart 0 (Ok done) after × (text ≡ told_text (Ok done))
+
+-- the bytes are read as an image of another node
+abbrev pub IsOthersImage : Bytes → Bytes → Type 0
+IsOthersImage name bytes = (image : Image) × IsImageReadAs bytes (Some image) × (image.node ≢ name)
+
+-- Why it doesn't begin. What is kept is the old then.
+abbrev pub IsNoBegin : Weigher → Bytes → Config → Bytes → BeginFault → Type 0
+IsNoBegin weigher name config kept (BadImage fault) = IsFault SaysImage kept (text_fault fault)
+IsNoBegin weigher name config kept OthersImage = IsOthersImage name kept
+IsNoBegin weigher name config kept (Refused refusal) = IsKeepRefusal refusal ⊎ RefusesAct weigher (stopped name config kept) None Restart 0 refusal
+IsNoBegin weigher name config kept NoMemory = Unit {0}
+
+-- why bytes are no image of the node of this name, or that they are one
+abbrev pub IsImageFault : Bytes → Bytes → BeginFault → Type 0
+IsImageFault name bytes (BadImage fault) = IsFault SaysImage bytes (text_fault fault)
+IsImageFault name bytes OthersImage = IsOthersImage name bytes
+IsImageFault name bytes (Refused refusal) = (refusal ≡ BadMessage) × ((image : Image) × IsImageReadAs bytes (Some image) × (image.node ≡ name))
+IsImageFault name bytes NoMemory = Unit {0}

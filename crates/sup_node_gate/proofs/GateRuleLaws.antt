@@ -1,0 +1,236 @@
+-- Each step of the gate keeps its rule.
+use Rattle.std.proofs.Common.{◌≡◌, ℕ, zero, suc, ◌+◌, ◌%◌, ◌^◌, ◌<◌, ◌≤◌, ◌≢◌, ◌⊎◌, eqb, List, [], ◌∷◌, ◌++◌, length, get_or, set, sym, refl, ap, ◌∙◌, subst, inl, inr, ⊎_elim, arith, length-set, length-append, get_or-set_other, get_or-set_same, zero-le, None, Some}
+use Rattle.std.specs.Prelude.{is_some, true, false}
+use Rattle.std.specs.declared.option.Option as P
+use mathlib.Core.Logic.{dite}
+use mathlib.Core.Option.{Option, none, some, some-injective, some-ne-none}
+use lib.ListN.{get_elem?}
+use lib.Seq.{set-get_or}
+use prog.Atomic.{either}
+use Rattle.atomic_table.specs.Table as T
+use Rattle.atomic_table.specs.Table.{State, Me, step, keeps, takes, gives, stepped, rest, Allows, Valid, carried_after, homes_after}
+use Rattle.atomic_table.proofs.Lists.{at_set, set_here, exchanged}
+use Rattle.sup_placement.specs.Place.{Weigher}
+use Rattle.sup_replica.specs.declared.event.Act.{Act}
+use Rattle.sup_node_gate.specs.Histories.{CountedStation, StationAnswer, RespondsToAct}
+use Rattle.sup_node_gate.specs.declared.entry.Entry.{Entry}
+use Rattle.sup_node_gate.specs.Histories.{AllSaved, ReplaysEntries, IsPrefix, entry}
+use Rattle.sup_node_gate.specs.declared.view.Holding.{Holding}
+use Rattle.sup_node_gate.specs.declared.view.Parts.{Parts}
+use Rattle.sup_node_gate.specs.declared.view.View.{View}
+use Rattle.sup_node_gate.specs.Parts.{counted_in, counted_at, IsLike}
+use Rattle.sup_node_gate.specs.Views.{IsAmongPlaces, PlacesRise, newcomer, taking, losing, raising, freeing, looking}
+use Rattle.sup_node_gate.specs.Rule.{OpensAt, SavesAll, FitsView, HasTurn, IsHome, IsHeldBy, AllApart, RuleHolds, IsSeenAt, took, raises, raised, gave_back, looked, MayGiveBack, HasUncountedEntry}
+use Rattle.sup_node_gate.proofs.HistoryListLaws.{prefix_refl, prefix_longer, replays_one, saved_one, rises_more, rises_one, stands_below, stands_append, set_at, views_stay, apart_stays, held_stays}
+
+opens_at : (o : P.Option Parts) (start x : Parts) → OpensAt o start → o ≡ Some x → x ≡ start
+opens_at (Some y) start x h e = let same : y ≡ x = cc in sym same ∙ h
+opens_at None start x h e = absurd (cc)
+
+-- what is like a holding has saved as that has
+saves_like : (opening : Parts) (h k : Holding) → IsLike h k → SavesAll opening k → SavesAll opening h
+saves_like opening h k like all = λ s. (like.2 (all s).0, subst AllSaved (sym like.0) (all s).1)
+
+turns_none : (held held' : Holding) (word word' holder holder' j : ℕ) (t : P.Option Holding) → word ≡ 0 → HasTurn held word holder j t → HasTurn held' word' holder' j t
+turns_none held held' word word' holder holder' j None z k = tt
+turns_none held held' word word' holder holder' j (Some h) z k = let one = k.0 in absurd (omega arith)
+
+turns_other : (held held' : Holding) (word word' holder holder' j : ℕ) (t : P.Option Holding) → j ≢ holder → HasTurn held word holder j t → HasTurn held' word' holder' j t
+turns_other held held' word word' holder holder' j None z k = tt
+turns_other held held' word word' holder holder' j (Some h) z k = absurd (z k.1)
+
+others_apart : (vs : List View) (id n : ℕ) (v w : View) → get_elem? vs id ≡ some v → w.own ≡ v.own ++ n ∷ [] → ((j : ℕ) (d : View) → get_elem? vs j ≡ some d → PlacesRise 0 d.own n) → AllApart vs
+    → (j p : ℕ) (u : View) → get_elem? vs j ≡ some u → IsAmongPlaces p w.own → IsAmongPlaces p u.own → id ≡ j
+others_apart vs id n v w at own rises apart j p u there in_w in_u = ⊎_elim (λ (old : IsAmongPlaces p v.own). apart id j p v u at there old in_u)
+    (λ (new : IsAmongPlaces p (n ∷ [])). ⊎_elim (λ (e : p ≡ n). let low = stands_below 0 u.own n p (rises j u there) in_u in absurd (omega arith)) (λ (no : ⊥). absurd no) new)
+    (stands_append p v.own (n ∷ []) (subst (IsAmongPlaces p) own in_w))
+
+apart_longer : (vs : List View) (id n : ℕ) (v w : View) → get_elem? vs id ≡ some v → w.own ≡ v.own ++ n ∷ [] → ((j : ℕ) (d : View) → get_elem? vs j ≡ some d → PlacesRise 0 d.own n) → AllApart vs
+    → AllApart (set vs id w)
+apart_longer vs id n v w at own rises apart i j p a b at_i at_j in_a in_b = ⊎_elim
+    (λ (x : (i ≡ id) × (w ≡ a)). ⊎_elim (λ (y : (j ≡ id) × (w ≡ b)). x.0 ∙ sym y.0)
+    (λ (y : (j ≢ id) × (get_elem? vs j ≡ some b)). x.0 ∙ others_apart vs id n v w at own rises apart j p b y.1 (subst (λ (d : View). IsAmongPlaces p d.own) (sym x.1) in_a) in_b) (at_set vs id j w b at_j))
+    (λ (x : (i ≢ id) × (get_elem? vs i ≡ some a)). ⊎_elim
+    (λ (y : (j ≡ id) × (w ≡ b)). sym (y.0 ∙ others_apart vs id n v w at own rises apart i p a x.1 (subst (λ (d : View). IsAmongPlaces p d.own) (sym y.1) in_b) in_a))
+    (λ (y : (j ≢ id) × (get_elem? vs j ≡ some b)). apart i j p a b x.1 y.1 in_a in_b) (at_set vs id j w b at_j))
+    (at_set vs id i w a at_i)
+
+module _ {H : Type 0} where
+  abbrev pub held_or : H → P.Option H → H
+  held_or d (Some h) = h
+  held_or d None = d
+
+  abbrev pub slot_or : H → List (ℕ × P.Option H) → H
+  slot_or d [] = d
+  slot_or d (x ∷ xs) = held_or d x.1
+
+  module _ (sight : H → Holding) (g : Weigher) (start : Parts) (bound : ℕ) where
+    -- a step that changes no word
+    unmoved : (s : State (P.Option H) View) (r : RuleHolds sight g start bound s) (i me : ℕ) (cs : List (ℕ × P.Option H)) (v w : View) → get_elem? s.views me ≡ some v → w.own ≡ v.own → w.turn ≡ v.turn
+        → FitsView start r.held.history w → RuleHolds sight g start bound (stepped s i (get_or s.words i 0) me cs w keeps)
+    unmoved s r i me cs v w at own turn fits = subst (λ (ws : List ℕ). RuleHolds sight g start bound record { words = ws; homes = s.homes; views = set s.views me w }) (sym (set-get_or s.words i 0)) record {
+      held = r.held;
+      holder = r.holder;
+      two = r.two;
+      replays = r.replays;
+      saves = r.saves;
+      within = r.within;
+      counted = r.counted;
+      free = r.free;
+      taken = λ n. held_stays s.views me v w r.holder at turn (r.taken n);
+      each_view = views_stay (λ _ d. FitsView start r.held.history d) s.views me w fits (λ j d _. r.each_view j d);
+      each_turn = views_stay (λ j d. HasTurn r.held (get_or s.words 1 0) r.holder j d.turn) s.views me w
+          (subst (HasTurn r.held (get_or s.words 1 0) r.holder me) (sym turn) (r.each_turn me v at)) (λ j d _. r.each_turn j d);
+      apart = apart_stays s.views me v w at own r.apart;
+    }
+
+    seen_at : (s : State (P.Option H) View) (r : RuleHolds sight g start bound s) (me : ℕ) (v : View) → get_elem? s.views me ≡ some v → IsSeenAt g v r.held
+    seen_at s r me v at = let f = r.each_view me v at in (
+      f.1,
+      f.2,
+      f.3,
+      λ o e. subst (λ (x : Parts). ReplaysEntries g (counted_in x) r.held.history (counted_at r.held)) (sym (opens_at v.opening start o f.0 e)) r.replays,
+      λ o e. subst (λ (x : Parts). SavesAll x r.held) (sym (opens_at v.opening start o f.0 e)) r.saves,
+    )
+
+    seen_like : (v : View) (h k : Holding) → IsLike h k → IsSeenAt g v k → IsSeenAt g v h
+    seen_like v h k like seen = (
+      subst (IsPrefix v.seen) (sym like.0) seen.0,
+      subst (IsPrefix v.told) (sym like.0) seen.1,
+      subst (λ (l : List Entry). PlacesRise 0 v.own (length l)) (sym like.0) seen.2,
+      λ o e. subst (λ (x : List Entry × CountedStation). ReplaysEntries g (counted_in o) x.0 x.1) (λ i. (sym like.0 i, sym like.1 i)) (seen.3 o e),
+      λ o e. saves_like o h k like (seen.4 o e),
+    )
+
+    of_turn : (s : State (P.Option H) View) (r : RuleHolds sight g start bound s) (me : ℕ) (v : View) (h : Holding) → get_elem? s.views me ≡ some v → v.turn ≡ Some h → HasTurn r.held (get_or s.words 1 0) r.holder me (Some h)
+    of_turn s r me v h at e = subst (HasTurn r.held (get_or s.words 1 0) r.holder me) e (r.each_turn me v at)
+
+    pub looks : (slots id : ℕ) (me : Me (P.Option H) View) → Allows (RuleHolds sight g start bound) slots id me 0 (λ x. x) (looked g (step slots 0 0 0 none) me)
+    looks slots id me s r _ at _ = let w = looking me.0 r.held.history in let f = r.each_view id me.0 at in (
+      w,
+      keeps,
+      tt,
+      unmoved s r 0 id me.1 me.0 w at refl refl (f.0, prefix_refl r.held.history, (r.held.history, refl), f.3),
+      (r.held, refl, sym r.counted, seen_at s r id me.0 at, λ h e. sym (of_turn s r id me.0 h at e).2),
+    )
+
+    pub takes_turn : (slots id : ℕ) (me : Me (P.Option H) View) → is_some me.0.turn ≡ false → Allows (RuleHolds sight g start bound) slots id me 1 (λ n. either (eqb n 0) 1 n) (took sight g (step slots 1 0 1 none) me)
+    takes_turn slots id me idle s r _ at _ = exchanged (get_or s.words 1 0) 0 1
+        (λ (z : ℕ). (w : View) × (a : T.Act (P.Option H)) × Valid s.homes me.1 a × RuleHolds sight g start bound (stepped s 1 z id me.1 w a)
+        × took sight g (step slots 1 0 1 none) me (get_or s.words 1 0) (w, carried_after me.1 a))
+        (λ (z : get_or s.words 1 0 ≡ 0). let home = r.free z in let h = home.0 in let held = sight h in let like : IsLike held r.held = home.2 in let w = taking me.0 held in let two = r.two in
+        let now : get_or (set s.words 1 1) 1 0 ≡ 1 = get_or-set_same s.words 1 1 0 (omega arith) in
+        let fits : (j : ℕ) (d : View) → get_elem? s.views j ≡ some d → FitsView start held.history d = λ j d there. subst (λ (l : List Entry). FitsView start l d) (sym like.0) (r.each_view j d there) in (
+          w,
+          takes 0 (Some h),
+          home.1,
+          record {
+            held = held;
+            holder = id;
+            two = length-set s.words 1 1 ∙ two;
+            replays = subst (λ (x : List Entry × CountedStation). ReplaysEntries g (counted_in start) x.0 x.1) (λ i. (sym like.0 i, sym like.1 i)) r.replays;
+            saves = saves_like start held r.held like r.saves;
+            within = subst (λ (l : List Entry). length l ≤ bound) (sym like.0) r.within;
+            counted = get_or-set_other s.words 1 0 1 0 (λ e. omega arith) ∙ (r.counted ∙ ap length (sym like.0));
+            free = λ e. absurd (omega arith);
+            taken = λ _. (w, held, set_at s.views id me.0 w at, refl);
+            each_view = views_stay (λ _ d. FitsView start held.history d) s.views id w (fits id me.0 at) (λ j d _. fits j d);
+            each_turn = views_stay (λ j d. HasTurn held (get_or (set s.words 1 1) 1 0) id j d.turn) s.views id w (now, refl, refl)
+                (λ j d _ there. turns_none r.held held (get_or s.words 1 0) _ r.holder id j d.turn z (r.each_turn j d there));
+            apart = apart_stays s.views id me.0 w at refl r.apart;
+          },
+          (held, seen_like me.0 held r.held like (seen_at s r id me.0 at), (λ _. (h, refl, refl)), (λ n. absurd (n z))),
+        ))
+        (λ (n : get_or s.words 1 0 ≢ 0). let by = r.taken n in let h = by.1 in let w = losing me.0 r.held in (
+          w,
+          keeps,
+          tt,
+          unmoved s r 1 id me.1 me.0 w at refl refl (r.each_view id me.0 at),
+          (r.held, seen_at s r id me.0 at, (λ z. absurd (n z)), (λ _. refl)),
+        ))
+
+    pub gives_back : (slots id : ℕ) (me : Me (P.Option H) View) (h : H) (held : Holding) → 0 < slots → me.0.turn ≡ Some held → IsLike (sight h) held → me.1 ≡ (0, Some h) ∷ []
+        → Allows (RuleHolds sight g start bound) slots id me 1 (λ _. 0) (λ _. gave_back (step slots 1 0 0 none) me 0)
+    gives_back slots id me h held some_slot has like out s r count at _ =
+        let w = freeing me.0 in let two = r.two in let t = of_turn s r id me.0 held at has in let now : get_or (set s.words 1 0) 1 0 ≡ 0 = get_or-set_same s.words 1 0 0 (omega arith) in (
+          w,
+          gives,
+          tt,
+          record {
+            held = r.held;
+            holder = id;
+            two = length-set s.words 1 0 ∙ two;
+            replays = r.replays;
+            saves = r.saves;
+            within = r.within;
+            counted = get_or-set_other s.words 1 0 0 0 (λ e. omega arith) ∙ r.counted;
+            free = λ _. (
+              h,
+              subst (λ (c : List (ℕ × P.Option H)). get_elem? (homes_after s.homes c gives) 0 ≡ some (some (Some h))) (sym out) (set_here s.homes 0 (some (Some h)) (omega arith)),
+              subst (IsLike (sight h)) t.2 like,
+            );
+            taken = λ n. absurd (n now);
+            each_view = views_stay (λ _ d. FitsView start r.held.history d) s.views id w (r.each_view id me.0 at) (λ j d _. r.each_view j d);
+            each_turn = views_stay (λ j d. HasTurn r.held (get_or (set s.words 1 0) 1 0) id j d.turn) s.views id w tt
+                (λ j d other there. turns_other r.held r.held (get_or s.words 1 0) _ r.holder id j d.turn (λ e. other (e ∙ sym t.1)) (r.each_turn j d there));
+            apart = apart_stays s.views id me.0 w at refl r.apart;
+          },
+          refl,
+        )
+
+    pub raises_count : (slots id : ℕ) (me : Me (P.Option H) View) → HasUncountedEntry sight g bound me → bound < 2 ^ 32 → Allows (RuleHolds sight g start bound) slots id me 0 (λ n. (n + 1) % 2 ^ 64) (raised sight (step slots 0 1 0 none) me)
+    raises_count slots id me makes small s r count at _ =
+        let had = makes.0 in let h = makes.1 in let a = makes.2 in let now = makes.3 in let answer = makes.4 in let has = makes.5 in let out = makes.6 in let room = makes.7 in let longer = makes.8 in let goes = makes.9 in let saves = makes.10 in
+        let n : ℕ = length had.history in let held = sight h in
+        let w = raising me.0 n held in let two = r.two in let t = of_turn s r id me.0 had at has in let e = entry a now answer in
+        let fine = r.within in let below : n < bound = (let same : length r.held.history ≡ n = ap (λ x. length x.history) (sym t.2) in omega arith) in let more : length held.history ≡ n + 1 = ap length longer ∙ length-append had.history (e ∷ []) in
+        let was : get_or s.words 0 0 ≡ n = r.counted ∙ ap (λ x. length x.history) (sym t.2) in
+        let up : (get_or s.words 0 0 + 1) % 2 ^ 64 ≡ length held.history = omega arith in
+        let z : ℕ = (get_or s.words 0 0 + 1) % 2 ^ 64 in
+        let turn_word : get_or (set s.words 0 z) 1 0 ≡ 1 = get_or-set_other s.words 0 1 z 0 (λ e. omega arith) ∙ t.0 in
+        let fits : (j : ℕ) (d : View) → get_elem? s.views j ≡ some d → FitsView start had.history d = λ j d there. subst (λ (l : Holding). FitsView start l.history d) (sym t.2) (r.each_view j d there) in
+        let mine = fits id me.0 at in (
+          w,
+          keeps,
+          tt,
+          record {
+            held = held;
+            holder = id;
+            two = length-set s.words 0 z ∙ two;
+            replays = subst (λ (l : List Entry). ReplaysEntries g (counted_in start) l (counted_at held)) (sym longer)
+                (replays_one g (counted_at had) (counted_at held) a now answer goes had.history (counted_in start) (subst (λ (x : Holding). ReplaysEntries g (counted_in start) x.history (counted_at x)) (sym t.2) r.replays));
+            saves = λ s. let all = subst (λ (x : Holding). SavesAll start x) (sym t.2) r.saves s in let now_saves = saves all.0 in (now_saves.0, subst AllSaved (sym longer) (saved_one had.history e all.1 now_saves.1));
+            within = omega arith;
+            counted = get_or-set_same s.words 0 z 0 (omega arith) ∙ up;
+            free = λ e. absurd (omega arith);
+            taken = λ _. (w, held, set_at s.views id me.0 w at, refl);
+            each_view = views_stay (λ _ d. FitsView start held.history d) s.views id w
+                (mine.0, prefix_refl held.history, (held.history, refl), subst (PlacesRise 0 (me.0.own ++ n ∷ [])) (omega arith) (rises_one 0 me.0.own n mine.3))
+                (λ j d _ there. let f = fits j d there in (f.0, subst (IsPrefix d.seen) (sym longer) (prefix_longer d.seen _ _ f.1), subst (IsPrefix d.told) (sym longer) (prefix_longer d.told _ _ f.2), rises_more 0 d.own _ _ f.3 (omega arith)));
+            each_turn = views_stay (λ j d. HasTurn held (get_or (set s.words 0 z) 1 0) id j d.turn) s.views id w (turn_word, refl, refl)
+                (λ j d other there. turns_other r.held _ (get_or s.words 1 0) _ r.holder id j d.turn (λ e. other (e ∙ sym t.1)) (r.each_turn j d there));
+            apart = apart_longer s.views id n me.0 w at refl (λ j d there. (fits j d there).3) r.apart;
+          },
+          λ k k' has' out'. let same : had ≡ k = cc in let same' : h ≡ k' = ap (slot_or h) (sym out ∙ out') in (λ i. (raising me.0 (length (same i).history) (sight (same' i)), me.1)),
+        )
+
+    only : (opening : Parts) (j : ℕ) (v : View) → get_elem? (newcomer (Some opening) [] ∷ []) j ≡ some v → newcomer (Some opening) [] ≡ v
+    only opening zero v e = some-injective _ v e
+    only opening (suc j) v e = absurd (some-ne-none v (sym e))
+
+    pub opens : (opening : Parts) (h : H) → opening ≡ start → IsLike (sight h) (record { history = []; parts = opening })
+        → RuleHolds sight g start bound (T.opening (0 ∷ 0 ∷ []) (Some h ∷ []) (newcomer (Some opening) []))
+    opens opening h starts like = record {
+      held = record { history = []; parts = opening };
+      holder = 0;
+      two = refl;
+      replays = ap counted_in (sym starts);
+      saves = λ s. (ap (λ (x : Parts). x.sound) starts ∙ s, tt);
+      within = zero-le;
+      counted = refl;
+      free = λ _. (h, refl, like);
+      taken = λ n. absurd (n refl);
+      each_view = λ j v there. subst (λ (d : View). FitsView start [] d) (only opening j v there) (starts, ([], refl), ([], refl), zero-le);
+      each_turn = λ j v there. subst (λ (d : View). HasTurn record { history = []; parts = opening } 0 0 j d.turn) (only opening j v there) tt;
+      apart = λ i j p v u at_i at_j in_v in_u. absurd (subst (λ (d : View). IsAmongPlaces p d.own) (sym (only opening i v at_i)) in_v);
+    }

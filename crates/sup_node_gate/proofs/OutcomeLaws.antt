@@ -1,0 +1,119 @@
+-- What the steps of a call come to.
+use Rattle.std.proofs.Common.{◌≡◌, ℕ, suc, ◌+◌, ◌≢◌, List, [], ◌∷◌, ◌++◌, append_assoc, map, length, sym, refl, ap, ◌∙◌, subst, arith, length-append, Ok, Err, Some, None}
+use mathlib.Core.Option.{Option, some}
+use mathlib.Core.List.{map-append}
+use lib.ListN.{get_elem?}
+use Rattle.std.specs.declared.option.Option as P
+use Rattle.atomic_table.specs.Table.{Me, rest}
+use Rattle.atomic_table.proofs.Lists.{at_last}
+use Rattle.sup_placement.specs.Place.{Weigher}
+use Rattle.sup_replica.specs.declared.event.Act.{Act}
+use Rattle.sup_node_gate.specs.Histories.{CountedStation, StationAnswer, RespondsToAct}
+use Rattle.sup_node_gate.specs.declared.entry.Entry.{Entry}
+use Rattle.sup_node_gate.specs.Histories.{RefusalStanding, full, no_room, entered, standing_of, IsEntered, ReplaysEntries, IsPrefix, entry}
+use Rattle.sup_node_gate.specs.declared.view.Holding.{Holding}
+use Rattle.sup_node_gate.specs.declared.view.Parts.{Parts}
+use Rattle.sup_node_gate.specs.declared.view.View.{View}
+use Rattle.sup_node_gate.specs.Parts.{counted_in, counted_at, IsLike}
+use Rattle.sup_node_gate.specs.Views.{PlacesRise, calls_of, taking, raising, freeing, looking, joining}
+use Rattle.sup_node_gate.specs.Holdings.{AddsEntry}
+use Rattle.sup_node_gate.specs.Rule.{IsSeenAt, IsTurnTaken}
+use Rattle.sup_node_gate.specs.Calls.{EntersCall, KeepsOwn, IsFull, HasNoMemory, RefusesCall, ActsInTurn, JoinedViews, MayAct, IsIdle}
+use Rattle.sup_node_gate.proofs.GateRuleLaws.{slot_or}
+use Rattle.sup_node_gate.proofs.HistoryListLaws.{replays_one, rises_one, entries_more}
+
+pub enters_acts : (g : Weigher) (s : CountedStation) (bound : ℕ) (v : View) (a : Act) (now : ℕ) (r : StationAnswer) (v' : View) → IsEntered r → EntersCall g s v (entry a now r) v' → ActsInTurn g s bound v a now r v'
+enters_acts g s bound v a now (Ok d) v' is e = e
+enters_acts g s bound v a now (Err r) v' is e = subst (λ (k : RefusalStanding). RefusesCall k g s bound v (entry a now (Err r)) v') (sym is) e
+
+calls_stay : (v : View) (xs ys : List Entry) → IsPrefix v.seen xs → PlacesRise 0 v.own (length v.seen) → map (get_elem? (xs ++ ys)) v.own ≡ calls_of v
+calls_stay v xs ys p placed = subst (λ (l : List Entry). map (get_elem? (l ++ ys)) v.own ≡ calls_of v) (sym p.1)
+    (subst (λ (l : List Entry). map (get_elem? l) v.own ≡ calls_of v) (sym (append_assoc v.seen p.0 ys)) (entries_more v.seen (p.0 ++ ys) v.own 0 placed))
+
+pub made_enters : (g : Weigher) (start : Parts) (v : View) (h h' : Holding) (a : Act) (now : ℕ) (r : StationAnswer) → v.opening ≡ Some start → IsSeenAt g v h → PlacesRise 0 v.own (length v.seen)
+    → AddsEntry g h a now r h' → EntersCall g (counted_in start) v (entry a now r) (freeing (raising v (length h.history) h'))
+made_enters g start v h h' a now r opens seen placed made = let n : ℕ = length h.history in let e = entry a now r in
+    let more : length h'.history ≡ n + 1 = ap length made.1 ∙ length-append h.history (e ∷ []) in record {
+      before = h.history;
+      begins = seen.0;
+      ends = made.1;
+      replays = (counted_at h', subst (λ (l : List Entry). ReplaysEntries g (counted_in start) l (counted_at h')) (sym made.1) (replays_one g (counted_at h) (counted_at h') a now r made.2 h.history (counted_in start) (seen.3 start opens)));
+      places = refl;
+      rises = subst (PlacesRise 0 (v.own ++ n ∷ [])) (omega arith) (rises_one 0 v.own n seen.2);
+      calls = subst (λ (l : List Entry). map (get_elem? l) (v.own ++ n ∷ []) ≡ calls_of v ++ some e ∷ []) (sym made.1)
+          (map-append (get_elem? (h.history ++ e ∷ [])) v.own (n ∷ [])
+          ∙ (ap (λ l. l ++ get_elem? (h.history ++ e ∷ []) n ∷ []) (calls_stay v h.history (e ∷ []) seen.0 placed) ∙ ap (λ x. calls_of v ++ x ∷ []) (at_last h.history e n refl)));
+    }
+
+pub is_full : (g : Weigher) (start : Parts) (bound : ℕ) (v : View) (h : Holding) → v.opening ≡ Some start → IsSeenAt g v h → length h.history ≡ bound → IsFull g (counted_in start) bound v (freeing (looking v h.history))
+is_full g start bound v h opens seen len = (len, record { begins = seen.0; replays = (counted_at h, seen.3 start opens); places = refl; rises = seen.2 })
+
+pub has_no_memory : (g : Weigher) (start : Parts) (bound : ℕ) (v : View) (h : Holding) → v.opening ≡ Some start → v.taken ≡ Some h → IsSeenAt g v h → length h.history ≢ bound
+    → HasNoMemory g (counted_in start) bound v (freeing v)
+has_no_memory g start bound v h opens taken seen not_full = record { held = h; taken = taken; begins = seen.0; replays = seen.3 start opens; not_full = not_full; same = (refl, refl) }
+
+pub looked_keeps : (g : Weigher) (start : Parts) (v : View) (h : Holding) → v.opening ≡ Some start → IsSeenAt g v h → KeepsOwn g (counted_in start) v (looking v h.history)
+looked_keeps g start v h opens seen = record { begins = seen.0; replays = (counted_at h, seen.3 start opens); places = refl; rises = seen.2 }
+
+pub looked_joins : (g : Weigher) (start : Parts) (v u : View) (h : Holding) → v.opening ≡ Some start → IsSeenAt g (joining v u) h → JoinedViews g (counted_in start) v u (looking (joining v u) h.history)
+looked_joins g start v u h opens seen = record { begins = seen.0; others = seen.1; replays = (counted_at h, seen.3 start opens); places = refl; rises = seen.2; tries = refl; splits = refl }
+
+module _ {H : Type 0} where
+  -- the turn is taken, and the slot with it
+  pub turn_taken : (sight : H → Holding) (g : Weigher) (m m' : Me (P.Option H) View) (held : Holding) (h : H) → IsSeenAt g m.0 held → sight h ≡ held → m' ≡ (taking m.0 held, (0, Some h) ∷ m.1) → m.1 ≡ []
+      → IsTurnTaken sight g m m'
+  turn_taken sight g m m' held h seen same took empty = let all = took ∙ ap (λ (l : List (ℕ × P.Option H)). (taking m.0 held, (0, Some h) ∷ l)) empty in
+      let taken = subst (λ (x : Holding). IsSeenAt g m.0 x × (m' ≡ (taking m.0 x, (0, Some h) ∷ []))) (sym same) (seen, all) in (h, taken.0, taken.1)
+
+  -- a pass that took the turn may act
+  pub may_act : (sight : H → Holding) (g : Weigher) (opening : Parts) (m m' : Me (P.Option H) View) → IsTurnTaken sight g m m' → m.0.told ≡ [] → m.0.opening ≡ Some opening → PlacesRise 0 m.0.own (length m.0.seen)
+      → MayAct sight g opening m'
+  may_act sight g opening m m' t told opens placed = subst (λ (x : Me (P.Option H) View). MayAct sight g opening x) (sym t.2) (t.0, refl, refl, told, opens, t.1, placed, refl)
+
+  -- what is lent of a slot is what the seat has there
+  pub lent_slot : (m : Me (P.Option H) View) (h : H) (lent : P.Option H) (held : H) → m.1 ≡ (0, Some h) ∷ [] → m.1 ≡ (0, lent) ∷ rest m.1 → lent ≡ Some held → held ≡ h
+  lent_slot m h lent held out there is = ap (slot_or held) ((λ i. (0, sym is i) ∷ rest m.1) ∙ (sym there ∙ out))
+
+-- once the turn is given back
+pub idle_after : {H : Type 0} (m : Me (P.Option H) View) (v w : View) → m ≡ (freeing w, []) → w.told ≡ [] → PlacesRise 0 w.own (length w.seen) → w.opening ≡ v.opening → w.tries ≡ v.tries → w.splits ≡ v.splits
+    → IsIdle m × (m.0.opening ≡ v.opening) × (m.0.tries ≡ v.tries) × (m.0.splits ≡ v.splits)
+idle_after {H = H} m v w is told rises opening tries splits =
+    subst (λ (x : Me (P.Option H) View). IsIdle x × (x.0.opening ≡ v.opening) × (x.0.tries ≡ v.tries) × (x.0.splits ≡ v.splits)) (sym is) ((refl, told, refl, rises), opening, tries, splits)
+
+enters_same : (g : Weigher) (s : CountedStation) (v u : View) (e : Entry) (v' : View) → v.seen ≡ u.seen → v.own ≡ u.own → EntersCall g s v e v' → EntersCall g s u e v'
+enters_same g s v u e v' seen own x = record {
+  before = x.before;
+  begins = subst (λ (l : List Entry). IsPrefix l x.before) seen x.begins;
+  ends = x.ends;
+  replays = x.replays;
+  places = x.places ∙ ap (λ o. o ++ length x.before ∷ []) own;
+  rises = x.rises;
+  calls = x.calls ∙ (λ i. map (get_elem? (seen i)) (own i) ++ some e ∷ []);
+}
+
+keeps_same : (g : Weigher) (s : CountedStation) (v u v' : View) → v.seen ≡ u.seen → v.own ≡ u.own → KeepsOwn g s v v' → KeepsOwn g s u v'
+keeps_same g s v u v' seen own x = record {
+  begins = subst (λ (l : List Entry). IsPrefix l v'.seen) seen x.begins;
+  replays = x.replays;
+  places = x.places ∙ own;
+  rises = x.rises;
+}
+
+no_memory_same : (g : Weigher) (s : CountedStation) (bound : ℕ) (v u v' : View) → v.seen ≡ u.seen → v.own ≡ u.own → HasNoMemory g s bound v v' → HasNoMemory g s bound u v'
+no_memory_same g s bound v u v' seen own x = record {
+  held = x.held;
+  taken = x.taken;
+  begins = subst (λ (l : List Entry). IsPrefix l x.held.history) seen x.begins;
+  replays = x.replays;
+  not_full = x.not_full;
+  same = (x.same.0 ∙ seen, x.same.1 ∙ own);
+}
+
+refuses_same : (k : RefusalStanding) (g : Weigher) (s : CountedStation) (bound : ℕ) (v u : View) (e : Entry) (v' : View) → v.seen ≡ u.seen → v.own ≡ u.own → RefusesCall k g s bound v e v' → RefusesCall k g s bound u e v'
+refuses_same full g s bound v u e v' seen own x = (x.0, keeps_same g s v u v' seen own x.1)
+refuses_same no_room g s bound v u e v' seen own x = no_memory_same g s bound v u v' seen own x
+refuses_same entered g s bound v u e v' seen own x = enters_same g s v u e v' seen own x
+
+pub acts_same : (g : Weigher) (s : CountedStation) (bound : ℕ) (v u : View) (a : Act) (now : ℕ) (r : StationAnswer) (v' : View) → v.seen ≡ u.seen → v.own ≡ u.own → ActsInTurn g s bound v a now r v' → ActsInTurn g s bound u a now r v'
+acts_same g s bound v u a now (Ok d) v' seen own x = enters_same g s v u (entry a now (Ok d)) v' seen own x
+acts_same g s bound v u a now (Err r) v' seen own x = refuses_same (standing_of r) g s bound v u (entry a now (Err r)) v' seen own x

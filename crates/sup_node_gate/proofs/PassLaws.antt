@@ -1,0 +1,114 @@
+-- A split and a join keep the rule, and what the table's last state tells.
+use Rattle.std.proofs.Common.{◌≡◌, ℕ, zero, suc, ◌<◌, ◌≤◌, ◌≢◌, ◌⊎◌, List, [], ◌∷◌, ◌++◌, length, get_or, set, sym, refl, ap, ◌∙◌, subst, inl, inr, ⊎_elim, arith, zero-le, None, Some}
+use Rattle.std.specs.Prelude.{is_some, true, false, IfSome}
+use Rattle.std.specs.declared.option.Option as P
+use mathlib.Core.Logic.{dite}
+use mathlib.Core.Option.{Option, none, some, some-injective, some-ne-none}
+use native.Mathlib.Decide.{ℕ_discrete}
+use lib.ListN.{get_elem?}
+use Rattle.atomic_table.specs.Table.{State, Splits, Joins, Final, Seen}
+use Rattle.atomic_table.proofs.Lists.{at_set, at_snoc, at_longer, set_else}
+use Rattle.sup_placement.specs.Place.{Weigher}
+use Rattle.sup_node_gate.specs.Histories.{CountedStation}
+use Rattle.sup_node_gate.specs.declared.entry.Entry.{Entry}
+use Rattle.sup_node_gate.specs.Histories.{ReplaysEntries, IsPrefix}
+use Rattle.sup_node_gate.specs.declared.view.Holding.{Holding}
+use Rattle.sup_node_gate.specs.declared.view.Parts.{Parts}
+use Rattle.sup_node_gate.specs.declared.view.View.{View}
+use Rattle.sup_node_gate.specs.Parts.{counted_at, IsLike}
+use Rattle.sup_node_gate.specs.Views.{IsAmongPlaces, PlacesRise, merged, first, second, spent, joining}
+use Rattle.sup_node_gate.specs.Rule.{OpensAt, FitsView, HasTurn, IsHeldBy, AllApart, RuleHolds}
+use Rattle.sup_node_gate.proofs.HistoryListLaws.{set_at, views_stay, apart_stays, held_stays}
+use Rattle.sup_node_gate.proofs.PlaceListLaws.{stands_merged, rises_merged}
+
+pub index_at : {A : Type 0} (l : List A) (i : ℕ) (a d : A) → get_elem? l i ≡ some a → get_or l i d ≡ a
+index_at [] i a d e = absurd (some-ne-none a (sym e))
+index_at (x ∷ xs) zero a d e = some-injective x a e
+index_at (x ∷ xs) (suc i) a d e = index_at xs i a d e
+
+module _ (vs : List View) (id other : ℕ) (v u : View) (at : get_elem? vs id ≡ some v) (there : get_elem? vs other ≡ some u) (apart : AllApart vs) (not : other ≢ id) where
+  abbrev after : List View
+  after = set (set vs id (joining v u)) other spent
+
+  from : (j p : ℕ) (d : View) → get_elem? after j ≡ some d → IsAmongPlaces p d.own → ((j ≡ id) × (IsAmongPlaces p v.own ⊎ IsAmongPlaces p u.own)) ⊎ ((j ≢ id) × (j ≢ other) × (get_elem? vs j ≡ some d))
+  from j p d e s = ⊎_elim (λ (t : (j ≡ other) × (spent ≡ d)). absurd (subst (λ (x : View). IsAmongPlaces p x.own) (sym t.1) s))
+      (λ (t : (j ≢ other) × (get_elem? (set vs id (joining v u)) j ≡ some d)). ⊎_elim
+      (λ (k : (j ≡ id) × (joining v u ≡ d)). inl (k.0, stands_merged u.own v.own p (subst (λ (x : View). IsAmongPlaces p x.own) (sym k.1) s)))
+      (λ (k : (j ≢ id) × (get_elem? vs j ≡ some d)). inr (k.0, t.0, k.1)) (at_set vs id j (joining v u) d t.1))
+      (at_set (set vs id (joining v u)) other j spent d e)
+
+  mine : (j p : ℕ) (d : View) → IsAmongPlaces p v.own ⊎ IsAmongPlaces p u.own → j ≢ id → j ≢ other → get_elem? vs j ≡ some d → IsAmongPlaces p d.own → ⊥
+  mine j p d s a b e t = ⊎_elim (λ (x : IsAmongPlaces p v.own). a (sym (apart id j p v d at e x t))) (λ (x : IsAmongPlaces p u.own). b (sym (apart other j p u d there e x t))) s
+
+  pub joined_apart : AllApart after
+  joined_apart i j p a b at_i at_j in_a in_b = ⊎_elim
+      (λ (x : (i ≡ id) × (IsAmongPlaces p v.own ⊎ IsAmongPlaces p u.own)). ⊎_elim (λ (y : (j ≡ id) × (IsAmongPlaces p v.own ⊎ IsAmongPlaces p u.own)). x.0 ∙ sym y.0)
+      (λ (y : (j ≢ id) × (j ≢ other) × (get_elem? vs j ≡ some b)). absurd (mine j p b x.1 y.0 y.1 y.2 in_b)) (from j p b at_j in_b))
+      (λ (x : (i ≢ id) × (i ≢ other) × (get_elem? vs i ≡ some a)). ⊎_elim (λ (y : (j ≡ id) × (IsAmongPlaces p v.own ⊎ IsAmongPlaces p u.own)). absurd (mine i p a y.1 x.0 x.1 x.2 in_a))
+      (λ (y : (j ≢ id) × (j ≢ other) × (get_elem? vs j ≡ some b)). apart i j p a b x.2 y.2 in_a in_b) (from j p b at_j in_b))
+      (from i p a at_i in_a)
+
+free_has : (u : View) (h : Holding) → is_some u.turn ≡ false → u.turn ≡ Some h → ⊥
+free_has u h e f = let bad : true ≡ false = sym (ap is_some f) ∙ e in cc
+
+held_without : (vs : List View) (other : ℕ) (u w : View) (holder : ℕ) → get_elem? vs other ≡ some u → is_some u.turn ≡ false → IsHeldBy vs holder → IsHeldBy (set vs other w) holder
+held_without vs other u w holder there idle b = dite (ℕ_discrete holder other)
+    (λ (e : holder ≡ other). let is : u ≡ b.0 = some-injective u b.0 (sym there ∙ subst (λ (z : ℕ). get_elem? vs z ≡ some b.0) e b.2) in absurd (free_has u b.1 idle (ap (λ x. x.turn) is ∙ b.3)))
+    (λ ne. (b.0, b.1, set_else vs other holder w ne ∙ b.2, b.3))
+
+module _ {H : Type 0} (sight : H → Holding) (g : Weigher) (start : Parts) (bound : ℕ) where
+  pub splits : (id : ℕ) (v : View) → Splits (RuleHolds sight g start bound) id v (first v) (second v)
+  splits id v s r at = let f = r.each_view id v at in let vs = set s.views id (first v) in
+      let views : (j : ℕ) (d : View) → get_elem? vs j ≡ some d → FitsView start r.held.history d = views_stay (λ _ d. FitsView start r.held.history d) s.views id (first v) f (λ j d _. r.each_view j d) in
+      let turns : (j : ℕ) (d : View) → get_elem? vs j ≡ some d → HasTurn r.held (get_or s.words 1 0) r.holder j d.turn =
+      views_stay (λ j d. HasTurn r.held (get_or s.words 1 0) r.holder j d.turn) s.views id (first v) (r.each_turn id v at) (λ j d _. r.each_turn j d) in
+      let apart = apart_stays s.views id v (first v) at refl r.apart in record {
+        held = r.held;
+        holder = r.holder;
+        two = r.two;
+        replays = r.replays;
+        saves = r.saves;
+        within = r.within;
+        counted = r.counted;
+        free = r.free;
+        taken = λ n. let b = held_stays s.views id v (first v) r.holder at refl (r.taken n) in (b.0, b.1, at_longer vs (second v ∷ []) r.holder b.0 b.2, b.3);
+        each_view = λ j d there. ⊎_elim (views j d) (λ (t : second v ≡ d). subst (λ (x : View). FitsView start r.held.history x) t (f.0, f.1, (r.held.history, refl), zero-le)) (at_snoc vs (second v) d j there);
+        each_turn = λ j d there. ⊎_elim (turns j d) (λ (t : second v ≡ d). subst (λ (x : View). HasTurn r.held (get_or s.words 1 0) r.holder j x.turn) t tt) (at_snoc vs (second v) d j there);
+        apart = λ i j p a b at_i at_j in_a in_b. ⊎_elim
+            (λ (x : get_elem? vs i ≡ some a). ⊎_elim (λ (y : get_elem? vs j ≡ some b). apart i j p a b x y in_a in_b) (λ (y : second v ≡ b). absurd (subst (λ (z : View). IsAmongPlaces p z.own) (sym y) in_b)) (at_snoc vs (second v) b j at_j))
+            (λ (x : second v ≡ a). absurd (subst (λ (z : View). IsAmongPlaces p z.own) (sym x) in_a)) (at_snoc vs (second v) a i at_i);
+      }
+
+  pub joins : (id : ℕ) (v : View) (other : ℕ) (u : View) → is_some u.turn ≡ false → Joins (RuleHolds sight g start bound) id v other u (joining v u) spent
+  joins id v other u idle s r at not there' = let both = joining v u in let there : get_elem? s.views other ≡ some u = sym (set_else s.views id other both not) ∙ there' in
+      let f = r.each_view id v at in let k = r.each_view other u there in
+      let rises = rises_merged u.own v.own 0 (length r.held.history) f.3 k.3 (λ q a b. not (sym (r.apart id other q v u at there a b))) in record {
+        held = r.held;
+        holder = r.holder;
+        two = r.two;
+        replays = r.replays;
+        saves = r.saves;
+        within = r.within;
+        counted = r.counted;
+        free = r.free;
+        taken = λ n. held_without (set s.views id both) other u spent r.holder there' idle (held_stays s.views id v both r.holder at refl (r.taken n));
+        each_view = views_stay (λ _ d. FitsView start r.held.history d) (set s.views id both) other spent (tt, (r.held.history, refl), (r.held.history, refl), zero-le)
+            (λ j d _. views_stay (λ _ d. FitsView start r.held.history d) s.views id both (f.0, f.1, k.1, rises) (λ j d _. r.each_view j d) j d);
+        each_turn = views_stay (λ j d. HasTurn r.held (get_or s.words 1 0) r.holder j d.turn) (set s.views id both) other spent tt
+            (λ j d _. views_stay (λ j d. HasTurn r.held (get_or s.words 1 0) r.holder j d.turn) s.views id both (r.each_turn id v at) (λ j d _. r.each_turn j d) j d);
+        apart = joined_apart s.views id other v u at there r.apart not;
+      }
+
+  module _ (id : ℕ) (v : View) (ws : List ℕ) (xs : List (P.Option H)) (last : Final (Seen (RuleHolds sight g start bound) id v) ws xs) where
+    -- what a seat has the turn with is within the bound
+    pub within_at_end : (h : Holding) → v.turn ≡ Some h → length h.history ≤ bound
+    within_at_end h has = let s = last.0 in let r = last.1.0 in
+        let turn : HasTurn r.held (get_or s.words 1 0) r.holder id (Some h) = subst (HasTurn r.held (get_or s.words 1 0) r.holder id) has (r.each_turn id v last.1.1) in
+        subst (λ (z : Holding). length z.history ≤ bound) (sym turn.2) r.within
+
+    within_of : (t : P.Option Holding) → v.turn ≡ t → IfSome t (λ h. length h.history ≤ bound)
+    within_of None e = tt
+    within_of (Some h) e = within_at_end h e
+
+    pub within_bound : IfSome v.turn (λ h. length h.history ≤ bound)
+    within_bound = within_of v.turn refl

@@ -1,0 +1,318 @@
+-- Exchanges as lists of steps, one after another.
+use Rattle.std.specs.Prelude.{◌≡◌, ◌≢◌, ℕ, ◌+◌, ◌<◌, Bool, true, false, cond, is_some, IsSorted, IsPermutation, List, [], ◌∷◌, ◌++◌, length, filter, map, take, drop, Option, Some, None, Result, Ok, Err, IfOk, IfErr, OnOk, IsErrAnd, slice_index_or, refl}
+use Rattle.std.proofs.Common.{sym, ap, ◌∙◌, subst, append_assoc, arith}
+use Rattle.std.proofs.lemmas.List.{take_more, map-append, take-append-drop, length-append, append-nil}
+use Rattle.std.proofs.lemmas.List.Elements.{filter-append}
+use Rattle.std.proofs.lemmas.List.Concat.{flat_map-cons}
+use Rattle.std.proofs.lemmas.Grind.{flat_map-append}
+use Rattle.std.proofs.lemmas.Option.{none-some}
+use mathlib.Core.Logic.{inl, inr}
+use Rattle.sup_specs.specs.Values.{Bytes, text_cmp}
+use Rattle.sup_placement.specs.Place.{Weigher}
+use Rattle.sup_local_sup.specs.declared.effect.Effect.{Effect}
+use Rattle.sup_replica.specs.declared.refusal.Refusal.{Refusal}
+use Rattle.sup_replica.specs.declared.refusal.Refusal.TheVariants.{OutOfMemory, UpToDate}
+use Rattle.sup_model.specs.declared.step.Step.{Step}
+use Rattle.sup_world.specs.declared.answer.Answer.{Answer}
+use Rattle.sup_world.specs.declared.settled.Settled.{Settled}
+use Rattle.sup_world.specs.declared.tally.Tally.{Tally}
+use Rattle.sup_world.specs.Pairs.{ship_of, arrival}
+use Rattle.sup_world.specs.Exchanges.{ends, running}
+use Rattle.sup_world.specs.declared.settling.Way.TheVariants.{In, Out}
+use Rattle.sup_world.specs.Runs.{StepGoes, RanSteps}
+use Rattle.sup_world.specs.SeenNodes.{SeenNode}
+use Rattle.sup_world.specs.SettledSites.{pairs_of}
+use Rattle.sup_world.specs.Settlements.{Answered, sends, messages_in, effects_with, effects_in, IsToldOn, IsBrought, IsExchange, AreExchanges, StepEnds, EndsAtShip, EndsAtArrival, EndsAtLast, EndsIn, EndsAmong, NotesAll, IsNotedAs, IsShipNotedAs, MakesOne, ShipsOne, PairsCome, MakesPairs, AreRunning, IsToldBy, SettlesBy}
+use Rattle.sup_world.specs.Tallies.{numbers_with, effects_by}
+use Rattle.sup_world.proofs.ExchangeListLaws.{done}
+use Rattle.sup_world.proofs.ReachedWorldLaws.{leads_on}
+use Rattle.sup_world.proofs.SettlementLaws.{IsBegun}
+
+-- what was noted
+messages_append : (xs ys : List Answered) → messages_in (xs ++ ys) ≡ messages_in xs + messages_in ys
+messages_append xs ys = ap length (filter-append sends xs ys) ∙ length-append (filter sends xs) (filter sends ys)
+
+pub notes_none : (t : Tally) → NotesAll [] t t
+notes_none t = record { messages = omega arith; effects = sym (append-nil t.effects.items) }
+
+-- a refusal leaves nothing to note
+pub notes_passed : (old new : Tally) (q : Refusal) → new ≡ old → NotesAll (Err q ∷ []) old new
+notes_passed old new q e =
+    subst (λ (t : Tally). NotesAll (Err q ∷ []) old t) (sym e) (record { messages = omega arith; effects = sym (append-nil old.effects.items) ∙ ap (λ (es : List (Bytes × Effect)). old.effects.items ++ es) (sym (flat_map-cons effects_with (Err q) [])) })
+
+counted : (a : Answer) (b : Bool) → is_some a.number ≡ b → messages_in (Ok a ∷ []) ≡ cond b 1 0
+counted a true h = ap (λ b. length (cond b (let xs : List Answered = Ok a ∷ [] in xs) [])) h
+counted a false h = ap (λ b. length (cond b (let xs : List Answered = Ok a ∷ [] in xs) [])) h
+
+numbered_more : (sent : List ℕ) (number : Option ℕ) → length (numbers_with sent number) ≡ length sent + cond (is_some number) 1 0
+numbered_more sent None = omega arith
+numbered_more sent (Some k) = length-append sent (k ∷ [])
+
+pub notes_one : (a : Answer) (old new : Tally) → new.sent.items ≡ numbers_with old.sent.items a.number → new.effects.items ≡ old.effects.items ++ effects_by a.at a.done.effects → NotesAll (Ok a ∷ []) old new
+notes_one a old new sent effects = record {
+  messages = ap length sent ∙ numbered_more old.sent.items a.number ∙ ap (λ n. length old.sent.items + n) (sym (counted a (is_some a.number) refl));
+  effects = effects ∙ ap (λ (es : List (Bytes × Effect)). old.effects.items ++ es) (sym (flat_map-cons effects_with (Ok a) [] ∙ append-nil (effects_by a.at a.done.effects)));
+}
+
+pub notes_then : (xs ys : List Answered) (t u v : Tally) → NotesAll xs t u → NotesAll ys u v → NotesAll (xs ++ ys) t v
+notes_then xs ys t u v h g = record {
+  messages = omega (arith, h.messages, g.messages, messages_append xs ys);
+  effects = g.effects ∙ ap (λ (es : List (Bytes × Effect)). es ++ effects_in ys) h.effects
+      ∙ append_assoc t.effects.items (effects_in xs) (effects_in ys)
+      ∙ ap (λ (es : List (Bytes × Effect)). t.effects.items ++ es) (sym (flat_map-append effects_with xs ys));
+}
+
+-- a step, noted
+pub taken_as : (a : Answer) (old new : Tally) (result : Result (Option ℕ) Refusal) → IfOk result (λ number. number ≡ a.number) → OnOk result (new.sent.items ≡ numbers_with old.sent.items a.number)
+    → OnOk result (new.effects.items ≡ old.effects.items ++ effects_by a.at a.done.effects) → IfErr result (λ r. r ≡ OutOfMemory) → IsNotedAs (Ok a) old result new
+taken_as a old new (Ok number) n s f r = (n, notes_one a old new s f)
+taken_as a old new (Err q) n s f r = r
+
+pub refused_as : (q : Refusal) (t : Tally) (result : Result (Option ℕ) Refusal) → IsErrAnd result (λ p. p ≡ q) → IsNotedAs (Err q) t result t
+refused_as q t (Ok number) f = absurd f
+refused_as q t (Err r) f = (f, refl)
+
+-- a ship, noted
+pub ship_numbered_as : (answer : Answered) (old new : Tally) (number : Option ℕ) → IsNotedAs answer old (Ok number) new → IsShipNotedAs answer old (Ok number) new
+ship_numbered_as (Ok a) old new number h = h
+ship_numbered_as (Err q) old new number h = absurd h
+
+memory_is_not : OutOfMemory ≡ UpToDate → ⊥
+memory_is_not e = cc
+
+pub ship_refused_as : (answer : Answered) (old new : Tally) (q : Refusal) (result : Result (Option ℕ) Refusal) → IfOk result (λ number. (number ≡ None) × (q ≡ UpToDate)) → IfErr result (λ r. (r ≡ q) × (r ≢ UpToDate))
+    → IsNotedAs answer old (Err q) new → IsShipNotedAs answer old result new
+ship_refused_as (Ok a) old new q (Ok number) p r h = absurd (memory_is_not (sym h ∙ p.1))
+ship_refused_as (Ok a) old new q (Err x) p r h = r.0 ∙ h
+ship_refused_as (Err y) old new q (Ok number) p r h = (sym h.0 ∙ p.1, p.0, h.1)
+ship_refused_as (Err y) old new q (Err x) p r h = (r.0 ∙ h.0, r.1)
+
+module _ (g : Weigher) where
+  pub ran_then : (sites mid new : List SeenNode) (xs ys : List Step) (rs bs : List Answered) → RanSteps g sites xs rs mid → RanSteps g mid ys bs new → RanSteps g sites (xs ++ ys) (rs ++ bs) new
+  ran_then sites mid new [] ys [] bs h k = subst (λ (m : List SeenNode). RanSteps g m ys bs new) h k
+  ran_then sites mid new [] ys (a ∷ rs) bs h k = absurd h
+  ran_then sites mid new (x ∷ xs) ys [] bs h k = absurd h
+  ran_then sites mid new (x ∷ xs) ys (a ∷ rs) bs h k = (h.0, h.1, ran_then h.0 mid new xs ys rs bs h.2 k)
+
+-- one pair alone
+one_pair : (a b : Bytes) (steps : List Step) (answers : List Answered) → IsExchange a b steps answers → AreExchanges ((a, b) ∷ []) steps answers
+one_pair a b steps answers h = (steps, [], answers, [], h, (refl, refl), sym (append-nil steps), sym (append-nil answers))
+
+exchanges_then : (pairs more : List (Bytes × Bytes)) (xs ys : List Step) (rs bs : List Answered) → AreExchanges pairs xs rs → AreExchanges more ys bs → AreExchanges (pairs ++ more) (xs ++ ys) (rs ++ bs)
+exchanges_then [] more xs ys rs bs h k =
+    subst (λ (zs : List Step). AreExchanges more (zs ++ ys) (rs ++ bs)) (sym h.0) (subst (λ (cs : List Answered). AreExchanges more ys (cs ++ bs)) (sym h.1) k)
+exchanges_then (pair ∷ pairs) more xs ys rs bs h k = (
+  h.0,
+  h.1 ++ ys,
+  h.2,
+  h.3 ++ bs,
+  h.4,
+  exchanges_then pairs more h.1 ys h.3 bs h.5 k,
+  ap (λ (zs : List Step). zs ++ ys) h.6 ∙ append_assoc h.0 h.1 ys,
+  ap (λ (cs : List Answered). cs ++ bs) h.7 ∙ append_assoc h.2 h.3 bs,
+)
+
+ends_then : (pairs more : List (Bytes × Bytes)) (xs ys : List Step) (rs bs : List Answered) (r : Refusal) → AreExchanges pairs xs rs → EndsAmong more ys bs r → EndsAmong (pairs ++ more) (xs ++ ys) (rs ++ bs) r
+ends_then [] more xs ys rs bs r h k =
+    subst (λ (zs : List Step). EndsAmong more (zs ++ ys) (rs ++ bs) r) (sym h.0) (subst (λ (cs : List Answered). EndsAmong more ys (cs ++ bs) r) (sym h.1) k)
+ends_then (pair ∷ pairs) more xs ys rs bs r h k = inr (
+  h.0,
+  h.1 ++ ys,
+  h.2,
+  h.3 ++ bs,
+  h.4,
+  ends_then pairs more h.1 ys h.3 bs r h.5 k,
+  ap (λ (zs : List Step). zs ++ ys) h.6 ∙ append_assoc h.0 h.1 ys,
+  ap (λ (cs : List Answered). cs ++ bs) h.7 ∙ append_assoc h.2 h.3 bs,
+)
+
+ends_more : (pairs more : List (Bytes × Bytes)) (xs : List Step) (rs : List Answered) (r : Refusal) → EndsAmong pairs xs rs r → EndsAmong (pairs ++ more) xs rs r
+ends_more [] more xs rs r h = absurd h
+ends_more (pair ∷ pairs) more xs rs r (inl h) = inl h
+ends_more (pair ∷ pairs) more xs rs r (inr h) = inr (h.0, h.1, h.2, h.3, h.4, ends_more pairs more h.1 h.3 r h.5, h.6, h.7)
+
+come_then : {X : Type 0} (pairs more : List (Bytes × Bytes)) (xs ys : List Step) (rs bs : List Answered) (t u v : Tally) (result : Result X Refusal) → AreExchanges pairs xs rs → NotesAll rs t u
+    → PairsCome more ys bs u result v → PairsCome (pairs ++ more) (xs ++ ys) (rs ++ bs) t result v
+come_then pairs more xs ys rs bs t u v (Ok x) h n k = (exchanges_then pairs more xs ys rs bs h k.0, notes_then rs bs t u v n k.1)
+come_then pairs more xs ys rs bs t u v (Err r) h n k = ends_then pairs more xs ys rs bs r h k
+
+come_as : {X : Type 0} (pairs : List (Bytes × Bytes)) (xs : List Step) (rs : List Answered) (old new : Tally) (result : Result X Refusal) (r : Refusal) → IsErrAnd result (λ q. q ≡ r) → EndsAmong pairs xs rs r → PairsCome pairs xs rs old result new
+come_as pairs xs rs old new (Ok x) r e h = absurd e
+come_as pairs xs rs old new (Err q) r e h = subst (λ (p : Refusal). EndsAmong pairs xs rs p) (sym e) h
+
+come_more : {X Y : Type 0} (pairs more : List (Bytes × Bytes)) (xs : List Step) (rs : List Answered) (t u : Tally) (first : Result X Refusal) (result : Result Y Refusal) (r : Refusal) → first ≡ Err r → IsErrAnd result (λ q. q ≡ r)
+    → PairsCome pairs xs rs t first u → PairsCome (pairs ++ more) xs rs t result u
+come_more pairs more xs rs t u (Ok x) result r e f h = absurd cc
+come_more pairs more xs rs t u (Err q) result r e f h =
+    let same : q ≡ r = cc in
+    come_as (pairs ++ more) xs rs t u result r f (subst (λ (p : Refusal). EndsAmong (pairs ++ more) xs rs p) same (ends_more pairs more xs rs q h))
+
+module _ (g : Weigher) where
+  pub pairs_none : (t : Tally) (sites : List SeenNode) → MakesPairs g sites [] t done t sites
+  pairs_none t sites = record { steps = []; answers = []; ran = refl; come = ((refl, refl), notes_none t) }
+
+  pub pairs_on : {X : Type 0} (pairs more : List (Bytes × Bytes)) (t u v : Tally) (result : Result X Refusal) (sites mid new : List SeenNode) → MakesPairs g sites pairs t done u mid → MakesPairs g mid more u result v new
+      → MakesPairs g sites (pairs ++ more) t result v new
+  pairs_on pairs more t u v result sites mid new h k = record {
+    steps = h.steps ++ k.steps;
+    answers = h.answers ++ k.answers;
+    ran = ran_then g sites mid new h.steps k.steps h.answers k.answers h.ran k.ran;
+    come = come_then pairs more h.steps k.steps h.answers k.answers t u v result h.come.0 h.come.1 k.come;
+  }
+
+  -- a refusal of the first of some names' pairs is one of all
+  pub pairs_off : {X Y : Type 0} (f : Bytes → Bytes × Bytes) (names : List Bytes) (n : ℕ) (t u : Tally) (sites new : List SeenNode) (first : Result X Refusal) (result : Result Y Refusal) (r : Refusal) → first ≡ Err r → IsErrAnd result (λ q. q ≡ r)
+      → MakesPairs g sites (map f (take n names)) t first u new → MakesPairs g sites (map f names) t result u new
+  pairs_off f names n t u sites new first result r e is h =
+      let all : map f (take n names) ++ map f (drop n names) ≡ map f names = sym (map-append f (take n names) (drop n names)) ∙ ap (map f) (take-append-drop n names) in
+      record {
+        steps = h.steps;
+        answers = h.answers;
+        ran = h.ran;
+        come = subst (λ pairs. PairsCome pairs h.steps h.answers t result u) all (come_more (map f (take n names)) (map f (drop n names)) h.steps h.answers t u first result r e is h.come);
+      }
+
+  -- the pairs of names, one name more
+  module _ (f : Bytes → Bytes × Bytes) (names : List Bytes) (i : ℕ) (name : Bytes) (lt : i < length names) (is : name ≡ slice_index_or names i name) where
+    taken : map f (take (i + 1) names) ≡ map f (take i names) ++ f name ∷ []
+    taken = ap (map f) (take_more names i name lt ∙ ap (λ (n : Bytes). take i names ++ n ∷ []) (sym is)) ∙ map-append f (take i names) (name ∷ [])
+
+    pub pairs_more : {X : Type 0} (t u v : Tally) (result : Result X Refusal) (sites mid new : List SeenNode) → MakesPairs g sites (map f (take i names)) t done u mid
+        → MakesPairs g mid (f name ∷ []) u result v new → MakesPairs g sites (map f (take (i + 1) names)) t result v new
+    pairs_more t u v result sites mid new h k =
+        subst (λ pairs. MakesPairs g sites pairs t result v new) (sym taken) (pairs_on (map f (take i names)) (f name ∷ []) t u v result sites mid new h k)
+
+  -- one exchange, by where it ends
+  module _ (a b : Bytes) (t : Tally) (sites : List SeenNode) where
+    pair_of : {X : Type 0} (steps : List Step) (answers : List Answered) (x : X) (u : Tally) (new : List SeenNode) → RanSteps g sites steps answers new → IsExchange a b steps answers → NotesAll answers t u → MakesPairs g sites ((a, b) ∷ []) t (Ok x) u new
+    pair_of steps answers x u new ran is notes = record { steps = steps; answers = answers; ran = ran; come = (one_pair a b steps answers is, notes) }
+
+    ended : {X : Type 0} (steps : List Step) (answers : List Answered) (r : Refusal) (result : Result X Refusal) (u : Tally) (new : List SeenNode) → IsErrAnd result (λ q. q ≡ r) → RanSteps g sites steps answers new → EndsIn a b steps answers r
+        → MakesPairs g sites ((a, b) ∷ []) t result u new
+    ended steps answers r result u new e ran is = record { steps = steps; answers = answers; ran = ran; come = come_as ((a, b) ∷ []) steps answers t u result r e (inl is) }
+
+    ends_ship : (answer : Answered) (u : Tally) (r : Refusal) → IsShipNotedAs answer t (Err r) u → StepEnds answer r × (r ≢ UpToDate)
+    ends_ship (Ok x) u r h = (h, λ e. memory_is_not (sym h ∙ e))
+    ends_ship (Err q) u r h = h
+
+    -- the ship ended it
+    pub pair_unsent : {X : Type 0} (u : Tally) (r : Refusal) (result : Result X Refusal) (new : List SeenNode) → IsErrAnd result (λ q. q ≡ r) → ShipsOne g sites a b t (Err r) u new → MakesPairs g sites ((a, b) ∷ []) t result u new
+    pair_unsent u r result new e s =
+        let k = ends_ship s.answer u r s.noted in
+        ended (ship_of a b ∷ []) (s.answer ∷ []) r result u new e (new, s.goes, refl) (inl (record { last = s.answer; steps_are = refl; answers_are = refl; ends = k.0; not_passed = k.1 }))
+
+    passed : (answer : Answered) (u : Tally) (new : List SeenNode) → StepGoes g sites (ship_of a b) answer new → IsShipNotedAs answer t (Ok None) u → MakesPairs g sites ((a, b) ∷ []) t done u new
+    passed (Ok x) u new goes h =
+        pair_of (ship_of a b ∷ []) (Ok x ∷ []) tt u new (new, goes, refl)
+        (inr (x, [], [], refl, refl, subst (λ (o : Option ℕ). IsBrought a b o [] []) h.0 (refl, refl))) h.1
+    passed (Err q) u new goes h =
+        pair_of (ship_of a b ∷ []) (Err q ∷ []) tt u new (new, goes, refl)
+        (inl (refl, ap (λ (p : Refusal). let rs : List Answered = Err p ∷ [] in rs) h.0)) (notes_passed t u q h.2)
+
+    -- it was up to date
+    pub pair_passed : (u : Tally) (new : List SeenNode) → ShipsOne g sites a b t (Ok None) u new → MakesPairs g sites ((a, b) ∷ []) t done u new
+    pair_passed u new s = passed s.answer u new s.goes s.noted
+
+    -- a ship that was numbered
+    pub record Sent (k : ℕ) (u : Tally) (mid : List SeenNode) : Type 0 where
+      pub shipped : Answer
+      pub goes : StepGoes g sites (ship_of a b) (Ok shipped) mid
+      pub number : shipped.number ≡ Some k
+      pub notes : NotesAll (Ok shipped ∷ []) t u
+
+    sent_as : (answer : Answered) (k : ℕ) (u : Tally) (mid : List SeenNode) → StepGoes g sites (ship_of a b) answer mid → IsShipNotedAs answer t (Ok (Some k)) u → Sent k u mid
+    sent_as (Ok x) k u mid goes h = record { shipped = x; goes = goes; number = sym h.0; notes = h.1 }
+    sent_as (Err q) k u mid goes h = absurd (none-some k (sym h.1))
+
+    pub sent : (k : ℕ) (u : Tally) (mid : List SeenNode) → ShipsOne g sites a b t (Ok (Some k)) u mid → Sent k u mid
+    sent k u mid s = sent_as s.answer k u mid s.goes s.noted
+
+    module _ (k : ℕ) (u : Tally) (mid : List SeenNode) (s : Sent k u mid) where
+      ends_one : (answer : Answered) (u v : Tally) (r : Refusal) → IsNotedAs answer u (Err r) v → StepEnds answer r
+      ends_one (Ok x) u v r h = h
+      ends_one (Err q) u v r h = h.0
+
+      -- its delivery ended it
+      pub pair_unbrought : {X : Type 0} (v : Tally) (r : Refusal) (result : Result X Refusal) (new : List SeenNode) → IsErrAnd result (λ q. q ≡ r) → MakesOne g mid (arrival a k) u (Err r) v new → MakesPairs g sites ((a, b) ∷ []) t result v new
+      pair_unbrought v r result new e m =
+          ended (ship_of a b ∷ arrival a k ∷ []) (Ok s.shipped ∷ m.answer ∷ []) r result v new e (mid, s.goes, (new, m.goes, refl))
+          (inr (inl (record { shipped = s.shipped; k = k; number = s.number; last = m.answer; steps_are = refl; answers_are = refl; ends = ends_one m.answer u v r m.noted })))
+
+      -- a delivery that was answered
+      pub record Came (o : Option ℕ) (v : Tally) (near : List SeenNode) : Type 0 where
+        pub came : Answer
+        pub goes : StepGoes g mid (arrival a k) (Ok came) near
+        pub number : came.number ≡ o
+        pub notes : NotesAll (Ok s.shipped ∷ Ok came ∷ []) t v
+
+      came_as : (answer : Answered) (o : Option ℕ) (v : Tally) (near : List SeenNode) → StepGoes g mid (arrival a k) answer near → IsNotedAs answer u (Ok o) v → Came o v near
+      came_as (Ok x) o v near goes h = record { came = x; goes = goes; number = sym h.0; notes = notes_then (Ok s.shipped ∷ []) (Ok x ∷ []) t u v s.notes h.1 }
+      came_as (Err q) o v near goes h = absurd h
+
+      pub came : (o : Option ℕ) (v : Tally) (near : List SeenNode) → MakesOne g mid (arrival a k) u (Ok o) v near → Came o v near
+      came o v near m = came_as m.answer o v near m.goes m.noted
+
+      brought : (x : Answer) (more : List Step) (rest : List Answered) → IsToldOn b x.number more rest → IsBrought a b s.shipped.number (arrival a k ∷ more) (Ok x ∷ rest)
+      brought x more rest h = subst (λ (o : Option ℕ). IsBrought a b o (arrival a k ∷ more) (Ok x ∷ rest)) (sym s.number) (x, more, rest, refl, refl, h)
+
+      -- no message left with it
+      pub pair_silent : (v : Tally) (new : List SeenNode) → Came None v new → MakesPairs g sites ((a, b) ∷ []) t done v new
+      pair_silent v new c =
+          pair_of (ship_of a b ∷ arrival a k ∷ []) (Ok s.shipped ∷ Ok c.came ∷ []) tt v new (mid, s.goes, (new, c.goes, refl))
+          (inr (s.shipped, arrival a k ∷ [], Ok c.came ∷ [], refl, refl, brought c.came [] [] (subst (λ (o : Option ℕ). IsToldOn b o [] []) (sym c.number) (refl, refl)))) c.notes
+
+      module _ (n : ℕ) (v : Tally) (near : List SeenNode) (c : Came (Some n) v near) where
+        -- the acknowledgement's delivery ended it
+        pub pair_untold : {X : Type 0} (z : Tally) (r : Refusal) (result : Result X Refusal) (new : List SeenNode) → IsErrAnd result (λ q. q ≡ r) → MakesOne g near (arrival b n) v (Err r) z new → MakesPairs g sites ((a, b) ∷ []) t result z new
+        pair_untold z r result new e m =
+            ended (ship_of a b ∷ arrival a k ∷ arrival b n ∷ []) (Ok s.shipped ∷ Ok c.came ∷ m.answer ∷ []) r result z new e (mid, s.goes, (near, c.goes, (new, m.goes, refl)))
+            (inr (inr (record { shipped = s.shipped; k = k; number = s.number; came = c.came; n = n; acknowledges = c.number; last = m.answer; steps_are = refl; answers_are = refl; ends = ends_one m.answer v z r m.noted })))
+
+        told : (answer : Answered) (o : Option ℕ) (z : Tally) (new : List SeenNode) → StepGoes g near (arrival b n) answer new → IsNotedAs answer v (Ok o) z → MakesPairs g sites ((a, b) ∷ []) t done z new
+        told (Ok y) o z new goes h =
+            pair_of (ship_of a b ∷ arrival a k ∷ arrival b n ∷ []) (Ok s.shipped ∷ Ok c.came ∷ Ok y ∷ []) tt z new (mid, s.goes, (near, c.goes, (new, goes, refl)))
+            (inr (s.shipped, arrival a k ∷ arrival b n ∷ [], Ok c.came ∷ Ok y ∷ [], refl, refl, brought c.came (arrival b n ∷ []) (Ok y ∷ []) (subst (λ (p : Option ℕ). IsToldOn b p (arrival b n ∷ []) (Ok y ∷ [])) (sym c.number) (y, refl, refl))))
+            (notes_then (Ok s.shipped ∷ Ok c.came ∷ []) (Ok y ∷ []) t v z c.notes h.1)
+        told (Err q) o z new goes h = absurd h
+
+        -- all three were made
+        pub pair_done : (o : Option ℕ) (z : Tally) (new : List SeenNode) → MakesOne g near (arrival b n) v (Ok o) z new → MakesPairs g sites ((a, b) ∷ []) t done z new
+        pair_done o z new m = told m.answer o z new m.goes m.noted
+
+  -- settling
+  cut : (sites : List SeenNode) (steps : List Step) (answers : List Answered) (result : Result Settled Refusal) (r : Refusal) → IsErrAnd result (λ q. q ≡ r) → IsToldBy sites steps answers (Err r) → IsToldBy sites steps answers result
+  cut sites steps answers (Ok s) r e h = absurd e
+  cut sites steps answers (Err q) r e h = subst (λ (p : Refusal). IsToldBy sites steps answers (Err p)) (sym e) h
+
+  settles : (sites new : List SeenNode) (steps : List Step) (answers : List Answered) (result : Result Settled Refusal) → RanSteps g sites steps answers new → IsToldBy sites steps answers result → SettlesBy g sites result new
+  settles sites new steps answers result ran told = record { steps = steps; answers = answers; ran = ran; told = told; leads = leads_on g sites new steps answers ran }
+
+  -- no memory for the names
+  pub settles_unnamed : (sites : List SeenNode) (result : Result Settled Refusal) → IsErrAnd result (λ q. q ≡ OutOfMemory) → SettlesBy g sites result sites
+  settles_unnamed sites result e = settles sites sites [] [] result refl (cut sites [] [] result OutOfMemory e (inl (refl, refl, refl)))
+
+  -- no node runs
+  pub settles_none : (sites : List SeenNode) (t : Tally) (settled : Settled) → IsSorted text_cmp [] → IsPermutation (running sites) [] → IsBegun t → settled.messages ≡ length t.sent.items → settled.effects.items ≡ t.effects.items
+      → SettlesBy g sites (Ok settled) sites
+  settles_none sites t settled sorted all b m e = settles sites sites [] [] (Ok settled) refl ([], record { sorted = sorted; all = all }, (refl, refl), m ∙ ap length b.0, e ∙ b.1)
+
+  module _ (first : Bytes) (others : List Bytes) (t u v : Tally) (sites mid new : List SeenNode) (sorted : IsSorted text_cmp (first ∷ others)) (all : IsPermutation (running sites) (first ∷ others)) where
+    pub settles_in : (r : Refusal) (result : Result Settled Refusal) → IsErrAnd result (λ q. q ≡ r) → MakesPairs g sites (map (ends In first) others) t (let x : Result (Unit {0}) Refusal = Err r in x) u new → SettlesBy g sites result new
+    settles_in r result e h =
+        settles sites new h.steps h.answers result h.ran
+        (cut sites h.steps h.answers result r e (inr (first ∷ others, record { sorted = sorted; all = all }, ends_more (map (ends In first) others) (map (ends Out first) others) h.steps h.answers r h.come)))
+
+    pub settles_out : (r : Refusal) (result : Result Settled Refusal) → IsErrAnd result (λ q. q ≡ r) → MakesPairs g sites (map (ends In first) others) t done u mid
+        → MakesPairs g mid (map (ends Out first) others) u (let x : Result (Unit {0}) Refusal = Err r in x) v new → SettlesBy g sites result new
+    settles_out r result e h k =
+        let both = pairs_on (map (ends In first) others) (map (ends Out first) others) t u v (let x : Result (Unit {0}) Refusal = Err r in x) sites mid new h k in
+        settles sites new both.steps both.answers result both.ran (cut sites both.steps both.answers result r e (inr (first ∷ others, record { sorted = sorted; all = all }, both.come)))
+
+    pub settles_both : (settled : Settled) → IsBegun t → MakesPairs g sites (map (ends In first) others) t done u mid → MakesPairs g mid (map (ends Out first) others) u done v new
+        → settled.messages ≡ length v.sent.items → settled.effects.items ≡ v.effects.items → SettlesBy g sites (Ok settled) new
+    settles_both settled b h k m e =
+        let both = pairs_on (map (ends In first) others) (map (ends Out first) others) t u v done sites mid new h k in
+        let none : length t.sent.items ≡ 0 = ap length b.0 in
+        let notes = both.come.1 in
+        settles sites new both.steps both.answers (Ok settled) both.ran
+        (first ∷ others, record { sorted = sorted; all = all }, both.come.0, omega (arith, m, notes.messages, none), e ∙ notes.effects ∙ ap (λ (xs : List (Bytes × Effect)). xs ++ effects_in both.answers) b.1)

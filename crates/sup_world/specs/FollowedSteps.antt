@@ -1,0 +1,49 @@
+-- The clauses of a world's calls: a step is the one step of the definitions, and so follows the model.
+use Rattle.std.specs.Prelude.{◌≡◌, List, is_some, Result, Ok, Err}
+use Rattle.sup_tables.specs.States.{State}
+use Rattle.sup_placement.specs.Place.{Weigher}
+use Rattle.sup_replica.specs.declared.refusal.Refusal.{Refusal}
+use Rattle.sup_model.specs.declared.step.Step.{Step}
+use Rattle.sup_model.specs.Posts.{Real, RealAnswer}
+use Rattle.sup_model.specs.Worlds.{World, Answer as Expected}
+use Rattle.sup_model.specs.Runs.{Allows}
+use Rattle.sup_model.specs.Follows.{Makes, WorldStandsFor}
+use Rattle.sup_world.specs.declared.answer.Answer.{Answer}
+use Rattle.sup_world.specs.SeenNodes.{SeenNode}
+use Rattle.sup_world.specs.ToldAnswers.{ShowsReal, TellsOf}
+
+-- the answer and the world after it are those of the code's step in the definitions
+pub record MakesRealStep (weigher : Weigher) (real : Real State) (step : Step) (result : Result Answer Refusal) (new : List SeenNode) : Type 0 where
+  pub told : Result (RealAnswer State) Refusal
+  pub after : Real State
+  pub makes : Makes real step told after
+  pub tells : TellsOf told result
+  pub shows : ShowsReal weigher new after
+
+-- the world stands for one of the model
+pub record StandsFor (weigher : Weigher) (sites : List SeenNode) (model : World) : Type 0 where
+  pub real : Real State
+  pub shows : ShowsReal weigher sites real
+  pub stands : WorldStandsFor real model
+
+-- an answer beside the model's, but for what a letter brings; a letter is there exactly where its number is
+pub record IsAs (expected : Expected) (answer : Answer) : Type 0 where
+  pub at : answer.at ≡ expected.at
+  pub reply : answer.done.reply ≡ expected.done.reply
+  pub effects : answer.done.effects ≡ expected.done.effects
+  pub number : answer.number ≡ expected.number
+  pub lettered : is_some answer.done.out ≡ is_some answer.number
+
+abbrev pub IsAsOf : Result Expected Refusal → Result Answer Refusal → Type 0
+IsAsOf (Ok expected) (Ok answer) = IsAs expected answer
+IsAsOf (Ok expected) (Err r) = ⊥
+IsAsOf (Err q) (Ok answer) = ⊥
+IsAsOf (Err q) (Err r) = r ≡ q
+
+-- the world answers and becomes what the model allows
+pub record FollowsModel (weigher : Weigher) (model : World) (step : Step) (result : Result Answer Refusal) (new : List SeenNode) : Type 0 where
+  pub after : World
+  pub expected : Result Expected Refusal
+  pub allows : Allows model step expected after
+  pub told : IsAsOf expected result
+  pub stands : StandsFor weigher new after
