@@ -100,7 +100,7 @@ fn open<K: ImageKeeper, W: Weigh + Drop>(
         effects: Effects::new(Vec::new(alloc)),
         out: None,
     };
-    Ok(begun(alloc, name, station, done, weigher)?)
+    Ok(begun_with(alloc, name, station, done, weigher)?)
 }
 
 // The next boot of a node.
@@ -124,11 +124,11 @@ fn go_on<K: ImageKeeper, W: Weigh + Drop>(
         }
         Err(refusal) => return Err(BeginFault::Refused(refusal)),
     };
-    Ok(begun(alloc, name, station, done, weigher)?)
+    Ok(begun_with(alloc, name, station, done, weigher)?)
 }
 
 // A node that began with this station, by what was done.
-fn begun<K: ImageKeeper, W: Weigh + Drop>(
+fn begun_with<K: ImageKeeper, W: Weigh + Drop>(
     alloc: Global,
     name: NodeName,
     station: Station<K, W>,
