@@ -25,7 +25,6 @@ from supd import Node, Wrong, demand
 NUMBERS = [b"0", b"-0", b"1", b"2", b"1.0", b"1e0", b"-1", b"5000", b"4294967295", b"4294967296", b"9007199254740990", b"9007199254740991",
            b"9007199254740992", b"18446744073709551615", b"18446744073709551616", b"1e400", b"01"]
 SIGNS = b'{}[]",:\\-0123456789abv '
-TOOK = ("ok absorbed", "ok known", "ok acked")
 
 
 # -- real texts
@@ -141,6 +140,8 @@ def image_with(value, node, boot, count):
 
 def expected(text, node):
     """The answers that a delivery may have."""
+    if not re.fullmatch(rb"[ -~]*", text):
+        return ("bad line",)
     value = value_of(text, forms.MESSAGES)
     if isinstance(value, str):
         return ("refused 17 BadMessage",)
@@ -184,12 +185,10 @@ class Fuzz:
         answer = node.answer()
         first = answer[0] if answer else "no answer"
         may = expected(text, name)
-        if not re.fullmatch(rb"[!-~]*", text):
-            may += ("bad line",)
         if first not in may:
             self.wrong_of(text, "a node", name, "answered", first, "and by the rules", may)
         self.note(first)
-        if may[0] == "ok known" and first != "bad line":
+        if first in ("ok known", "ok absorbed"):
             self.read_back(name, text)
 
     def read_back(self, name, text):

@@ -127,12 +127,12 @@ fn full_tables_take_no_member_and_no_name_more(rt: HostRuntime) {
 }
 
 // The image of node a in this boot, which knows 10,000 dots of node b, each so far behind the one before it.
-fn clouded(rt: &(impl Abort + AllocGlobal), boot: u64, distance: u32) -> String {
+fn clouded(rt: &(impl Abort + AllocGlobal), boot: u64, distance: u64) -> String {
     let mut image = String::new(rt.alloc());
     write!(image, "{{\"boot\":{boot},\"count\":1,\"ctx\":{{\"cloud\":[").expect(rt, "room");
-    for place in 0..10000u32 {
+    for place in 0..10000u64 {
         let front = if place == 0 { "" } else { "," };
-        let counter = 2 + distance * place;
+        let counter = distance.saturating_mul(place).saturating_add(2);
         write!(image, "{front}[\"b\",{counter}]").expect(rt, "room");
     }
     let end = "],\"vector\":{}},\"kind\":\"image\",\"node\":\"a\",\"rows\":[],\"v\":2}";

@@ -41,7 +41,7 @@ fn expect_no_cut(rt: &impl Abort, world: &mut World<FlatWeigh>, from: &str, k: u
     let all = count.unwrap_or(0);
     assert!(rt; all > 40);
     for drop in 0..all {
-        let dropped = drop as u64 + 1;
+        let dropped = (drop as u64).saturating_add(1);
         let refused = refusal(rt, world, from, k, dropped);
         assert!(rt; refused == Some(Refusal::BadMessage), "{dropped}");
     }

@@ -17,21 +17,20 @@ const SIXTEEN: &str =
 const SIXTEEN_TOLD: &str =
     "ok (a,1)\nok (b,1)\nok (c,1)\nok (d,1)\nok (e,1)\nok (f,1)\nok (g,1)\nok (h,1)\nok (i,1)\nok (j,1)\nok (k,1)\nok (l,1)\nok (m,1)\nok (n,1)\nok (o,1)\nok (p,1)\nok (p,2)\n  p start web 1.1\nok settled 60\n  a start web 1.1\n  p stop web 1.1\nnode p boot 1\nmember a (a,1) label=\nmember b (b,1) label=\nmember c (c,1) label=\nmember d (d,1) label=\nmember e (e,1) label=\nmember f (f,1) label=\nmember g (g,1) label=\nmember h (h,1) label=\nmember i (i,1) label=\nmember j (j,1) label=\nmember k (k,1) label=\nmember l (l,1) label=\nmember m (m,1) label=\nmember n (n,1) label=\nmember o (o,1) label=\nmember p (p,1) label=\nchild web (p,2) worker permanent 5000 arg= on a\n";
 
-// Puts a word of this many bytes behind the text.
-fn put_word(rt: &impl Abort, text: &mut String, bytes: &str, count: usize) {
-    let times = count / bytes.len().max(1);
+// Puts this behind the text so many times.
+fn put_times(rt: &impl Abort, text: &mut String, more: &str, times: u32) {
     for _ in 0..times {
-        text.push_str(bytes).expect(rt, "room");
+        text.push_str(more).expect(rt, "room");
     }
 }
 
 fn put_letter(rt: &impl Abort, text: &mut String, letter: char) {
     match letter {
-        'N' => put_word(rt, text, "n", 64),
-        'M' => put_word(rt, text, "www.", 128),
-        'I' => put_word(rt, text, "~id!", 128),
-        'K' => put_word(rt, text, "\\\"", 128),
-        'T' => put_word(rt, text, "t=\"\\", 1024),
+        'N' => put_times(rt, text, "n", 64),
+        'M' => put_times(rt, text, "www.", 32),
+        'I' => put_times(rt, text, "~id!", 32),
+        'K' => put_times(rt, text, "\\\"", 64),
+        'T' => put_times(rt, text, "t=\"\\", 256),
         letter => text.push(letter).expect(rt, "room"),
     }
 }
