@@ -13,6 +13,7 @@ import argparse
 import pathlib
 import random
 import re
+import signal
 import sys
 import tempfile
 
@@ -249,6 +250,7 @@ def main():
     for name, count in ("messages", 95_000), ("images", 5_000), ("seed", 1):
         words.add_argument(f"--{name}", type=int, default=count)
     asked = words.parse_args()
+    signal.signal(signal.SIGTERM, lambda number, _: sys.exit(128 + number))
     with tempfile.TemporaryDirectory() as folder:
         fuzz = Fuzz(asked, pathlib.Path(folder))
         try:
