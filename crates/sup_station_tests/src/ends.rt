@@ -1,5 +1,5 @@
 //! Rows of stations whose counters, tables or dots are nearly spent: the last one is given, and then none.
-use crate::images::full;
+use crate::many_children::full;
 use crate::stage::plays_from;
 use std::fmt::Write;
 use std::process::Abort;

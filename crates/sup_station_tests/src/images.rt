@@ -1,8 +1,7 @@
 //! Rows of a station that goes on from an image that is given: of spent counters, of full tables, of another node, or none.
 //! Vectors of the formats, as far as contexts that list their dots allow.
+use crate::many_children::full;
 use crate::stage::{plays, plays_from};
-use std::fmt::Write;
-use std::process::Abort;
 use sup_replica::Config;
 
 /// A child under the last dot that node a can give.
@@ -89,25 +88,6 @@ fn a_drain_asks_for_the_member_then_for_its_status_then_for_a_dot(rt: HostRuntim
         "restart a\ndrain a c\ndrain a b\ndrain a a\n",
         "ok boot 2\nrefused 7 NotMember\nrefused 23 AlreadyDraining\nrefused 11 DotsSpent\n",
     );
-}
-
-/// An image of 10,000 children, c10000 to c19999, under the dots (a,1) to (a,10000).
-pub(crate) fn full(rt: &(impl Abort + AllocGlobal)) -> String {
-    let mut image = String::new(rt.alloc());
-    let opened = image.push_str(
-        "{\"boot\":1,\"count\":10000,\"ctx\":{\"cloud\":[],\"vector\":{\"a\":10000}},\"kind\":\"image\",\"node\":\"a\",\"rows\":[",
-    );
-    opened.expect(rt, "room");
-    for counter in 1..10001u32 {
-        let id = 9999 + counter;
-        let front = if counter == 1 { "" } else { "," };
-        write!(image, "{front}[\"child\",\"c{id}\",[\"a\",{counter}],").expect(rt, "room");
-        let spec =
-            "{\"arg\":\"\",\"kind\":\"worker\",\"restart\":\"permanent\",\"shutdown\":5000}]";
-        image.push_str(spec).expect(rt, "room");
-    }
-    image.push_str("],\"v\":1}").expect(rt, "room");
-    image
 }
 
 #[test]

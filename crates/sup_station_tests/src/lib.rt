@@ -19,6 +19,8 @@ mod keepers;
 #[cfg(test)]
 mod line;
 #[cfg(test)]
+mod many_children;
+#[cfg(test)]
 mod refused;
 #[cfg(test)]
 mod rows;
@@ -34,3 +36,7 @@ mod stage;
 mod told;
 #[cfg(test)]
 mod unreadable;
+#[cfg(test)]
+mod walked_acts;
+#[cfg(test)]
+mod walks;
