@@ -20,8 +20,8 @@ use Rattle.sup_node_gate.specs.declared.view.Parts.{Parts}
 use Rattle.sup_node_gate.specs.declared.view.View.{View}
 use Rattle.sup_node_gate.specs.Parts.{counted_in, counted_at, IsLike}
 use Rattle.sup_node_gate.specs.Views.{IsAmongPlaces, PlacesRise, newcomer, taking, losing, raising, freeing, looking}
-use Rattle.sup_node_gate.specs.Rule.{OpensAt, SavesAll, FitsView, HasTurn, IsHome, IsHeldBy, AllApart, RuleHolds, IsSeenAt, took, raises, raised, gave_back, looked, MayGiveBack, HasUncountedEntry}
-use Rattle.sup_node_gate.proofs.HistoryListLaws.{prefix_refl, prefix_longer, replays_one, saved_one, rises_more, rises_one, stands_below, stands_append, set_at, views_stay, apart_stays, held_stays}
+use Rattle.sup_node_gate.specs.Rule.{OpensAt, SavesAll, FitsView, HasTurn, IsHome, IsHeldBy, AllApart, AllOwned, RuleHolds, IsSeenAt, took, raises, raised, gave_back, looked, MayGiveBack, HasUncountedEntry}
+use Rattle.sup_node_gate.proofs.HistoryListLaws.{prefix_refl, prefix_longer, replays_one, saved_one, rises_more, rises_one, stands_below, stands_append, set_at, views_stay, apart_stays, held_stays, owned_stays, owned_one}
 
 opens_at : (o : P.Option Parts) (start x : Parts) → OpensAt o start → o ≡ Some x → x ≡ start
 opens_at (Some y) start x h e = let same : y ≡ x = cc in sym same ∙ h
@@ -82,6 +82,7 @@ module _ {H : Type 0} where
       each_turn = views_stay (λ j d. HasTurn r.held (get_or s.words 1 0) r.holder j d.turn) s.views me w
           (subst (HasTurn r.held (get_or s.words 1 0) r.holder me) (sym turn) (r.each_turn me v at)) (λ j d _. r.each_turn j d);
       apart = apart_stays s.views me v w at own r.apart;
+      owned = owned_stays s.views me (length r.held.history) v w at (λ p t. subst (IsAmongPlaces p) (sym own) t) r.owned;
     }
 
     seen_at : (s : State (P.Option H) View) (r : RuleHolds sight g start bound s) (me : ℕ) (v : View) → get_elem? s.views me ≡ some v → IsSeenAt g v r.held
@@ -138,6 +139,7 @@ module _ {H : Type 0} where
             each_turn = views_stay (λ j d. HasTurn held (get_or (set s.words 1 1) 1 0) id j d.turn) s.views id w (now, refl, refl)
                 (λ j d _ there. turns_none r.held held (get_or s.words 1 0) _ r.holder id j d.turn z (r.each_turn j d there));
             apart = apart_stays s.views id me.0 w at refl r.apart;
+            owned = subst (λ (l : List Entry). AllOwned (set s.views id w) (length l)) (sym like.0) (owned_stays s.views id (length r.held.history) me.0 w at (λ p t. t) r.owned);
           },
           (held, seen_like me.0 held r.held like (seen_at s r id me.0 at), (λ _. (h, refl, refl)), (λ n. absurd (n z))),
         ))
@@ -174,6 +176,7 @@ module _ {H : Type 0} where
             each_turn = views_stay (λ j d. HasTurn r.held (get_or (set s.words 1 0) 1 0) id j d.turn) s.views id w tt
                 (λ j d other there. turns_other r.held r.held (get_or s.words 1 0) _ r.holder id j d.turn (λ e. other (e ∙ sym t.1)) (r.each_turn j d there));
             apart = apart_stays s.views id me.0 w at refl r.apart;
+            owned = owned_stays s.views id (length r.held.history) me.0 w at (λ p t. t) r.owned;
           },
           refl,
         )
@@ -210,6 +213,7 @@ module _ {H : Type 0} where
             each_turn = views_stay (λ j d. HasTurn held (get_or (set s.words 0 z) 1 0) id j d.turn) s.views id w (turn_word, refl, refl)
                 (λ j d other there. turns_other r.held _ (get_or s.words 1 0) _ r.holder id j d.turn (λ e. other (e ∙ sym t.1)) (r.each_turn j d there));
             apart = apart_longer s.views id n me.0 w at refl (λ j d there. (fits j d there).3) r.apart;
+            owned = subst (AllOwned (set s.views id w)) (omega (arith, more)) (owned_one s.views id n me.0 w at refl (subst (λ (l : Holding). AllOwned s.views (length l.history)) (sym t.2) r.owned));
           },
           λ k k' has' out'. let same : had ≡ k = cc in let same' : h ≡ k' = ap (slot_or h) (sym out ∙ out') in (λ i. (raising me.0 (length (same i).history) (sight (same' i)), me.1)),
         )
@@ -233,4 +237,5 @@ module _ {H : Type 0} where
       each_view = λ j v there. subst (λ (d : View). FitsView start [] d) (only opening j v there) (starts, ([], refl), ([], refl), zero-le);
       each_turn = λ j v there. subst (λ (d : View). HasTurn record { history = []; parts = opening } 0 0 j d.turn) (only opening j v there) tt;
       apart = λ i j p v u at_i at_j in_v in_u. absurd (subst (λ (d : View). IsAmongPlaces p d.own) (sym (only opening i v at_i)) in_v);
+      owned = λ p lt. absurd (omega (arith, lt));
     }

@@ -17,9 +17,9 @@ use Rattle.sup_node_gate.specs.declared.view.Parts.{Parts}
 use Rattle.sup_node_gate.specs.declared.view.View.{View}
 use Rattle.sup_node_gate.specs.Parts.{counted_at, IsLike}
 use Rattle.sup_node_gate.specs.Views.{IsAmongPlaces, PlacesRise, merged, first, second, spent, joining}
-use Rattle.sup_node_gate.specs.Rule.{OpensAt, FitsView, HasTurn, IsHeldBy, AllApart, RuleHolds}
-use Rattle.sup_node_gate.proofs.HistoryListLaws.{set_at, views_stay, apart_stays, held_stays}
-use Rattle.sup_node_gate.proofs.PlaceListLaws.{stands_merged, rises_merged}
+use Rattle.sup_node_gate.specs.Rule.{OpensAt, FitsView, HasTurn, IsHeldBy, AllApart, AllOwned, RuleHolds}
+use Rattle.sup_node_gate.proofs.HistoryListLaws.{set_at, views_stay, apart_stays, held_stays, owned_stays, owned_more}
+use Rattle.sup_node_gate.proofs.PlaceListLaws.{stands_merged, rises_merged, merged_left, merged_right}
 
 pub index_at : {A : Type 0} (l : List A) (i : ℕ) (a d : A) → get_elem? l i ≡ some a → get_or l i d ≡ a
 index_at [] i a d e = absurd (some-ne-none a (sym e))
@@ -47,6 +47,16 @@ module _ (vs : List View) (id other : ℕ) (v u : View) (at : get_elem? vs id �
       (λ (x : (i ≢ id) × (i ≢ other) × (get_elem? vs i ≡ some a)). ⊎_elim (λ (y : (j ≡ id) × (IsAmongPlaces p v.own ⊎ IsAmongPlaces p u.own)). absurd (mine i p a y.1 x.0 x.1 x.2 in_a))
       (λ (y : (j ≢ id) × (j ≢ other) × (get_elem? vs j ≡ some b)). apart i j p a b x.2 y.2 in_a in_b) (from j p b at_j in_b))
       (from i p a at_i in_a)
+
+joined_owned : (vs : List View) (id other n : ℕ) (v u : View) → get_elem? vs id ≡ some v → get_elem? vs other ≡ some u → AllOwned vs n → other ≢ id → AllOwned (set (set vs id (joining v u)) other spent) n
+joined_owned vs id other n v u at there owned not p lt =
+    let o = owned p lt in
+    let both : get_elem? (set (set vs id (joining v u)) other spent) id ≡ some (joining v u) = set_else (set vs id (joining v u)) other id spent (λ e. not (sym e)) ∙ set_at vs id v (joining v u) at in
+    dite (ℕ_discrete o.0 id)
+    (λ (e : o.0 ≡ id). let is : v ≡ o.1 = some-injective v o.1 (sym at ∙ subst (λ (z : ℕ). get_elem? vs z ≡ some o.1) e o.2) in (id, joining v u, both, merged_left u.own v.own p (subst (λ (w : View). IsAmongPlaces p w.own) (sym is) o.3)))
+    (λ here. dite (ℕ_discrete o.0 other)
+    (λ (e : o.0 ≡ other). let is : u ≡ o.1 = some-injective u o.1 (sym there ∙ subst (λ (z : ℕ). get_elem? vs z ≡ some o.1) e o.2) in (id, joining v u, both, merged_right u.own v.own p (subst (λ (w : View). IsAmongPlaces p w.own) (sym is) o.3)))
+    (λ ne. (o.0, o.1, set_else (set vs id (joining v u)) other o.0 spent ne ∙ (set_else vs id o.0 (joining v u) here ∙ o.2), o.3)))
 
 free_has : (u : View) (h : Holding) → is_some u.turn ≡ false → u.turn ≡ Some h → ⊥
 free_has u h e f = let bad : true ≡ false = sym (ap is_some f) ∙ e in cc
@@ -77,6 +87,7 @@ module _ {H : Type 0} (sight : H → Holding) (g : Weigher) (start : Parts) (bou
         apart = λ i j p a b at_i at_j in_a in_b. ⊎_elim
             (λ (x : get_elem? vs i ≡ some a). ⊎_elim (λ (y : get_elem? vs j ≡ some b). apart i j p a b x y in_a in_b) (λ (y : second v ≡ b). absurd (subst (λ (z : View). IsAmongPlaces p z.own) (sym y) in_b)) (at_snoc vs (second v) b j at_j))
             (λ (x : second v ≡ a). absurd (subst (λ (z : View). IsAmongPlaces p z.own) (sym x) in_a)) (at_snoc vs (second v) a i at_i);
+        owned = owned_more vs (second v) (length r.held.history) (owned_stays s.views id (length r.held.history) v (first v) at (λ p t. t) r.owned);
       }
 
   pub joins : (id : ℕ) (v : View) (other : ℕ) (u : View) → is_some u.turn ≡ false → Joins (RuleHolds sight g start bound) id v other u (joining v u) spent
@@ -97,6 +108,7 @@ module _ {H : Type 0} (sight : H → Holding) (g : Weigher) (start : Parts) (bou
         each_turn = views_stay (λ j d. HasTurn r.held (get_or s.words 1 0) r.holder j d.turn) (set s.views id both) other spent tt
             (λ j d _. views_stay (λ j d. HasTurn r.held (get_or s.words 1 0) r.holder j d.turn) s.views id both (r.each_turn id v at) (λ j d _. r.each_turn j d) j d);
         apart = joined_apart s.views id other v u at there r.apart not;
+        owned = joined_owned s.views id other (length r.held.history) v u at there r.owned not;
       }
 
   module _ (id : ℕ) (v : View) (ws : List ℕ) (xs : List (P.Option H)) (last : Final (Seen (RuleHolds sight g start bound) id v) ws xs) where

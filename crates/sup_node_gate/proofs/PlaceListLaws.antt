@@ -37,3 +37,19 @@ pub rises_merged : (ys xs : List ℕ) (low high : ℕ) → PlacesRise 0 xs high 
 rises_merged [] xs low high r t miss = r
 rises_merged (y ∷ ys) xs low high r t miss = let b = below ys (suc y) high t.1 in rises_merged ys (placed y xs) (suc y) high (rises_placed y xs 0 high r (omega arith) (omega arith) (λ s. miss y s (inl refl))) t.1
     (λ q s u. ⊎_elim (λ (e : q ≡ y). let a = above ys (suc y) high q t.1 u in absurd (omega arith)) (λ (v : IsAmongPlaces q xs). miss q v (inr u)) (stands_placed y q xs s))
+
+placed_there : (p : ℕ) (xs : List ℕ) → IsAmongPlaces p (placed p xs)
+placed_there p [] = inl refl
+placed_there p (x ∷ xs) = cases p x xs (λ l. IsAmongPlaces p l) (λ _. inl refl) (λ _. inr (placed_there p xs))
+
+placed_keeps : (p q : ℕ) (xs : List ℕ) → IsAmongPlaces q xs → IsAmongPlaces q (placed p xs)
+placed_keeps p q [] s = absurd s
+placed_keeps p q (x ∷ xs) s = cases p x xs (λ l. IsAmongPlaces q l) (λ _. inr s) (λ _. ⊎_elim (λ (e : q ≡ x). inl e) (λ (t : IsAmongPlaces q xs). inr (placed_keeps p q xs t)) s)
+
+pub merged_left : (ys xs : List ℕ) (q : ℕ) → IsAmongPlaces q xs → IsAmongPlaces q (merged xs ys)
+merged_left [] xs q s = s
+merged_left (y ∷ ys) xs q s = merged_left ys (placed y xs) q (placed_keeps y q xs s)
+
+pub merged_right : (ys xs : List ℕ) (q : ℕ) → IsAmongPlaces q ys → IsAmongPlaces q (merged xs ys)
+merged_right [] xs q s = absurd s
+merged_right (y ∷ ys) xs q s = ⊎_elim (λ (e : q ≡ y). merged_left ys (placed y xs) q (subst (λ (z : ℕ). IsAmongPlaces z (placed y xs)) (sym e) (placed_there y xs))) (λ (t : IsAmongPlaces q ys). merged_right ys (placed y xs) q t) s
