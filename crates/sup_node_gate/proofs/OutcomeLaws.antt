@@ -1,5 +1,5 @@
 -- What the steps of a call come to.
-use Rattle.std.proofs.Common.{◌≡◌, ℕ, suc, ◌+◌, ◌≢◌, List, [], ◌∷◌, ◌++◌, append_assoc, map, length, sym, refl, ap, ◌∙◌, subst, arith, length-append, Ok, Err, Some, None}
+use Rattle.std.proofs.Common.{◌≡◌, ℕ, suc, ◌+◌, ◌≢◌, List, [], ◌∷◌, ◌++◌, append_assoc, map, length, sym, refl, ap, ◌∙◌, true, subst, arith, length-append, Ok, Err, Some, None}
 use mathlib.Core.Option.{Option, some}
 use mathlib.Core.List.{map-append}
 use lib.ListN.{get_elem?}
@@ -19,6 +19,7 @@ use Rattle.sup_node_gate.specs.Views.{PlacesRise, calls_of, taking, raising, fre
 use Rattle.sup_node_gate.specs.Holdings.{AddsEntry}
 use Rattle.sup_node_gate.specs.Rule.{IsSeenAt, IsTurnTaken}
 use Rattle.sup_node_gate.specs.Calls.{EntersCall, KeepsOwn, IsFull, HasNoMemory, RefusesCall, ActsInTurn, JoinedViews, MayAct, IsIdle}
+use Rattle.sup_node_gate.specs.Shares.{is_shared}
 use Rattle.sup_node_gate.proofs.GateRuleLaws.{slot_or}
 use Rattle.sup_node_gate.proofs.HistoryListLaws.{replays_one, rises_one, entries_more}
 
@@ -56,7 +57,7 @@ pub looked_keeps : (g : Weigher) (start : Parts) (v : View) (h : Holding) → v.
 looked_keeps g start v h opens seen = record { begins = seen.0; replays = (counted_at h, seen.3 start opens); places = refl; rises = seen.2 }
 
 pub looked_joins : (g : Weigher) (start : Parts) (v u : View) (h : Holding) → v.opening ≡ Some start → IsSeenAt g (joining v u) h → JoinedViews g (counted_in start) v u (looking (joining v u) h.history)
-looked_joins g start v u h opens seen = record { begins = seen.0; others = seen.1; replays = (counted_at h, seen.3 start opens); places = refl; rises = seen.2; tries = refl; splits = refl }
+looked_joins g start v u h opens seen = record { begins = seen.0; others = seen.1; replays = (counted_at h, seen.3 start opens); places = refl; rises = seen.2; tries = refl; splits = refl; shares = refl }
 
 module _ {H : Type 0} where
   -- the turn is taken, and the slot with it
@@ -66,19 +67,19 @@ module _ {H : Type 0} where
       let taken = subst (λ (x : Holding). IsSeenAt g m.0 x × (m' ≡ (taking m.0 x, (0, Some h) ∷ []))) (sym same) (seen, all) in (h, taken.0, taken.1)
 
   -- a pass that took the turn may act
-  pub may_act : (sight : H → Holding) (g : Weigher) (opening : Parts) (m m' : Me (P.Option H) View) → IsTurnTaken sight g m m' → m.0.told ≡ [] → m.0.opening ≡ Some opening → PlacesRise 0 m.0.own (length m.0.seen)
+  pub may_act : (sight : H → Holding) (g : Weigher) (opening : Parts) (m m' : Me (P.Option H) View) → IsTurnTaken sight g m m' → m.0.told ≡ [] → m.0.opening ≡ Some opening → PlacesRise 0 m.0.own (length m.0.seen) → is_shared m.0.shares ≡ true
       → MayAct sight g opening m'
-  may_act sight g opening m m' t told opens placed = subst (λ (x : Me (P.Option H) View). MayAct sight g opening x) (sym t.2) (t.0, refl, refl, told, opens, t.1, placed, refl)
+  may_act sight g opening m m' t told opens placed shared = subst (λ (x : Me (P.Option H) View). MayAct sight g opening x) (sym t.2) (t.0, refl, refl, told, opens, t.1, placed, refl, shared)
 
   -- what is lent of a slot is what the seat has there
   pub lent_slot : (m : Me (P.Option H) View) (h : H) (lent : P.Option H) (held : H) → m.1 ≡ (0, Some h) ∷ [] → m.1 ≡ (0, lent) ∷ rest m.1 → lent ≡ Some held → held ≡ h
   lent_slot m h lent held out there is = ap (slot_or held) ((λ i. (0, sym is i) ∷ rest m.1) ∙ (sym there ∙ out))
 
 -- once the turn is given back
-pub idle_after : {H : Type 0} (m : Me (P.Option H) View) (v w : View) → m ≡ (freeing w, []) → w.told ≡ [] → PlacesRise 0 w.own (length w.seen) → w.opening ≡ v.opening → w.tries ≡ v.tries → w.splits ≡ v.splits
-    → IsIdle m × (m.0.opening ≡ v.opening) × (m.0.tries ≡ v.tries) × (m.0.splits ≡ v.splits)
-idle_after {H = H} m v w is told rises opening tries splits =
-    subst (λ (x : Me (P.Option H) View). IsIdle x × (x.0.opening ≡ v.opening) × (x.0.tries ≡ v.tries) × (x.0.splits ≡ v.splits)) (sym is) ((refl, told, refl, rises), opening, tries, splits)
+pub idle_after : {H : Type 0} (m : Me (P.Option H) View) (v w : View) → m ≡ (freeing w, []) → w.told ≡ [] → PlacesRise 0 w.own (length w.seen) → w.opening ≡ v.opening → w.tries ≡ v.tries → w.splits ≡ v.splits → w.shares ≡ v.shares → is_shared v.shares ≡ true
+    → IsIdle m × (m.0.opening ≡ v.opening) × (m.0.tries ≡ v.tries) × (m.0.splits ≡ v.splits) × (m.0.shares ≡ v.shares)
+idle_after {H = H} m v w is told rises opening tries splits shares shared =
+    subst (λ (x : Me (P.Option H) View). IsIdle x × (x.0.opening ≡ v.opening) × (x.0.tries ≡ v.tries) × (x.0.splits ≡ v.splits) × (x.0.shares ≡ v.shares)) (sym is) ((refl, told, refl, rises, ap is_shared shares ∙ shared), opening, tries, splits, shares)
 
 enters_same : (g : Weigher) (s : CountedStation) (v u : View) (e : Entry) (v' : View) → v.seen ≡ u.seen → v.own ≡ u.own → EntersCall g s v e v' → EntersCall g s u e v'
 enters_same g s v u e v' seen own x = record {

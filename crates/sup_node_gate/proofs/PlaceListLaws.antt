@@ -20,7 +20,7 @@ rises_placed p [] low high r a b miss = (a, omega arith)
 rises_placed p (x ∷ xs) low high r a b miss = cases p x xs (λ l. PlacesRise low l high) (λ less. (a, (omega arith, r.1)))
     (λ more. let apart : p ≢ x = λ e. miss (inl e) in (r.0, rises_placed p xs (suc x) high r.1 (omega arith) b (λ s. miss (inr s))))
 
-above : (xs : List ℕ) (low high p : ℕ) → PlacesRise low xs high → IsAmongPlaces p xs → low ≤ p
+pub above : (xs : List ℕ) (low high p : ℕ) → PlacesRise low xs high → IsAmongPlaces p xs → low ≤ p
 above [] low high p r s = absurd s
 above (x ∷ xs) low high p r s = let a = r.0 in ⊎_elim (λ (e : p ≡ x). omega arith) (λ (t : IsAmongPlaces p xs). let b = above xs (suc x) high p r.1 t in omega arith) s
 
