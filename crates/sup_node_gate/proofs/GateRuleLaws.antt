@@ -1,9 +1,8 @@
 -- Each step of the gate keeps its rule.
-use Rattle.std.proofs.Common.{◌≡◌, ℕ, zero, suc, ◌+◌, ◌%◌, ◌^◌, ◌<◌, ◌≤◌, ◌≢◌, ◌⊎◌, eqb, List, [], ◌∷◌, ◌++◌, length, get_or, set, sym, refl, ap, ◌∙◌, subst, inl, inr, ⊎_elim, arith, length-set, length-append, get_or-set_other, get_or-set_same, zero-le, None, Some}
+use Rattle.std.proofs.Common.{◌≡◌, ℕ, zero, suc, ◌+◌, ◌%◌, ◌^◌, ◌<◌, ◌≤◌, ◌≢◌, eqb, List, [], ◌∷◌, ◌++◌, length, get_or, set, sym, refl, ap, ◌∙◌, subst, ⊎_elim, arith, length-set, length-append, get_or-set_other, get_or-set_same, zero-le, None, Some}
 use Rattle.std.specs.Prelude.{is_some, true, false}
 use Rattle.std.specs.declared.option.Option as P
-use mathlib.Core.Logic.{dite}
-use mathlib.Core.Option.{Option, none, some, some-injective, some-ne-none}
+use mathlib.Core.Option.{none, some, some-injective, some-ne-none}
 use lib.ListN.{get_elem?}
 use lib.Seq.{set-get_or}
 use prog.Atomic.{either}
@@ -11,8 +10,7 @@ use Rattle.atomic_table.specs.Table as T
 use Rattle.atomic_table.specs.Table.{State, Me, step, keeps, takes, gives, stepped, rest, Allows, Valid, carried_after, homes_after}
 use Rattle.atomic_table.proofs.Lists.{at_set, set_here, exchanged}
 use Rattle.sup_placement.specs.Place.{Weigher}
-use Rattle.sup_replica.specs.declared.event.Act.{Act}
-use Rattle.sup_node_gate.specs.Histories.{CountedStation, StationAnswer, RespondsToAct}
+use Rattle.sup_node_gate.specs.Histories.{CountedStation}
 use Rattle.sup_node_gate.specs.declared.entry.Entry.{Entry}
 use Rattle.sup_node_gate.specs.Histories.{AllSaved, ReplaysEntries, IsPrefix, entry}
 use Rattle.sup_node_gate.specs.declared.view.Holding.{Holding}
@@ -20,7 +18,7 @@ use Rattle.sup_node_gate.specs.declared.view.Parts.{Parts}
 use Rattle.sup_node_gate.specs.declared.view.View.{View}
 use Rattle.sup_node_gate.specs.Parts.{counted_in, counted_at, IsLike}
 use Rattle.sup_node_gate.specs.Views.{IsAmongPlaces, PlacesRise, newcomer, taking, losing, raising, freeing, looking}
-use Rattle.sup_node_gate.specs.Rule.{OpensAt, SavesAll, FitsView, HasTurn, IsHome, IsHeldBy, AllApart, AllOwned, RuleHolds, IsSeenAt, took, raises, raised, gave_back, looked, MayGiveBack, HasUncountedEntry}
+use Rattle.sup_node_gate.specs.Rule.{OpensAt, SavesAll, FitsView, HasTurn, AllApart, AllOwned, RuleHolds, IsSeenAt, took, raised, gave_back, looked, HasUncountedEntry}
 use Rattle.sup_node_gate.specs.Shares.{is_shared}
 use Rattle.sup_node_gate.proofs.ShareLaws.{first_whole, true_false}
 use Rattle.sup_node_gate.proofs.ViewShareLaws.{whole_stays}

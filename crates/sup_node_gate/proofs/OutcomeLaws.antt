@@ -1,6 +1,6 @@
 -- What the steps of a call come to.
-use Rattle.std.proofs.Common.{◌≡◌, ℕ, suc, ◌+◌, ◌≢◌, List, [], ◌∷◌, ◌++◌, append_assoc, map, length, sym, refl, ap, ◌∙◌, true, subst, arith, length-append, Ok, Err, Some, None}
-use mathlib.Core.Option.{Option, some}
+use Rattle.std.proofs.Common.{◌≡◌, ℕ, ◌+◌, ◌≢◌, List, [], ◌∷◌, ◌++◌, append_assoc, map, length, sym, refl, ap, ◌∙◌, true, subst, arith, length-append, Ok, Err, Some}
+use mathlib.Core.Option.{some}
 use mathlib.Core.List.{map-append}
 use lib.ListN.{get_elem?}
 use Rattle.std.specs.declared.option.Option as P
@@ -8,13 +8,13 @@ use Rattle.atomic_table.specs.Table.{Me, rest}
 use Rattle.atomic_table.proofs.Lists.{at_last}
 use Rattle.sup_placement.specs.Place.{Weigher}
 use Rattle.sup_replica.specs.declared.event.Act.{Act}
-use Rattle.sup_node_gate.specs.Histories.{CountedStation, StationAnswer, RespondsToAct}
+use Rattle.sup_node_gate.specs.Histories.{CountedStation, StationAnswer}
 use Rattle.sup_node_gate.specs.declared.entry.Entry.{Entry}
 use Rattle.sup_node_gate.specs.Histories.{RefusalStanding, full, no_room, entered, standing_of, IsEntered, ReplaysEntries, IsPrefix, entry}
 use Rattle.sup_node_gate.specs.declared.view.Holding.{Holding}
 use Rattle.sup_node_gate.specs.declared.view.Parts.{Parts}
 use Rattle.sup_node_gate.specs.declared.view.View.{View}
-use Rattle.sup_node_gate.specs.Parts.{counted_in, counted_at, IsLike}
+use Rattle.sup_node_gate.specs.Parts.{counted_in, counted_at}
 use Rattle.sup_node_gate.specs.Views.{PlacesRise, calls_of, taking, raising, freeing, looking, joining}
 use Rattle.sup_node_gate.specs.Holdings.{AddsEntry}
 use Rattle.sup_node_gate.specs.Rule.{IsSeenAt, IsTurnTaken}

@@ -1,23 +1,19 @@
 -- A split and a join keep the rule, and what the table's last state tells.
-use Rattle.std.proofs.Common.{◌≡◌, ℕ, zero, suc, ◌<◌, ◌≤◌, ◌≢◌, ◌⊎◌, List, [], ◌∷◌, ◌++◌, map, length, get_or, set, sym, refl, ap, ◌∙◌, subst, inl, inr, ⊎_elim, arith, zero-le, None, Some}
+use Rattle.std.proofs.Common.{◌≡◌, ℕ, zero, suc, ◌≤◌, ◌≢◌, ◌⊎◌, List, [], ◌∷◌, ◌++◌, map, length, get_or, set, sym, refl, ap, ◌∙◌, subst, inl, inr, ⊎_elim, zero-le, None, Some}
 use Rattle.std.specs.Prelude.{is_some, true, false, IfSome}
 use Rattle.std.specs.declared.option.Option as P
 use mathlib.Core.Logic.{dite}
-use mathlib.Core.Option.{Option, none, some, some-injective, some-ne-none}
+use mathlib.Core.Option.{some, some-injective, some-ne-none}
 use native.Mathlib.Decide.{ℕ_discrete}
 use lib.ListN.{get_elem?}
-use Rattle.atomic_table.specs.Table.{State, Splits, Joins, Final, Seen}
+use Rattle.atomic_table.specs.Table.{Splits, Joins, Final, Seen}
 use Rattle.atomic_table.proofs.Lists.{at_set, at_snoc, at_longer, set_else}
 use Rattle.sup_placement.specs.Place.{Weigher}
-use Rattle.sup_node_gate.specs.Histories.{CountedStation}
-use Rattle.sup_node_gate.specs.declared.entry.Entry.{Entry}
-use Rattle.sup_node_gate.specs.Histories.{ReplaysEntries, IsPrefix}
 use Rattle.sup_node_gate.specs.declared.view.Holding.{Holding}
 use Rattle.sup_node_gate.specs.declared.view.Parts.{Parts}
 use Rattle.sup_node_gate.specs.declared.view.View.{View}
-use Rattle.sup_node_gate.specs.Parts.{counted_at, IsLike}
-use Rattle.sup_node_gate.specs.Views.{IsAmongPlaces, PlacesRise, calls_of, merged, first, second, spent, joining}
-use Rattle.sup_node_gate.specs.Rule.{OpensAt, FitsView, HasTurn, IsHeldBy, AllApart, AllOwned, OwnsByShare, RuleHolds}
+use Rattle.sup_node_gate.specs.Views.{IsAmongPlaces, calls_of, merged, first, second, spent, joining}
+use Rattle.sup_node_gate.specs.Rule.{FitsView, HasTurn, IsHeldBy, AllApart, AllOwned, OwnsByShare, RuleHolds}
 use Rattle.sup_node_gate.proofs.HistoryListLaws.{set_at, views_stay, apart_stays, held_stays, owned_stays, owned_more}
 use Rattle.sup_node_gate.specs.Shares.{is_shared}
 use Rattle.sup_node_gate.specs.Gates.{IsSole}

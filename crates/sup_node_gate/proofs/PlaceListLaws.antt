@@ -1,5 +1,5 @@
 -- Lists of places that rise, put together.
-use Rattle.std.proofs.Common.{◌≡◌, ℕ, suc, ◌<◌, ◌≤◌, ◌≢◌, ◌⊎◌, Bool, true, false, List, [], ◌∷◌, length, sym, refl, subst, inl, inr, ⊎_elim, arith, nat_lt, if◌then◌else◌}
+use Rattle.std.proofs.Common.{◌≡◌, ℕ, suc, ◌<◌, ◌≤◌, ◌≢◌, ◌⊎◌, Bool, true, false, List, [], ◌∷◌, sym, refl, subst, inl, inr, ⊎_elim, arith, nat_lt, if◌then◌else◌}
 use borrow.Author.Tests.{ltb-true, ltb-false}
 use Rattle.sup_node_gate.specs.Views.{IsAmongPlaces, PlacesRise, placed, merged}
 

@@ -1,5 +1,5 @@
 -- Shares put together, cut and counted in finer parts.
-use Rattle.std.proofs.Common.{◌≡◌, true, false, ℕ, zero, suc, ◌+◌, ◌-◌, ◌^◌, ◌<◌, ◌≤◌, List, [], ◌∷◌, ◌++◌, refl, ap, ◌∙◌, sym, subst, arith, pow-suc}
+use Rattle.std.proofs.Common.{◌≡◌, true, false, ℕ, zero, suc, ◌+◌, ◌-◌, ◌^◌, ◌<◌, ◌≤◌, List, [], ◌∷◌, ◌++◌, refl, ap, ◌∙◌, sym, subst, arith, append-nil, pow-suc}
 use Rattle.sup_node_gate.specs.Shares.{parts_at, AllAtMost, IsWholeAt, IsWhole, halved, is_shared}
 
 pub parts_append : (n : ℕ) (xs ys : List ℕ) → parts_at n (xs ++ ys) ≡ parts_at n xs + parts_at n ys
@@ -79,3 +79,16 @@ none_left (x ∷ xs) ys bare = absurd (true_false bare)
 pub none_right : (xs ys : List ℕ) → is_shared (xs ++ ys) ≡ false → is_shared ys ≡ false
 none_right [] ys bare = bare
 none_right (x ∷ xs) ys bare = absurd (true_false bare)
+
+-- Where all shares are those of one pass and of others, and the one is split, they are its half, those of the others and the new one's half:
+-- what a pass has that was split again and again, and then joined to each that was split off, in order.
+pub whole_one_more : (xs others : List ℕ) → IsWhole (xs ++ others) → IsWhole (halved xs ++ (others ++ halved xs))
+whole_one_more xs others whole = let n = whole.0 in let m : ℕ = suc n in let deeper = whole_deeper n (xs ++ others) whole.1 in
+    let fine = most_left n xs others whole.1.0 in let half = most_halved n xs fine in let beside = most_right m xs others deeper.0 in
+    let a = parts_append m (halved xs) (others ++ halved xs) in let b = parts_append m others (halved xs) in let c = parts_append m xs others in
+    let d = parts_deeper n xs fine in let e = parts_halved n xs in let f = deeper.1 in
+    (m, (most_append m (halved xs) (others ++ halved xs) half (most_append m others (halved xs) beside half), omega (arith, a, b, c, d, e, f)))
+
+-- the halves of the whole are the whole
+pub whole_rejoined : (xs : List ℕ) → IsWhole xs → IsWhole (halved xs ++ halved xs)
+whole_rejoined xs whole = whole_one_more xs [] (subst IsWhole (sym (append-nil xs)) whole)

@@ -1,5 +1,5 @@
 -- Views and their shares: steps, splits and joins keep the whole, and a view that has all of it has made each call.
-use Rattle.std.proofs.Common.{◌≡◌, true, false, ℕ, zero, suc, ◌+◌, ◌<◌, ◌≤◌, ◌≢◌, ◌⊎◌, List, [], ◌∷◌, ◌++◌, map, length, set, refl, ap, ◌∙◌, sym, subst, inl, inr, ⊎_elim, append_assoc, append-nil, length-append, arith}
+use Rattle.std.proofs.Common.{◌≡◌, ℕ, zero, suc, ◌+◌, ◌<◌, ◌≤◌, ◌≢◌, List, [], ◌∷◌, ◌++◌, map, length, set, refl, ap, ◌∙◌, sym, subst, ⊎_elim, append_assoc, append-nil, length-append, arith}
 use mathlib.Core.Logic.{dite}
 use mathlib.Core.Option.{some, some-injective, some-ne-none}
 use native.Mathlib.Decide.{ℕ_discrete}
@@ -97,7 +97,7 @@ all_calls before (e ∷ es) (x ∷ xs) r all = let low = r.0 in
     let from : suc x ≡ length (before ++ e ∷ []) = omega (arith, here, longer) in
     let to : length before + suc (length es) ≡ length (before ++ e ∷ []) + length es = omega (arith, longer) in
     let rest = all_calls (before ++ e ∷ []) es xs (subst (λ (z : ℕ × ℕ). PlacesRise z.0 xs z.1) (λ i. (from i, to i)) r.1)
-        (λ p lo hi. ⊎_elim (λ (h : p ≡ x). absurd (omega (arith, here, longer, lo, h))) (λ (t : IsAmongPlaces p xs). t) (all p (omega (arith, longer, lo)) (omega (arith, to, hi)))) in
+    (λ p lo hi. ⊎_elim (λ (h : p ≡ x). absurd (omega (arith, here, longer, lo, h))) (λ (t : IsAmongPlaces p xs). t) (all p (omega (arith, longer, lo)) (omega (arith, to, hi)))) in
     let at : get_elem? (before ++ e ∷ es) x ≡ some e = ap (get_elem? (before ++ e ∷ es)) here ∙ at_middle before e es in
     let tail : map (get_elem? (before ++ e ∷ es)) xs ≡ map some es = ap (λ (l : List Entry). map (get_elem? l) xs) (sym (append_assoc before (e ∷ []) es)) ∙ rest in
     (λ i. at i ∷ tail i)
