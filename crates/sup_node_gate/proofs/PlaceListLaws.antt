@@ -7,7 +7,7 @@ either_way : (b : Bool) (p x : ℕ) (xs ys : List ℕ) (Q : List ℕ → Type 0)
 either_way true p x xs ys Q e hit miss = hit (ltb-true p x e)
 either_way false p x xs ys Q e hit miss = miss (ltb-false p x e)
 
-cases : (p x : ℕ) (xs : List ℕ) (Q : List ℕ → Type 0) → (p < x → Q (p ∷ x ∷ xs)) → (x ≤ p → Q (x ∷ placed p xs)) → Q (placed p (x ∷ xs))
+pub cases : (p x : ℕ) (xs : List ℕ) (Q : List ℕ → Type 0) → (p < x → Q (p ∷ x ∷ xs)) → (x ≤ p → Q (x ∷ placed p xs)) → Q (placed p (x ∷ xs))
 cases p x xs Q hit miss = either_way (nat_lt p x) p x (p ∷ x ∷ xs) (x ∷ placed p xs) Q refl hit miss
 
 pub stands_placed : (p q : ℕ) (xs : List ℕ) → IsAmongPlaces q (placed p xs) → (q ≡ p) ⊎ IsAmongPlaces q xs
@@ -24,7 +24,7 @@ pub above : (xs : List ℕ) (low high p : ℕ) → PlacesRise low xs high → Is
 above [] low high p r s = absurd s
 above (x ∷ xs) low high p r s = let a = r.0 in ⊎_elim (λ (e : p ≡ x). omega arith) (λ (t : IsAmongPlaces p xs). let b = above xs (suc x) high p r.1 t in omega arith) s
 
-below : (xs : List ℕ) (low high : ℕ) → PlacesRise low xs high → low ≤ high
+pub below : (xs : List ℕ) (low high : ℕ) → PlacesRise low xs high → low ≤ high
 below [] low high r = r
 below (x ∷ xs) low high r = let a = r.0 in let b = below xs (suc x) high r.1 in omega arith
 
@@ -38,7 +38,7 @@ rises_merged [] xs low high r t miss = r
 rises_merged (y ∷ ys) xs low high r t miss = let b = below ys (suc y) high t.1 in rises_merged ys (placed y xs) (suc y) high (rises_placed y xs 0 high r (omega arith) (omega arith) (λ s. miss y s (inl refl))) t.1
     (λ q s u. ⊎_elim (λ (e : q ≡ y). let a = above ys (suc y) high q t.1 u in absurd (omega arith)) (λ (v : IsAmongPlaces q xs). miss q v (inr u)) (stands_placed y q xs s))
 
-placed_there : (p : ℕ) (xs : List ℕ) → IsAmongPlaces p (placed p xs)
+pub placed_there : (p : ℕ) (xs : List ℕ) → IsAmongPlaces p (placed p xs)
 placed_there p [] = inl refl
 placed_there p (x ∷ xs) = cases p x xs (λ l. IsAmongPlaces p l) (λ _. inl refl) (λ _. inr (placed_there p xs))
 
