@@ -1,5 +1,5 @@
 -- Lists of places that rise, put together, are a shuffle of both.
-use Rattle.std.proofs.Common.{◌≡◌, ℕ, suc, ◌<◌, ◌≤◌, ◌⊎◌, List, [], ◌∷◌, map, refl, ap, ◌∙◌, sym, subst, inl, inr, ⊎_elim, arith}
+use Rattle.std.proofs.Common.{◌≡◌, ℕ, suc, List, [], ◌∷◌, map, refl, ap, sym, subst, inl, inr, ⊎_elim, arith}
 use Rattle.sup_node_gate.specs.Shuffles.{IsShuffle}
 use Rattle.sup_node_gate.specs.Views.{IsAmongPlaces, PlacesRise, placed, merged}
 use Rattle.sup_node_gate.proofs.PlaceListLaws.{above, cases, below, placed_there, rises_placed, rises_merged, stands_placed}
