@@ -12,7 +12,7 @@ use Rattle.sup_replica.specs.Nodes.{is_named}
 use Rattle.sup_keeper.specs.Keeping.{most}
 use Rattle.sup_model.specs.declared.step.Step.{Step}
 use Rattle.sup_model.specs.declared.step.Step.TheVariants.{Node as AtNode, Deliver as Delivery, Raw}
-use Rattle.sup_model.specs.Posts.{Post}
+use Rattle.sup_model.specs.Posts.{StationPost}
 use Rattle.sup_world.specs.CarriedSteps.{carried, comes_to, failures_at, holds, seen_at}
 use Rattle.sup_world.specs.SeenNodes.{SeenNode, FailedOnceAtMost}
 use Rattle.sup_world.specs.ToldAnswers.{SiteStands}
@@ -102,7 +102,7 @@ failed_more order p old new step s failed once same others name =
           omega (arith, all, kept, few)
     ] refl
 
-pub stand_named : (sites : List SeenNode) (posts : List (Post State)) → AllZip SiteStands sites posts → named_in sites ≡ map (λ (p : Post State). p.station.node.name) posts
+pub stand_named : (sites : List SeenNode) (posts : List (StationPost State)) → AllZip SiteStands sites posts → named_in sites ≡ map (λ (p : StationPost State). p.station.node.name) posts
 stand_named [] [] h = refl
 stand_named [] (p ∷ posts) h = absurd h
 stand_named (s ∷ sites) [] h = absurd h

@@ -23,8 +23,8 @@ use Rattle.sup_node.proofs.PlanLaws.{named_itself, named_same}
 use Rattle.sup_node_gate.specs.declared.entry.Entry.{Entry}
 use Rattle.sup_plan.specs.declared.histories.History.{History}
 use Rattle.sup_model.specs.declared.step.Step.{Step}
-use Rattle.sup_model.specs.Posts.{Post, Real, real_new}
-use Rattle.sup_model.specs.Worlds.{Setting}
+use Rattle.sup_model.specs.Posts.{StationPost, RealWorld, real_new}
+use Rattle.sup_model.specs.Worlds.{WorldSetting}
 use Rattle.sup_world.specs.CarriedSteps.{failures_at}
 use Rattle.sup_world.specs.Newness.{setting_in}
 use Rattle.sup_world.specs.SeenNodes.{SeenNode}
@@ -156,11 +156,11 @@ all_among hs names e [] h = tt
 all_among hs names e (p ∷ order) h = (ap (list_any (is_named p.node)) (sym e) ∙ among_names hs p.node ∙ h.0, all_among hs names e order h.1)
 
 -- ---- the two runs
-abbrev new_post : Setting → ℕ → Bytes → Post State
+abbrev new_post : WorldSetting → ℕ → Bytes → StationPost State
 new_post setting room name =
     record { station = record { node = fresh by_tables name setting.intensity setting.period; held = []; room = room; acked = λ q. 0 }; sent = [] }
 
-names_new : (setting : Setting) (room : ℕ) (names : List Bytes) → map (λ (p : Post State). p.station.node.name) (map (new_post setting room) names) ≡ names
+names_new : (setting : WorldSetting) (room : ℕ) (names : List Bytes) → map (λ (p : StationPost State). p.station.node.name) (map (new_post setting room) names) ≡ names
 names_new setting room [] = refl
 names_new setting room (name ∷ names) = ap (λ ns. name ∷ ns) (names_new setting room names)
 
@@ -184,7 +184,7 @@ few_of b hs whole only name =
         ] refl e
 
 module _ (g : Weigher) (config : Config) (names : List Bytes) (hs : List History) (run : HasRun g config names hs) where
-  abbrev new_real : Real State
+  abbrev new_real : RealWorld State
   new_real = real_new by_tables (setting_in g config) config.buffer (reads_as None) names
 
   framed_new : Framed g names new_real
@@ -272,7 +272,7 @@ module _ (g : Weigher) (config : Config) (names : List Bytes) (hs : List History
         let to = step_acted g names first_runs.world (runs_framed g names new_real r.order first_runs.world framed_new first_runs.runs) sites m.after first_runs.shows (placed_at h.node e) m.step m.answer m.is_step m.goes m.had_room can named in
         let same : halves.0 ≡ to.acted.post =
         replayed_one g names begun.0 halves.0 here.0 (of_node h.node r.order) halves.1 here.2 ∙ same_Some here.0 to.acted.post (sym here.1 ∙ to.acted.there) in
-        let said = subst (λ (q : Post State). IsSaidBy (by_itself g names q.station e halves.2.0) e.answer) same halves.2.2 in
+        let said = subst (λ (q : StationPost State). IsSaidBy (by_itself g names q.station e halves.2.0) e.answer) same halves.2.2 in
         let told = subst (λ x. IsSaidBy x (answer_of m.answer)) (same_alone g names to.acted.post.station e to.acted.read halves.2.0 to.acted.is_read halves.2.1) to.acted.said in
         m.differs (said_one (by_itself g names to.acted.post.station e halves.2.0) (answer_of m.answer) e.answer told said)
 

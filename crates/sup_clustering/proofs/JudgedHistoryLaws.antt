@@ -9,7 +9,7 @@ use mathlib.Core.Logic.{◌⊎◌, inl, inr}
 use Rattle.sup_specs.specs.Values.{Bytes}
 use Rattle.sup_placement.specs.Place.{Weigher}
 use Rattle.sup_replica.specs.Configs.{Config}
-use Rattle.sup_model.specs.Follows.{Apart, Distinct}
+use Rattle.sup_model.specs.Follows.{NameIsApart, NamesAllDiffer}
 use Rattle.sup_plan.specs.Plans.{IsPlan}
 use Rattle.sup_plan.specs.declared.histories.History.{History}
 use Rattle.sup_plan.specs.declared.plan.Plan.{Plan}
@@ -24,11 +24,11 @@ use Rattle.sup_certify.specs.declared.fault.CertifyFault.TheVariants.{Stuck, Dif
 use Rattle.sup_clustering.specs.CertifiedPlans.{IsNoRun, IsUncertified}
 
 -- names that differ, as a plan says it, differ as the model says it
-apart_from : (name : Bytes) (others : List Bytes) → AllByRecursion (λ o. bytes_eq name o ≡ false) others → Apart name others
+apart_from : (name : Bytes) (others : List Bytes) → AllByRecursion (λ o. bytes_eq name o ≡ false) others → NameIsApart name others
 apart_from name [] a = tt
 apart_from name (o ∷ os) a = (is_eq-slice_cmp name o ∙ a.0, is_eq-slice_cmp o name ∙ nat_list_eq_equiv.symm o name ∙ a.0, apart_from name os a.1)
 
-distinct_names : (names : List Bytes) → IsDistinct bytes_eq names → Distinct names
+distinct_names : (names : List Bytes) → IsDistinct bytes_eq names → NamesAllDiffer names
 unfolding IsDistinct
 distinct_names [] d = tt
 distinct_names (name ∷ names) d = (apart_from name names d.0, distinct_names names d.1)

@@ -6,7 +6,7 @@ use Rattle.sup_jobs.specs.declared.fault.Fault.TheVariants as job
 use Rattle.sup_plan.specs.declared.histories.History.{History}
 use Rattle.sup_plan.specs.declared.plan.Plan.{Plan}
 use Rattle.sup_model.specs.declared.step.Step.{Step}
-use Rattle.sup_model.specs.Worlds.{World}
+use Rattle.sup_model.specs.Worlds.{ModelWorld}
 use Rattle.sup_world.specs.declared.settled.Settled.{Settled}
 use Rattle.sup_world.specs.FollowedSteps.{StandsFor}
 use Rattle.sup_world.specs.SeenNodes.{SeenNode}
@@ -33,7 +33,7 @@ pub record IsCertified (weigher : Weigher) (plan : Plan) (steps : List Step) (si
 -- the nodes settle by steps of their world, and as the model's do
 abbrev pub SettlesFrom : Weigher → List SeenNode → List SeenNode → Type 0
 SettlesFrom weigher sites after =
-    (settled : Settled) × SettlesBy weigher sites (Ok settled) after × ((model : World) → StandsFor weigher sites model → SettlesTo weigher model (Ok settled) after)
+    (settled : Settled) × SettlesBy weigher sites (Ok settled) after × ((model : ModelWorld) → StandsFor weigher sites model → SettlesTo weigher model (Ok settled) after)
 
 -- the run is certified, its nodes settle, and this is what is printed of them
 pub record PrintsCluster (weigher : Weigher) (plan : Plan) (said : List ℕ) : Type 0 where

@@ -9,7 +9,7 @@ use Rattle.serde_json.specs.Written.{compact_text}
 use Rattle.sup_wire.specs.declared.fault.WireFault.{WireFault}
 use Rattle.sup_wire.specs.declared.fault.WireFault.TheVariants.{NotJson, NotMessage, BadVersion, NotCanonical, OutOfMemory}
 use Rattle.sup_wire.specs.Drafts.{Draft, ack, push, delta, image}
-use Rattle.sup_wire.specs.Faults.{Says, IsTextOf, IsFault}
+use Rattle.sup_wire.specs.Faults.{TextSays, IsTextOf, IsFault}
 use Rattle.sup_wire.specs.Forms.{value_in, value_of}
 use Rattle.sup_cut_texts.proofs.CutShort.{object_cut_unread}
 
@@ -29,11 +29,11 @@ module _ {M : Type 0} (IsDraft : M → Draft → Type 0) (InRange : M → Type 0
       let one = an_object is.draft in
       subst (λ t. read t ≡ Some d → k < length t → read (take k t) ≡ None) (sym is.compact) (value_cut_unread d one.0 one.1 k) is.json.value short
 
-  pub cut_says_none : (y : M) → ¬ Says IsDraft (take k text) y
+  pub cut_says_none : (y : M) → ¬ TextSays IsDraft (take k text) y
   cut_says_none y says = none-some (value_in says.version says.draft) (sym cut_unread ∙ says.json.value)
 
   -- so it is no JSON to a reader, whatever kind is asked for
-  pub cut_refused : (Kind : Draft → Type 0) (r : Result M WireFault) → IfOk r (λ y. Says IsDraft (take k text) y) → IfErr r (IsFault Kind (take k text)) → (r ≡ Err NotJson) ⊎ (r ≡ Err OutOfMemory)
+  pub cut_refused : (Kind : Draft → Type 0) (r : Result M WireFault) → IfOk r (λ y. TextSays IsDraft (take k text) y) → IfErr r (IsFault Kind (take k text)) → (r ≡ Err NotJson) ⊎ (r ≡ Err OutOfMemory)
   cut_refused Kind (Ok y) says fault = absurd (cut_says_none y says)
   cut_refused Kind (Err NotJson) says fault = inl refl
   cut_refused Kind (Err NotMessage) says fault = absurd (none-some fault.0 (sym cut_unread ∙ fault.1.value))

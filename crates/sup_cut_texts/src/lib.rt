@@ -9,7 +9,7 @@ ghost use Rattle.sup_wire.specs.declared.fault.WireFault.TheVariants.{NotJson, O
 ghost use Rattle.sup_wire.specs.declared.image.Image.{Image};
 ghost use Rattle.sup_wire.specs.declared.message.Message.{Message};
 ghost use Rattle.sup_wire.specs.Drafts.{IsDraftOf, IsDraftOfImage};
-ghost use Rattle.sup_wire.specs.Faults.{Says, IsTextOf, IsInRange, IsImageInRange};
+ghost use Rattle.sup_wire.specs.Faults.{TextSays, IsTextOf, IsInRange, IsImageInRange};
 
 use std::alloc::Global;
 use sup_wire::{Image, Message, WireFault, decode, decode_image};
@@ -22,8 +22,8 @@ pub fn a_text_cut_short_is_no_json()
 
 /// So it says no message, and no image.
 pub fn a_text_cut_short_says_nothing()
-    ensures message { (text : Bytes) (m : Message) (k : ℕ) → IsTextOf IsDraftOf IsInRange text m → k < length text → (n : Message) → ¬ Says IsDraftOf (take k text) n }
-    ensures image { (text : Bytes) (i : Image) (k : ℕ) → IsTextOf IsDraftOfImage IsImageInRange text i → k < length text → (j : Image) → ¬ Says IsDraftOfImage (take k text) j }
+    ensures message { (text : Bytes) (m : Message) (k : ℕ) → IsTextOf IsDraftOf IsInRange text m → k < length text → (n : Message) → ¬ TextSays IsDraftOf (take k text) n }
+    ensures image { (text : Bytes) (i : Image) (k : ℕ) → IsTextOf IsDraftOfImage IsImageInRange text i → k < length text → (j : Image) → ¬ TextSays IsDraftOfImage (take k text) j }
 {}
 
 /// The first bytes of a message's text are refused as no JSON, unless memory runs out.

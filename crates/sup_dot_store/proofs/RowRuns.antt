@@ -23,7 +23,7 @@ use Rattle.sup_dot_store.specs.Places.{HasRow}
 use Rattle.sup_dot_store.proofs.Rows.{none_everywhere}
 use Rattle.sup_dot_store.specs.ByDot.{at_dot}
 use Rattle.sup_dot_store.specs.declared.dot_fun.DotFun.{DotFun}
-use Rattle.sup_dot_store.specs.RowLists.{rows_under, rows_of, row_cmp, EndsOff, HasValue, IsLastRun}
+use Rattle.sup_dot_store.specs.RowLists.{rows_under, rows_of, row_cmp, EndsOffKey, HasValue, IsLastRun}
 
 all_front : {X : Type 0} (P : X → Type 0) (xs ys : List X) → AllByRecursion P (xs ++ ys) → AllByRecursion P xs
 all_front P [] ys h = tt
@@ -111,7 +111,7 @@ module _ {K V : Type 0} {cmp : K → K → Ordering} (total : IsTotalOrder cmp) 
 
   -- rows before a run of the key that don't end in one of the key have lower keys
   all_below_key : (key : K) (rest : List (K × Dot × V)) (d : Dot) (v : V) (more : List (K × Dot × V))
-      → IsStrictlySortedBy (row_cmp cmp) (rest ++ (key, d, v) ∷ more) → EndsOff cmp key rest → AllByRecursion (λ r. cmp r.0 key ≡ Less) rest
+      → IsStrictlySortedBy (row_cmp cmp) (rest ++ (key, d, v) ∷ more) → EndsOffKey cmp key rest → AllByRecursion (λ r. cmp r.0 key ≡ Less) rest
   unfolding IsStrictlySortedBy
   all_below_key key [] d v more s off = tt
   all_below_key key (r ∷ []) d v more s off = (first_less _ _ (off [] r refl) s.0.0, tt)
@@ -119,13 +119,13 @@ module _ {K V : Type 0} {cmp : K → K → Ordering} (total : IsTotalOrder cmp) 
       let rest = all_below_key key (q ∷ rs) d v more s.1 (λ front row e. off (r ∷ front) row (ap (λ rows. r ∷ rows) e)) in
       (below_key total key r.0 q.0 (first_at_most _ _ s.0.0) rest.0, rest)
 
-  all_below_run : (key : K) (rest : List (K × Dot × V)) (es : List (Dot × V)) → (es ≡ [] → ⊥) → IsStrictlySortedBy (row_cmp cmp) (rest ++ rows_under key es) → EndsOff cmp key rest → AllByRecursion (λ r. cmp r.0 key ≡ Less) rest
+  all_below_run : (key : K) (rest : List (K × Dot × V)) (es : List (Dot × V)) → (es ≡ [] → ⊥) → IsStrictlySortedBy (row_cmp cmp) (rest ++ rows_under key es) → EndsOffKey cmp key rest → AllByRecursion (λ r. cmp r.0 key ≡ Less) rest
   unfolding IsStrictlySortedBy
   all_below_run key rest [] some s off = absurd (some refl)
   all_below_run key rest (e ∷ es) some s off = all_below_key key rest e.0 e.1 (rows_under key es) s off
 
   pub run_is : (key : K) (all rest : List (K × Dot × V)) (function : DotFun V) (es : List (Dot × V)) → function.values.entries ≡ es
-      → IsStrictlySortedBy (row_cmp cmp) all → rest ++ rows_under key es ≡ all → (es ≡ [] → ⊥) → EndsOff cmp key rest → IsLastRun cmp all rest key function
+      → IsStrictlySortedBy (row_cmp cmp) all → rest ++ rows_under key es ≡ all → (es ≡ [] → ⊥) → EndsOffKey cmp key rest → IsLastRun cmp all rest key function
   run_is key all rest function es same rising cut some off = record {
     cut = ap (λ fs. rest ++ rows_under key fs) same ∙ cut;
     above = all_below_run key rest es some (subst (IsStrictlySortedBy (row_cmp cmp)) (sym cut) rising) off;
@@ -188,6 +188,6 @@ module _ {K V : Type 0} (cmp : K → K → Ordering) (equal : K → K → Bool) 
       let own : last ≡ (k, d, v) = is_last read rows rest (k, d, v) last found is cut in
       cut ∙ ap (λ q. rest ++ (q, d, v) ∷ []) (sym (ap (λ r. r.0) own) ∙ same exact last.0 key (sym (matches last.0 key) ∙ not-false (equal last.0 key) (sym compared ∙ e)))
 
-  pub ends_off : differ ≡ true → EndsOff cmp key rows
+  pub ends_off : differ ≡ true → EndsOffKey cmp key rows
   ends_off e front row cut =
       sym (matches row.0 key) ∙ ap (λ r. equal r.0 key) (sym (is_last read rows front row last found is cut)) ∙ not-true (equal last.0 key) (sym compared ∙ e)

@@ -31,8 +31,8 @@ abbrev pub HasValue : {K V : Type 0} → K × DotFun V → Type 0
 HasValue e = (values_of e.1).entries ≡ [] → ⊥
 
 -- the last of the rows, if any, is not the key's
-abbrev pub EndsOff : {K V : Type 0} → (K → K → Ordering) → K → List (K × Dot × V) → Type 0
-EndsOff {K} {V} cmp key rows = (front : List (K × Dot × V)) (row : K × Dot × V) → rows ≡ front ++ row ∷ [] → eq_by_cmp cmp row.0 key ≡ false
+abbrev pub EndsOffKey : {K V : Type 0} → (K → K → Ordering) → K → List (K × Dot × V) → Type 0
+EndsOffKey {K} {V} cmp key rows = (front : List (K × Dot × V)) (row : K × Dot × V) → rows ≡ front ++ row ∷ [] → eq_by_cmp cmp row.0 key ≡ false
 
 -- the rows are the rest and the function's, whose key is above the keys of the rest
 pub record IsLastRun {K V : Type 0} (cmp : K → K → Ordering) (rows rest : List (K × Dot × V)) (key : K) (function : DotFun V) : Type 0 where

@@ -3,7 +3,7 @@
 ghost use Rattle.std.specs.Prelude.{◌≡◌, ◌↔◌, Bool, false, ◌||◌, None, IsTrue, IfOk, OnErr, IsOk};
 ghost use Rattle.sup_causal.specs.declared.dot.Dot.{Dot as DotValue};
 ghost use Rattle.sup_causal.specs.Dots.{has};
-ghost use Rattle.sup_dot_store.specs.Points.{Standing, standing, points_join, points_laws, Covers};
+ghost use Rattle.sup_dot_store.specs.Points.{Standing, standing, points_join, points_laws, ContextCovers};
 ghost use Rattle.sup_causal.specs.Join.{pair_join, pair_laws, pointwise_join, pointwise_laws, or_laws};
 
 use crate::dot_store::DotStore;
@@ -19,7 +19,7 @@ use thiserror::Error;
 pub struct Causal<S: DotStore> {
     store: S,
     context: CausalContext,
-    pub ghost covered: { Covers context (S.held store) },
+    pub ghost covered: { ContextCovers context (S.held store) },
 }
 
 /// A store has a row whose dot the context lacks.
@@ -32,7 +32,7 @@ impl<S: DotStore> Causal<S> {
 
     /// The store under a context that has all its dots.
     pub fn new(store: S, context: CausalContext) -> Self
-        requires { Covers context (S.held store) }
+        requires { ContextCovers context (S.held store) }
         ensures store { store_of result ≡ store }
         ensures context { context_of result ≡ context }
     {
@@ -41,7 +41,7 @@ impl<S: DotStore> Causal<S> {
 
     /// The store under the context. `NotCovered` exactly where the context lacks the dot of a row.
     pub fn of(store: S, context: CausalContext) -> Result<Self, NotCovered>
-        ensures covered { IsOk result ↔ Covers context (S.held store) }
+        ensures covered { IsOk result ↔ ContextCovers context (S.held store) }
         ensures store { IfOk result (λ c. store_of c ≡ store) }
         ensures context { IfOk result (λ c. context_of c ≡ context) }
     {
@@ -67,7 +67,7 @@ impl<S: DotStore> Causal<S> {
     pub fn into_parts(self) -> (S, CausalContext)
         ensures store { result.0 ≡ store_of self }
         ensures context { result.1 ≡ context_of self }
-        ensures covered { Covers result.1 (S.held result.0) }
+        ensures covered { ContextCovers result.1 (S.held result.0) }
     {
         let Causal { store, context } = self;
         (store, context)

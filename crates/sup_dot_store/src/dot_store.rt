@@ -5,7 +5,7 @@ ghost use Rattle.sup_specs.specs.Rising.{among};
 ghost use Rattle.sup_causal.specs.declared.dot.Dot.{Dot as DotValue};
 ghost use Rattle.sup_causal.specs.Join.{JoinLaws};
 ghost use Rattle.sup_causal.specs.Dots.{has, dot_cmp};
-ghost use Rattle.sup_dot_store.specs.Points.{standing, higher, value_at, Covers, Within};
+ghost use Rattle.sup_dot_store.specs.Points.{standing, higher, value_at, ContextCovers, IsWithinContext};
 
 use std::alloc::{AllocError, Global};
 use sup_causal::{CausalContext, Dot};
@@ -38,7 +38,7 @@ pub trait DotStore: Drop {
 
     /// Whether the context has the dots of all rows.
     fn covered_by(&self, context: &CausalContext) -> bool
-        ensures { IsTrue result ↔ Covers context.now (held self.now) };
+        ensures { IsTrue result ↔ ContextCovers context.now (held self.now) };
 
     /// The rows of two states together, each a store and the context that covers it: at each point the higher of
     /// the two, where a dot rises from unknown over present to gone, and the lesser of two values is the higher.
@@ -50,15 +50,15 @@ pub trait DotStore: Drop {
         other: &Self,
         theirs: &CausalContext,
     ) -> Result<Self, AllocError>
-        requires mine { Covers mine.now (held self.now) }
-        requires theirs { Covers theirs.now (held other.now) }
+        requires mine { ContextCovers mine.now (held self.now) }
+        requires theirs { ContextCovers theirs.now (held other.now) }
         ensures { IfOk result (λ r. (d : DotValue) (p : Place) → held r d p ≡ value_at (higher (lesser p) (standing (has mine.now d) (held self.now d p)) (standing (has theirs.now d) (held other.now d p)))) };
 
     /// Whether each point is at most as high as in the other state, which knows all dots of this one.
     fn leq_under(&self, mine: &CausalContext, other: &Self, theirs: &CausalContext) -> bool
-        requires mine { Covers mine.now (held self.now) }
-        requires theirs { Covers theirs.now (held other.now) }
-        requires within { Within mine.now theirs.now }
+        requires mine { ContextCovers mine.now (held self.now) }
+        requires theirs { ContextCovers theirs.now (held other.now) }
+        requires within { IsWithinContext mine.now theirs.now }
         ensures { IsTrue result ↔ ((d : DotValue) (p : Place) → higher (lesser p) (standing (has mine.now d) (held self.now d p)) (standing (has theirs.now d) (held other.now d p)) ≡ standing (has theirs.now d) (held other.now d p)) };
 
     /// Takes away the rows of these dots, and no others.

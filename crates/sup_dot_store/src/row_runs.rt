@@ -3,7 +3,7 @@
 ghost use Rattle.std.specs.Prelude.{◌≡◌, [], ◌∷◌, ◌++◌, IfOk, IfSome, IfNone};
 ghost use Rattle.std.specs.List.{AllByRecursion};
 ghost use Rattle.std.specs.List.Sorted.{IsStrictlySortedBy};
-ghost use Rattle.sup_dot_store.specs.RowLists.{rows_of, row_cmp, EndsOff, IsLastRun, HasValue};
+ghost use Rattle.sup_dot_store.specs.RowLists.{rows_of, row_cmp, EndsOffKey, IsLastRun, HasValue};
 
 use crate::dot_fun::DotFun;
 use crate::short_values::ShortValues;
@@ -52,7 +52,7 @@ fn last_run<K: Plain, V: Plain>(
 // Takes the last row, where it is of the key.
 fn pop_under<K: Plain, V: Plain>(rows: &mut Vec<(K, Dot, V)>, key: &K) -> Option<(Dot, V)>
     ensures some { IfSome result (λ r. rows.old.items ≡ rows.new.items ++ (key.now, r.0, r.1) ∷ []) }
-    ensures off { IfNone result (EndsOff K.cmp key.now rows.new.items) }
+    ensures off { IfNone result (EndsOffKey K.cmp key.now rows.new.items) }
     ensures none { IfNone result (rows.new.items ≡ rows.old.items) }
 {
     if rows.last()?.0 != *key {

@@ -7,7 +7,7 @@ use Rattle.sup_placement.specs.Place.{Weigher}
 use Rattle.sup_replica.specs.declared.refusal.Refusal.{Refusal}
 use Rattle.sup_lines.specs.declared.line.Line.{Line}
 use Rattle.sup_model.specs.declared.step.Step.{Step}
-use Rattle.sup_model.specs.Worlds.{World as Model}
+use Rattle.sup_model.specs.Worlds.{ModelWorld as Model}
 use Rattle.sup_world.specs.declared.answer.Answer.{Answer}
 use Rattle.sup_world.specs.declared.settled.Settled.{Settled}
 use Rattle.sup_world.specs.FollowedSteps.{StandsFor}

@@ -5,7 +5,7 @@ use Rattle.sup_placement.specs.Place.{Weigher}
 use Rattle.sup_tables.specs.States.{State}
 use Rattle.sup_replica.specs.ByTables.{by_tables}
 use Rattle.sup_replica.specs.Configs.{Config}
-use Rattle.sup_replica.specs.Stations.{Codec}
+use Rattle.sup_replica.specs.Stations.{MailCodec}
 use Rattle.sup_lines.specs.declared.line.Line.{Line}
 use Rattle.sup_model.specs.Posts.{real_new}
 use Rattle.sup_world.specs.Newness.{setting_in}
@@ -34,7 +34,7 @@ pub record IsPictureOf (names : List Bytes) (n : Noted) (picture : Picture) : Ty
 -- a new world of these nodes; the lines, played from there; and the text of the picture of what was noted
 pub record DrawsScript (weigher : Weigher) (config : Config) (names : List Bytes) (captions : Captions) (lines : List Line) (text : List ℕ) : Type 0 where
   pub sites : List SeenNode
-  pub opens : (codec : Codec State) → ShowsReal weigher sites (real_new by_tables (setting_in weigher config) config.buffer codec names)
+  pub opens : (codec : MailCodec State) → ShowsReal weigher sites (real_new by_tables (setting_in weigher config) config.buffer codec names)
   pub after : List SeenNode
   pub noted : Noted
   pub goes : LinesGo weigher captions sites nothing_noted lines after noted

@@ -8,7 +8,7 @@ use Rattle.sup_lines.specs.declared.line.Line.{Line}
 use Rattle.sup_lines.specs.declared.line.Line.TheVariants as line
 use Rattle.sup_lines.specs.declared.numbered.NumberedLine.{NumberedLine}
 use Rattle.sup_model.specs.declared.step.Step.{Step}
-use Rattle.sup_model.specs.Worlds.{World as Model}
+use Rattle.sup_model.specs.Worlds.{ModelWorld as Model}
 use Rattle.sup_world.specs.declared.answer.Answer.{Answer}
 use Rattle.sup_world.specs.declared.settled.Settled.{Settled}
 use Rattle.sup_world.specs.CarriedSteps.{has_bytes}

@@ -11,10 +11,10 @@ use Rattle.sup_tables.specs.declared.row.Row.{Row}
 use Rattle.sup_tables.specs.declared.lent.LentRow.{LentRow}
 use Rattle.sup_tables.specs.Lent.{row_lent}
 use Rattle.sup_tables.specs.Rows.{place_cmp}
-use Rattle.sup_array_text.specs.Arrays.{Shown, shown, whole}
+use Rattle.sup_array_text.specs.Arrays.{ArrayShown, shown, whole}
 use Rattle.sup_wire.specs.declared.heading.Heading.{Heading}
 use Rattle.sup_wire.specs.declared.image.Image.{Image}
-use Rattle.sup_wire.specs.Drafts.{Parts, IsCut, IsWholeImage}
+use Rattle.sup_wire.specs.Drafts.{TableParts, IsCut, IsWholeImage}
 use Rattle.sup_wire.specs.Forms.{IsName, IsWritten, AreWritten}
 use Rattle.sup_wire.specs.RowTexts.{AreRows, row_text}
 use Rattle.sup_wire.specs.ImageTexts.{IsFront, IsHeaded, IsTextFor, image_front, image_back}
@@ -23,10 +23,10 @@ use Rattle.sup_wire.proofs.ImageTextLaws.{text_is, fitting}
 use Rattle.sup_image_text.specs.Next.{IsEdited}
 
 -- the parts that a text is put together of are those of an image with this heading and these rows
-pub text_for : (i : Image) (t : Shown) (h : Heading) (front : Bytes) → h.boot < 2 ^ 64 → h.count < 2 ^ 64 → IsWholeImage i → IsHeaded i h → IsFront h front
+pub text_for : (i : Image) (t : ArrayShown) (h : Heading) (front : Bytes) → h.boot < 2 ^ 64 → h.count < 2 ^ 64 → IsWholeImage i → IsHeaded i h → IsFront h front
     → AllByRecursion IsWritten i.state.rows → t ≡ shown (whole front (map row_text i.state.rows) image_back) (map row_text i.state.rows) → IsTextFor i t
 text_for i t h front fb fc is_whole headed fronted written shape =
-    let p : Parts = record { vector = fronted.parts.vector; cloud = fronted.parts.cloud; rows = i.state.rows } in
+    let p : TableParts = record { vector = fronted.parts.vector; cloud = fronted.parts.cloud; rows = i.state.rows } in
     let are : AreWritten p = record { vector = fronted.vector_names; cloud = fronted.cloud_names; rows = written } in
     let cut : IsCut i.state p = record {
       vector = subst (λ c. IsVector (has c) fronted.parts.vector) (sym headed.context) fronted.is_vector;
@@ -45,7 +45,7 @@ each_written : (rows : List Row) → AllByRecursion (λ r. IsWritten r × (r.dot
 each_written [] all = tt
 each_written (r ∷ rs) all = (all.0.0, each_written rs all.1)
 
-pub next_is : (old : List Row) (new : Image) (texts t : Shown) (edits : List (Edit LentRow)) (h : Heading) (front : Bytes) → h.boot < 2 ^ 64 → h.count < 2 ^ 64 → AreRows old texts.items → IsEdited old new.state.rows edits → IsHeaded new h → IsWholeImage new
+pub next_is : (old : List Row) (new : Image) (texts t : ArrayShown) (edits : List (Edit LentRow)) (h : Heading) (front : Bytes) → h.boot < 2 ^ 64 → h.count < 2 ^ 64 → AreRows old texts.items → IsEdited old new.state.rows edits → IsHeaded new h → IsWholeImage new
     → IsFront h front → AllByRecursion (IsComing IsWritten) (map (edit_of row_lent) edits)
     → ((rows : List Row) → AreRows rows texts.items → t ≡ shown (whole front (map row_text (edited place_cmp (map (edit_of row_lent) edits) rows)) image_back) (map row_text (edited place_cmp (map (edit_of row_lent) edits) rows))) → IsTextFor new t
 next_is old new texts t edits h front fb fc was rows headed is_whole fronted written made =

@@ -4,7 +4,7 @@ use Rattle.std.specs.Io.KnownBytes.{Appends, Keeps}
 use Rattle.sup_placement.specs.Place.{Weigher}
 use Rattle.sup_wire.specs.declared.image.Image.{Image}
 use Rattle.sup_wire.specs.Drafts.{IsDraftOfImage, IsWholeImage, SaysImage}
-use Rattle.sup_wire.specs.Faults.{Says, IsFault}
+use Rattle.sup_wire.specs.Faults.{TextSays, IsFault}
 use Rattle.sup_node_text.specs.Inspected.{IsStillText}
 use Rattle.sup_jobs.specs.declared.fault.Ended.{Ended}
 use Rattle.sup_jobs.specs.declared.fault.Fault.{Fault}
@@ -17,7 +17,7 @@ use Rattle.sup_inspecting.specs.Faults.{text_fault}
 pub record TellsImage (weigher : Weigher) (input : List ℕ) (said : List ℕ) : Type 0 where
   pub image : Image
   pub whole : IsWholeImage image
-  pub says : Says IsDraftOfImage input image
+  pub says : TextSays IsDraftOfImage input image
   pub told : IsStillText weigher image said
 
 -- why nothing is told of an input that isn't too long: it is no image; or want of memory

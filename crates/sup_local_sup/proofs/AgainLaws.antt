@@ -8,15 +8,15 @@ use Rattle.sup_specs.specs.Values.{Bytes}
 use Rattle.sup_causal.specs.Dots.{dot_eq}
 use Rattle.sup_local_sup.specs.declared.kept.Entry.{Entry}
 use Rattle.sup_local_sup.specs.declared.wanted.Wanted.{Wanted}
-use Rattle.sup_local_sup.specs.Keeping.{Kept, is_for, is_wanted, is_kept}
+use Rattle.sup_local_sup.specs.Keeping.{KeptChild, is_for, is_wanted, is_kept}
 use Rattle.sup_local_sup.specs.Planning.{restart_kept}
 use Rattle.sup_local_sup.specs.Supervising.{Supervisor, renewed}
 
 -- a test that sees no more of an entry than its dot
-abbrev ByDot : (Kept → Bool) → Type 0
+abbrev ByDot : (KeptChild → Bool) → Type 0
 ByDot p = (x : Bytes) (e f : Entry) → e.dot ≡ f.dot → p (x, e) ≡ p (x, f)
 
-all-set : (p : Kept → Bool) → ByDot p → (id : Bytes) (e new : Entry) → new.dot ≡ e.dot → (es : List Kept) → lookup (bytes_eq id) es ≡ Some e → list_all p (set_value (bytes_eq id) es new) ≡ list_all p es
+all-set : (p : KeptChild → Bool) → ByDot p → (id : Bytes) (e new : Entry) → new.dot ≡ e.dot → (es : List KeptChild) → lookup (bytes_eq id) es ≡ Some e → list_all p (set_value (bytes_eq id) es new) ≡ list_all p es
 all-set p dots id e new d [] at = refl
 all-set p dots id e new d (x ∷ es) at =
     elim (bytes_eq id x.0) as (λ b. cond b (Some x.1) (lookup (bytes_eq id) es) ≡ Some e → list_all p (cond b ((x.0, new) ∷ es) (x ∷ set_value (bytes_eq id) es new)) ≡ (p x && list_all p es)) [
@@ -24,7 +24,7 @@ all-set p dots id e new d (x ∷ es) at =
       | false ↦ λ f. ap (λ b. p x && b) (all-set p dots id e new d es f)
     ] at
 
-any-set : (p : Kept → Bool) → ByDot p → (id : Bytes) (e new : Entry) → new.dot ≡ e.dot → (es : List Kept) → lookup (bytes_eq id) es ≡ Some e → list_any p (set_value (bytes_eq id) es new) ≡ list_any p es
+any-set : (p : KeptChild → Bool) → ByDot p → (id : Bytes) (e new : Entry) → new.dot ≡ e.dot → (es : List KeptChild) → lookup (bytes_eq id) es ≡ Some e → list_any p (set_value (bytes_eq id) es new) ≡ list_any p es
 any-set p dots id e new d [] at = refl
 any-set p dots id e new d (x ∷ es) at =
     elim (bytes_eq id x.0) as (λ b. cond b (Some x.1) (lookup (bytes_eq id) es) ≡ Some e → list_any p (cond b ((x.0, new) ∷ es) (x ∷ set_value (bytes_eq id) es new)) ≡ (p x || list_any p es)) [
@@ -32,11 +32,11 @@ any-set p dots id e new d (x ∷ es) at =
       | false ↦ λ f. ap (λ b. p x || b) (any-set p dots id e new d es f)
     ] at
 
-all-renewed : (p : Kept → Bool) → ByDot p → (v : Supervisor) (id : Bytes) (o : Option Entry) → lookup (bytes_eq id) v.kept ≡ o → list_all p (restart_kept v id o) ≡ list_all p v.kept
+all-renewed : (p : KeptChild → Bool) → ByDot p → (v : Supervisor) (id : Bytes) (o : Option Entry) → lookup (bytes_eq id) v.kept ≡ o → list_all p (restart_kept v id o) ≡ list_all p v.kept
 all-renewed p dots v id None at = refl
 all-renewed p dots v id (Some e) at = all-set p dots id e (renewed v e) refl v.kept at
 
-any-renewed : (p : Kept → Bool) → ByDot p → (v : Supervisor) (id : Bytes) (o : Option Entry) → lookup (bytes_eq id) v.kept ≡ o → list_any p (restart_kept v id o) ≡ list_any p v.kept
+any-renewed : (p : KeptChild → Bool) → ByDot p → (v : Supervisor) (id : Bytes) (o : Option Entry) → lookup (bytes_eq id) v.kept ≡ o → list_any p (restart_kept v id o) ≡ list_any p v.kept
 any-renewed p dots v id None at = refl
 any-renewed p dots v id (Some e) at = any-set p dots id e (renewed v e) refl v.kept at
 

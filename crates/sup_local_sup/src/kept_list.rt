@@ -9,7 +9,7 @@ ghost use Rattle.std.specs.List.{IsDistinct};
 ghost use Rattle.std.specs.Option.{option_copied};
 ghost use Rattle.sup_local_sup.specs.Supervising.{others};
 ghost use Rattle.sup_local_sup.specs.Planning.{renewed_in};
-ghost use Rattle.sup_local_sup.specs.Changing.{without, Rise};
+ghost use Rattle.sup_local_sup.specs.Changing.{without, TextsRise};
 
 pub mod walk;
 
@@ -38,9 +38,9 @@ impl Model for KeptList {
     ghost use Rattle.std.specs.Str.{bytes_eq};
     ghost use Rattle.std.specs.Map.{keys_of};
     ghost use Rattle.std.specs.List.{IsDistinct};
-    ghost use Rattle.sup_local_sup.specs.Keeping.{Kept};
+    ghost use Rattle.sup_local_sup.specs.Keeping.{KeptChild};
 
-    ghost Value = { List Kept };
+    ghost Value = { List KeptChild };
 
     ghost view = { λ l. l.map.entries ++ l.late };
 
@@ -141,7 +141,7 @@ impl KeptList {
 
     // Lets go what is kept under these ids: one pass over all that is kept where several go, else a look-up for each.
     pub(crate) fn remove_among(&mut self, ids: &[ChildId], several: bool)
-        requires { Rise ids.now }
+        requires { TextsRise ids.now }
         ensures { self.new ≡ without self.old ids.now }
     {
         if several {
@@ -153,7 +153,7 @@ impl KeptList {
 
     // One pass over all that is kept.
     fn remove_several(&mut self, ids: &[ChildId])
-        requires { Rise ids.now }
+        requires { TextsRise ids.now }
         ensures { self.new ≡ without self.old ids.now }
     {
         keep_none_of(&mut self.map, ids);

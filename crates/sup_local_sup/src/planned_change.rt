@@ -26,14 +26,14 @@ impl Model for PlannedChange {
     ghost use Rattle.std.specs.Str.{bytes_eq};
     ghost use Rattle.std.specs.Map.{keys_of};
     ghost use Rattle.std.specs.List.{AllByRecursion, IsDistinct};
-    ghost use Rattle.sup_local_sup.specs.Changing.{Planned, is_among, Rise};
+    ghost use Rattle.sup_local_sup.specs.Changing.{Planned, is_among, TextsRise};
     ghost use Rattle.sup_local_sup.specs.Keeping.{KeepsCounted};
 
     ghost Value = { Planned };
 
     ghost view = { λ p. record { ended = p.ended; out = p.out.items; fresh = p.fresh; effects = p.effects.items } };
 
-    ghost invariant = { λ p. IsDistinct bytes_eq (keys_of p.fresh) × AllByRecursion (λ k. is_among p.out.items k ≡ true) p.fresh × Rise p.out.items × KeepsCounted p.fresh };
+    ghost invariant = { λ p. IsDistinct bytes_eq (keys_of p.fresh) × AllByRecursion (λ k. is_among p.out.items k ≡ true) p.fresh × TextsRise p.out.items × KeepsCounted p.fresh };
 }
 
 impl PlannedChange {

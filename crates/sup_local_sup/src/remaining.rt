@@ -6,7 +6,7 @@ ghost use Rattle.std.specs.List.{IsDistinct};
 ghost use Rattle.std.specs.Option.{option_copied};
 ghost use Rattle.sup_local_sup.specs.Keeping.{stop};
 ghost use Rattle.sup_local_sup.specs.Supervising.{others};
-ghost use Rattle.sup_local_sup.specs.Changing.{under, left_of, now_of, Rise};
+ghost use Rattle.sup_local_sup.specs.Changing.{under, left_of, now_of, TextsRise};
 
 use crate::effect::Effect;
 use crate::keeping::stop;
@@ -48,7 +48,7 @@ impl<'a> Remaining<'a> {
         stops: &mut Vec<Effect>,
         ids: &[ChildId],
     ) -> Result<(), AllocError>
-        requires { Rise ids.now }
+        requires { TextsRise ids.now }
         ensures { OnOk result (stops.new.items ≡ stops.old.items ++ map stop (under (left_of self.now.list.now (now_of self.now.ended)) ids.now)) }
     {
         match self.ended {
@@ -65,7 +65,7 @@ fn push_stops(
     kept: &KeptList,
     ids: &[ChildId],
 ) -> Result<(), AllocError>
-    requires { Rise ids.now }
+    requires { TextsRise ids.now }
     ensures { OnOk result (stops.new.items ≡ stops.old.items ++ map stop (under kept.now ids.now)) }
 {
     for (id, entry) in kept {
@@ -84,7 +84,7 @@ fn push_other_stops(
     ended: &ChildId,
     ids: &[ChildId],
 ) -> Result<(), AllocError>
-    requires { Rise ids.now }
+    requires { TextsRise ids.now }
     ensures { OnOk result (stops.new.items ≡ stops.old.items ++ map stop (under (others kept.now ended.now) ids.now)) }
 {
     for (id, entry) in kept {

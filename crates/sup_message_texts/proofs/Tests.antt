@@ -14,7 +14,7 @@ use Rattle.sup_causal.specs.Cut.{entry, in_parts}
 use Rattle.sup_causal.proofs.Sorted.{less_from_is_lt}
 use Rattle.sup_tables.specs.declared.row.Row.{Row}
 use Rattle.sup_tables.specs.Rows.{place_cmp}
-use Rattle.sup_wire.specs.Drafts.{Parts, Draft, ack, push, delta, image, AreCanonical, IsSound}
+use Rattle.sup_wire.specs.Drafts.{TableParts, Draft, ack, push, delta, image, AreCanonical, IsSound}
 use Rattle.sup_message_texts.specs.Messages.{rises, is_within, is_canonical_vector, is_canonical_cloud, has_canonical_rows, are_canonical, is_sound}
 
 module _ {X : Type 0} (test : X → Bool) (P : X → Type 0) where
@@ -47,7 +47,7 @@ within_if least most n e = let b = and_parts _ _ e in (leb-true least n b.0, leb
 if_within : (least most n : ℕ) → (least ≤ n) × (n ≤ most) → is_within least most n ≡ true
 if_within least most n w = and_from _ _ (le-leb least n w.0) (le-leb n most w.1)
 
-pub canonical_if : (p : Parts) → are_canonical p ≡ true → AreCanonical p
+pub canonical_if : (p : TableParts) → are_canonical p ≡ true → AreCanonical p
 canonical_if p e =
     let parts = and_parts (is_canonical_vector p.vector) (is_canonical_cloud p.vector p.cloud && has_canonical_rows p) e in
     let later = and_parts (is_canonical_cloud p.vector p.cloud) (has_canonical_rows p) parts.1 in
@@ -65,7 +65,7 @@ canonical_if p e =
       covered = All-from_recursion (λ (r : Row). in_parts p.vector p.cloud r.dot ≡ true) p.rows (each_if (λ (r : Row). in_parts p.vector p.cloud r.dot) (λ r. in_parts p.vector p.cloud r.dot ≡ true) (λ r e. e) p.rows rows.1);
     }
 
-pub if_canonical : (p : Parts) → AreCanonical p → are_canonical p ≡ true
+pub if_canonical : (p : TableParts) → AreCanonical p → are_canonical p ≡ true
 if_canonical p is =
     let c = is.context in
     and_from (is_canonical_vector p.vector) (is_canonical_cloud p.vector p.cloud && has_canonical_rows p)

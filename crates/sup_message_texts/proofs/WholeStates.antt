@@ -6,14 +6,14 @@ use Rattle.sup_tables.specs.States.{State, HasDotsOf}
 use Rattle.sup_tables.proofs.OneForm.{dots_again}
 use Rattle.sup_wire.specs.declared.message.Message.{Message}
 use Rattle.sup_wire.specs.declared.message.Message.TheVariants.{Ack, Push, Delta}
-use Rattle.sup_wire.specs.Drafts.{Parts, Draft, ack, push, delta, image, IsCut, IsWhole, IsSound, AreCanonical, SaysMessage, IsDraftOf, IsWholeMessage}
+use Rattle.sup_wire.specs.Drafts.{TableParts, Draft, ack, push, delta, image, IsCut, IsWhole, IsSound, AreCanonical, SaysMessage, IsDraftOf, IsWholeMessage}
 use Rattle.sup_message_texts.proofs.Runs.{context_of, vector_dots, has_parts, parts_counted}
 use Rattle.sup_message_texts.proofs.KeptRows.{in_order_kept}
 
-abbrev pub state_of : Parts → State
+abbrev pub state_of : TableParts → State
 state_of p = record { context = context_of p.vector p.cloud; rows = p.rows }
 
-module _ (p : Parts) (canonical : AreCanonical p) where
+module _ (p : TableParts) (canonical : AreCanonical p) where
   pub cut : IsCut (state_of p) p
   cut = record {
     vector = vector_of_parts (has (context_of p.vector p.cloud)) p.vector p.cloud canonical.context (has_parts p.vector p.cloud canonical.context);

@@ -17,9 +17,9 @@ use Rattle.sup_tables.specs.Rows.{place_cmp}
 use Rattle.sup_wire.specs.declared.message.Message.{Message}
 use Rattle.sup_wire.specs.declared.version.Version.{Version}
 use Rattle.sup_wire.specs.declared.version.Version.TheVariants.{One, Two}
-use Rattle.sup_wire.specs.Drafts.{Parts, Draft, ack, push, delta, image, IsDraftOf, IsWholeMessage}
+use Rattle.sup_wire.specs.Drafts.{TableParts, Draft, ack, push, delta, image, IsDraftOf, IsWholeMessage}
 use Rattle.sup_wire.specs.DraftReads.{message_at}
-use Rattle.sup_wire.specs.Faults.{Says, version_at}
+use Rattle.sup_wire.specs.Faults.{TextSays, version_at}
 
 -- whether each element is below all later ones
 abbrev pub rises : {X : Type 0} → (X → X → Ordering) → List X → Bool
@@ -36,10 +36,10 @@ is_canonical_vector vector = rises text_cmp (keys_of vector) && list_all (λ e. 
 abbrev pub is_canonical_cloud : List (Bytes × ℕ) → List Dot → Bool
 is_canonical_cloud vector cloud = rises dot_cmp cloud && list_all (λ d. is_within (entry vector d.node + 2) MAX d.counter) cloud
 
-abbrev pub has_canonical_rows : Parts → Bool
+abbrev pub has_canonical_rows : TableParts → Bool
 has_canonical_rows p = rises place_cmp p.rows && list_all (λ r. in_parts p.vector p.cloud r.dot) p.rows
 
-abbrev pub are_canonical : Parts → Bool
+abbrev pub are_canonical : TableParts → Bool
 are_canonical p = is_canonical_vector p.vector && (is_canonical_cloud p.vector p.cloud && has_canonical_rows p)
 
 abbrev pub is_sound : Draft → Bool
@@ -74,4 +74,4 @@ is_message_text bytes = is_utf8 bytes && is_message_value (read bytes)
 pub record IsMessage (bytes : Bytes) : Type 0 where
   pub message : Message
   pub whole : IsWholeMessage message
-  pub says : Says IsDraftOf bytes message
+  pub says : TextSays IsDraftOf bytes message

@@ -35,14 +35,14 @@ use Rattle.sup_replica.specs.declared.refusal.Refusal.TheVariants.{Down, Already
 use Rattle.sup_replica.specs.Checks.{refused_if}
 use Rattle.sup_placement.specs.Place.{Weigher}
 use Rattle.sup_model.specs.Worlds.{Ops}
-use Rattle.sup_replica.specs.Nodes.{Node, Kind, delta, push, ack, Message, Outcome, by_operations, is_named}
+use Rattle.sup_replica.specs.Nodes.{Node, Kind, delta, push, ack, Message, ActOutcome, by_operations, is_named}
 use Rattle.sup_replica.specs.Commands as commands
 use Rattle.sup_replica.specs.Steps.{reading, issues, command, exit_step, up_step, passes_greatest}
 use Rattle.sup_replica.specs.Acts.{stopped, booted, act_step, absorbs, takes, deliver, kept_by, answer_to, keeps}
 use Rattle.sup_replica.specs.Steps.{only, push_step}
 use Rattle.sup_model.specs.Runs.{dot_of}
 use Rattle.sup_model.proofs.Afters.{After, after-refused_if, after-then_do}
-use Rattle.sup_anti_entropy.specs.Peers.{In}
+use Rattle.sup_anti_entropy.specs.Peers.{OccursIn}
 use Rattle.sup_model.specs.Clean.{HasRow, ops_in}
 use Rattle.sup_model.proofs.IssueLaws.{Issued, Adds, join_issued, leave_issued, drain_issued, start_issued, replace_issued, delete_issued, register_issued, unregister_issued, removing_issued, reading_top}
 
@@ -51,7 +51,7 @@ letter_ops None = []
 letter_ops (Some m) = m.content
 
 -- what an act takes: rows of P, and at most one new row, under the next dot of the node
-pub record Takes (P : Row → Type 0) (n : Node Ops) (o : Outcome Ops) : Type 0 where
+pub record Takes (P : Row → Type 0) (n : Node Ops) (o : ActOutcome Ops) : Type 0 where
   pub new : Option Row
   pub fresh : (x : Row) → new ≡ Some x → x.dot ≡ commands.next (reading by_operations n)
   pub there : (x : Row) → new ≡ Some x → HasRow o.node.known x
@@ -60,7 +60,7 @@ pub record Takes (P : Row → Type 0) (n : Node Ops) (o : Outcome Ops) : Type 0 
   pub letter : (x : Row) → HasRow (letter_ops o.letter) x → P x ⊎ (new ≡ Some x)
   pub keeps : (x : Row) → HasRow n.known x → HasRow o.node.known x
   pub name : o.node.name ≡ n.name
-  pub reply : (d : Dot) → In (dot_of o.done.reply) d → (d ≡ commands.next (reading by_operations n)) × ((x : Row) × (new ≡ Some x))
+  pub reply : (d : Dot) → OccursIn (dot_of o.done.reply) d → (d ≡ commands.next (reading by_operations n)) × ((x : Row) × (new ≡ Some x))
 
 pub or-cases : (x y : Bool) (P : Type 0) → (x || y) ≡ true → (x ≡ true → P) → (y ≡ true → P) → P
 or-cases true y P e f g = f refl
@@ -84,7 +84,7 @@ row_of-some o x e = subst (λ o. among row_cmp (cons_option o []) x ≡ true) (s
 
 issues_take : (P : Row → Type 0) (s : Weigher) (n : Node Ops) (reply : Reply) (leaving : Leaving) (op : Operation)
     → ((x : Row) → HasRow n.known x → P x) → Issued (reading by_operations n) op
-    → ((d : Dot) → In (dot_of reply) d → (d ≡ commands.next (reading by_operations n)) × ((x : Row) × (op.add ≡ Some x)))
+    → ((d : Dot) → OccursIn (dot_of reply) d → (d ≡ commands.next (reading by_operations n)) × ((x : Row) × (op.add ≡ Some x)))
     → Takes P n (issues by_operations s n reply leaving (op ∷ []))
 issues_take P s n reply leaving op own i replies = record {
   new = op.add;
@@ -99,9 +99,9 @@ issues_take P s n reply leaving op own i replies = record {
 }
 
 -- nothing new
-only_take : (P : Row → Type 0) (n : Node Ops) (o : Outcome Ops) → o.node.name ≡ n.name
+only_take : (P : Row → Type 0) (n : Node Ops) (o : ActOutcome Ops) → o.node.name ≡ n.name
     → ((x : Row) → HasRow o.node.known x → P x) → ((x : Row) → HasRow (ops_in o.node.newest) x → P x) → ((x : Row) → HasRow (letter_ops o.letter) x → P x)
-    → ((x : Row) → HasRow n.known x → HasRow o.node.known x) → ((d : Dot) → In (dot_of o.done.reply) d → ⊥) → Takes P n o
+    → ((x : Row) → HasRow n.known x → HasRow o.node.known x) → ((d : Dot) → OccursIn (dot_of o.done.reply) d → ⊥) → Takes P n o
 only_take P n o name k w l keeps none = record {
   new = None;
   fresh = λ x e. absurd (none-some x e);
@@ -120,7 +120,7 @@ pub record Has (P : Row → Type 0) (n : Node Ops) : Type 0 where
   pub newest : (x : Row) → HasRow (ops_in n.newest) x → P x
 
 adds_take : (P : Row → Type 0) (s : Weigher) (n : Node Ops) → Has P n → (issued : Result Operation Refusal) (reply : Operation → Reply)
-    → ((op : Operation) (d : Dot) → In (dot_of (reply op)) d → d ≡ commands.next (reading by_operations n)) → After (Adds (reading by_operations n)) issued
+    → ((op : Operation) (d : Dot) → OccursIn (dot_of (reply op)) d → d ≡ commands.next (reading by_operations n)) → After (Adds (reading by_operations n)) issued
     → After (Takes P n) (command by_operations s n issued reply)
 adds_take P s n h (Ok op) reply replies a = issues_take P s n (reply op) Nobody op h.known a.issued (λ d is_in. (replies op d is_in, (a.row, a.is)))
 adds_take P s n h (Err r) reply replies a = tt
@@ -130,7 +130,7 @@ removes_take : (P : Row → Type 0) (s : Weigher) (n : Node Ops) → Has P n →
 removes_take P s n h (Ok op) i = issues_take P s n (Removed op.removes) Nobody op h.known i (λ d none. absurd none)
 removes_take P s n h (Err r) i = tt
 
-one_dot : (d e : Dot) → In (e ∷ []) d → d ≡ e
+one_dot : (d e : Dot) → OccursIn (e ∷ []) d → d ≡ e
 one_dot d e (inl same) = same
 one_dot d e (inr none) = absurd none
 
@@ -160,7 +160,7 @@ event_take P s n h (Unregister name) now = removes_take P s n h _ (unregister_is
 event_take P s n h (Exit id inc reason) now = exit_take P s n h id now (ruling n.supervisor id inc reason now)
 event_take P s n h (Ship to) now =
     let o = only n Sent [] (Some (record { to = to; kind = delta; content = n.known })) in
-    let sent : Result (Outcome Ops) Refusal = Ok o in
+    let sent : Result (ActOutcome Ops) Refusal = Ok o in
     after-refused_if (Takes P n) (is_named to n.name) UnknownNode sent (only_take P n o refl h.known h.newest h.known (λ x e. e) (λ d none. none))
 event_take P s n h (Push to) now = after-refused_if (Takes P n) (is_named to n.name) UnknownNode (push_step n to n.newest) (push_take P n h to n.newest h.newest)
 event_take P s n h (Deliver bytes) now = tt
@@ -172,12 +172,12 @@ pub act_take : (P : Row → Type 0) (s : Weigher) (n : Node Ops) → Has P n →
 act_take P s n h (Of e) now = after-refused_if (Takes P n) (not n.up) Down (up_step by_operations s n e now) (event_take P s n h e now)
 act_take P s n h Stop now =
     let o = only (stopped n) Stopped [] None in
-    let ok : Result (Outcome Ops) Refusal = Ok o in
+    let ok : Result (ActOutcome Ops) Refusal = Ok o in
     after-refused_if (Takes P n) (not n.up) Down ok (only_take P n o refl h.known (nothing_there P) (nothing_there P) (λ x e. e) (λ d none. none))
 act_take P s n h Restart now =
     let n' = booted n in
-    let o : Outcome Ops = keeps by_operations s n' (Boot n'.supervisor.boot) None in
-    let ok : Result (Outcome Ops) Refusal = Ok o in
+    let o : ActOutcome Ops = keeps by_operations s n' (Boot n'.supervisor.boot) None in
+    let ok : Result (ActOutcome Ops) Refusal = Ok o in
     after-refused_if (Takes P n) n.up AlreadyUp ok (only_take P n o refl h.known (nothing_there P) (nothing_there P) (λ x e. e) (λ d none. none))
 
 absorbs_take : (P : Row → Type 0) (s : Weigher) (n : Node Ops) → Has P n → (more : Ops) → ((x : Row) → HasRow more x → P x) → (letter : Option (Message Ops)) → ((x : Row) → HasRow (letter_ops letter) x → P x) → (b : Bool)
@@ -194,12 +194,12 @@ takes_take P s n h from push more m = absorbs_take P s n h more m None (nothing_
 
 pub deliver_take : (P : Row → Type 0) (s : Weigher) (n : Node Ops) → Has P n → (from : Bytes) (m : Message Ops) → ((x : Row) → HasRow m.content x → P x) → (whole : Bool) → After (Takes P n) (deliver by_operations s n from m whole)
 deliver_take P s n h from m c whole =
-    let ok : Result (Outcome Ops) Refusal = Ok (takes by_operations s n from m.kind m.content) in
+    let ok : Result (ActOutcome Ops) Refusal = Ok (takes by_operations s n from m.kind m.content) in
     let third = refused_if (not (is_named m.to n.name)) WrongReceiver ok in
     after-refused_if (Takes P n) (not n.up) Down (refused_if (not whole) BadMessage third)
     (after-refused_if (Takes P n) (not whole) BadMessage third
     (after-refused_if (Takes P n) (not (is_named m.to n.name)) WrongReceiver ok (takes_take P s n h from m.kind m.content c)))
 
-pub kept_by_after : (P : Outcome Ops → Type 0) (saves : Bool) (x : Result (Outcome Ops) Refusal) → After P x → After P (kept_by saves x)
+pub kept_by_after : (P : ActOutcome Ops → Type 0) (saves : Bool) (x : Result (ActOutcome Ops) Refusal) → After P x → After P (kept_by saves x)
 kept_by_after P saves x good =
     after-then_do P P x _ good (λ o g. after-refused_if P (passes_greatest o.node) CountSpent _ (after-refused_if P (o.saves && not saves) KeepFailed (Ok o) g))

@@ -7,21 +7,21 @@ use Rattle.sup_specs.specs.Values.{Bytes}
 use Rattle.sup_tables.specs.States.{State}
 use Rattle.sup_replica.specs.declared.refusal.Refusal.{Refusal}
 use Rattle.sup_replica.specs.declared.refusal.Refusal.TheVariants.{UpToDate, OutOfMemory}
-use Rattle.sup_model.specs.Worlds.{Ops, World, Stepped, step}
+use Rattle.sup_model.specs.Worlds.{Ops, ModelWorld, WorldStepped, step}
 use Rattle.sup_replica.specs.Nodes.{is_named}
 use Rattle.sup_model.specs.declared.step.Step.{Step}
 use Rattle.sup_model.specs.declared.step.Step.TheVariants.{Node as AtNode, Deliver as Delivery, Raw}
 use Rattle.sup_replica.specs.declared.event.Act.TheVariants.{Event as Of, Stop, Restart}
 use Rattle.sup_replica.specs.Refusals.{is_found_first}
 use Rattle.sup_model.specs.Runs.{MayBeUpToDate, world_after, answer_of, may_want, is_late}
-use Rattle.sup_anti_entropy.specs.Settling.{TookIn, Gathers, Spreads, AllAlike as AllEqual}
+use Rattle.sup_anti_entropy.specs.Settling.{TookIn, GathersOthers, SpreadsToOthers, AllStatesAlike as AllEqual}
 use Rattle.sup_replica.specs.ByTables.{by_tables}
 use Rattle.sup_model.specs.TableViews.{table_view}
 use Rattle.sup_model.specs.Posts.{RealStepped, real_step, real_after}
-use Rattle.sup_model.specs.Joint.{Joint, real_of, model_of, Holds}
+use Rattle.sup_model.specs.Joint.{JointWorld, real_of, model_of, JointHolds}
 use Rattle.sup_model.specs.Refines.{WorldStands, real_answer_of, AnswersAlike}
-use Rattle.sup_model.specs.Settles.{known_at, Gathered, Spread}
-use Rattle.sup_model.specs.Follows.{WorldStandsFor, Follows, StepsFollow, NewStands, WorldsStand, RunsFollow, Apart, Distinct, AllAlike, SettlingSettles}
+use Rattle.sup_model.specs.Settles.{known_at, GatheredAtFirst, SpreadToOthers}
+use Rattle.sup_model.specs.Follows.{WorldStandsFor, StepFollows, StepsFollow, NewStands, WorldsStand, RunsFollow, NameIsApart, NamesAllDiffer, AllKnowAlike, SettlingSettles}
 use Rattle.sup_model.proofs.TableLaws.{table_laws}
 use Rattle.sup_model.proofs.MailLaws.{Answers}
 use Rattle.sup_model.proofs.StepStands.{Stepping, step_stands}
@@ -34,9 +34,9 @@ use Rattle.sup_model.proofs.ExchangeLaws.{Took, exchange_took}
 pub runs_follow : RunsFollow
 runs_follow = refined by_tables table_view table_laws
 
-follows_at : (j : Joint State) → Holds table_view j → (st : Step) (x : Result (RealStepped State) Refusal) (y : Result Stepped Refusal)
+follows_at : (j : JointWorld State) → JointHolds table_view j → (st : Step) (x : Result (RealStepped State) Refusal) (y : Result WorldStepped Refusal)
     → y ≡ step (model_of j) st
-    → Answers (MayBeUpToDate (model_of j) st) (Stepping by_tables table_view table_laws) x y → Follows (model_of j) st (real_answer_of x) (real_after by_tables (real_of j) x)
+    → Answers (MayBeUpToDate (model_of j) st) (Stepping by_tables table_view table_laws) x y → StepFollows (model_of j) st (real_answer_of x) (real_after by_tables (real_of j) x)
 follows_at j h st (Ok x) (Ok y) e a = record {
   after = y.world;
   expected = Ok y.answer;
@@ -61,13 +61,13 @@ follows_at j h st (Err q) (Ok y) e a = record {
 }
 
 -- where the code's step may want memory, so may the model's: a ship that is up to date is found so before memory is taken
-later : (x : Result (RealStepped State) Refusal) (y : Result Stepped Refusal) (C : Type 0) → Answers C (Stepping by_tables table_view table_laws) x y → is_late x ≡ true → is_late y ≡ true
+later : (x : Result (RealStepped State) Refusal) (y : Result WorldStepped Refusal) (C : Type 0) → Answers C (Stepping by_tables table_view table_laws) x y → is_late x ≡ true → is_late y ≡ true
 later (Ok x) (Ok y) C a late = refl
 later (Err r) (Err q) C a late = subst (λ e. not (is_found_first e) ≡ true) a late
 later (Ok x) (Err q) C a late = absurd a
 later (Err r) (Ok y) C a late = refl
 
-wants_too : (st : Step) (x : Result (RealStepped State) Refusal) (y : Result Stepped Refusal) (C : Type 0) → Answers C (Stepping by_tables table_view table_laws) x y → may_want st (is_late x) ≡ true → may_want st (is_late y) ≡ true
+wants_too : (st : Step) (x : Result (RealStepped State) Refusal) (y : Result WorldStepped Refusal) (C : Type 0) → Answers C (Stepping by_tables table_view table_laws) x y → may_want st (is_late x) ≡ true → may_want st (is_late y) ≡ true
 wants_too (AtNode at (Of event) now saves) x y C a late = later x y C a late
 wants_too (AtNode at Stop now saves) x y C a late = late
 wants_too (AtNode at Restart now saves) x y C a late = refl
@@ -77,12 +77,12 @@ wants_too (Raw at bytes) x y C a late = refl
 pub steps_follow : StepsFollow
 steps_follow real after st answer (inl m) model s =
     let j = s.joint in
-    let f : Follows (model_of j) st (real_answer_of (real_step by_tables (real_of j) st)) (real_after by_tables (real_of j) (real_step by_tables (real_of j) st)) =
+    let f : StepFollows (model_of j) st (real_answer_of (real_step by_tables (real_of j) st)) (real_after by_tables (real_of j) (real_step by_tables (real_of j) st)) =
     follows_at j s.holds st (real_step by_tables (real_of j) st) (step (model_of j) st) refl (step_stands by_tables table_view table_laws j s.holds st) in
-    let g : Follows model st (real_answer_of (real_step by_tables real st)) (real_after by_tables real (real_step by_tables real st)) =
-    subst (λ w. Follows w st (real_answer_of (real_step by_tables real st)) (real_after by_tables real (real_step by_tables real st))) (sym s.model_is)
-    (subst (λ r. Follows (model_of j) st (real_answer_of (real_step by_tables r st)) (real_after by_tables r (real_step by_tables r st))) (sym s.real_is) f) in
-    subst (λ r. Follows model st answer r) (sym m.1) (subst (λ a. Follows model st a (real_after by_tables real (real_step by_tables real st))) (sym m.0) g)
+    let g : StepFollows model st (real_answer_of (real_step by_tables real st)) (real_after by_tables real (real_step by_tables real st)) =
+    subst (λ w. StepFollows w st (real_answer_of (real_step by_tables real st)) (real_after by_tables real (real_step by_tables real st))) (sym s.model_is)
+    (subst (λ r. StepFollows (model_of j) st (real_answer_of (real_step by_tables r st)) (real_after by_tables r (real_step by_tables r st))) (sym s.real_is) f) in
+    subst (λ r. StepFollows model st answer r) (sym m.1) (subst (λ a. StepFollows model st a (real_after by_tables real (real_step by_tables real st))) (sym m.0) g)
 steps_follow real after st answer (inr m) model s =
     let j = s.joint in
     let late : may_want st (is_late (real_step by_tables (real_of j) st)) ≡ true =
@@ -125,19 +125,19 @@ same_list (x ∷ xs) (y ∷ ys) e =
     cons_is x y xs ys (same_Some x y h) (same_list xs ys t)
 
 -- names apart from one know the same in both worlds
-known_same : (w v : World) (b : Bytes) → ((name : Bytes) → is_named name b ≡ false → known_at v name ≡ known_at w name) → (names : List Bytes) → Apart b names → map (known_at v) names ≡ map (known_at w) names
+known_same : (w v : ModelWorld) (b : Bytes) → ((name : Bytes) → is_named name b ≡ false → known_at v name ≡ known_at w name) → (names : List Bytes) → NameIsApart b names → map (known_at v) names ≡ map (known_at w) names
 known_same w v b f [] a = refl
 known_same w v b f (n ∷ ns) a = cons_is (known_at v n) (known_at w n) _ _ (f n a.1) (known_same w v b f ns a.2)
 
-record DoneGathering (w : World) (first : Bytes) (names : List Bytes) (w' : World) (x : Ops) : Type 0 where
+record DoneGathering (w : ModelWorld) (first : Bytes) (names : List Bytes) (w' : ModelWorld) (x : Ops) : Type 0 where
   ys : List Ops
   x' : Ops
   had : map (known_at w) names ≡ map (λ o. Some o) ys
   has : known_at w' first ≡ Some x'
-  gathers : Gathers operation_joins x ys x'
+  gathers : GathersOthers operation_joins x ys x'
   others : (name : Bytes) → is_named name first ≡ false → known_at w' name ≡ known_at w name
 
-gathered : (w : World) (first : Bytes) (names : List Bytes) (w' : World) (x : Ops) → Apart first names → known_at w first ≡ Some x → Gathered w first names w' → DoneGathering w first names w' x
+gathered : (w : ModelWorld) (first : Bytes) (names : List Bytes) (w' : ModelWorld) (x : Ops) → NameIsApart first names → known_at w first ≡ Some x → GatheredAtFirst w first names w' → DoneGathering w first names w' x
 gathered w first [] w' x a k g = record { ys = []; x' = x; had = refl; has = ap (λ v. known_at v first) g ∙ k; gathers = refl; others = λ name _. ap (λ v. known_at v name) g }
 gathered w first (n ∷ ns) w' x a k g =
     let mid = g.0 in
@@ -153,16 +153,16 @@ gathered w first (n ∷ ns) w' x a k g =
       others = λ name h. r.others name h ∙ t.others name h;
     }
 
-record DoneSpreading (w : World) (first : Bytes) (names : List Bytes) (w' : World) (x : Ops) : Type 0 where
+record DoneSpreading (w : ModelWorld) (first : Bytes) (names : List Bytes) (w' : ModelWorld) (x : Ops) : Type 0 where
   ys : List Ops
   zs : List Ops
   had : map (known_at w) names ≡ map (λ o. Some o) ys
   have : map (known_at w') names ≡ map (λ o. Some o) zs
   keeps : known_at w' first ≡ Some x
-  spreads : Spreads operation_joins x ys zs
-  others : (name : Bytes) → Apart name names → known_at w' name ≡ known_at w name
+  spreads : SpreadsToOthers operation_joins x ys zs
+  others : (name : Bytes) → NameIsApart name names → known_at w' name ≡ known_at w name
 
-spread : (w : World) (first : Bytes) (names : List Bytes) (w' : World) (x : Ops) → Apart first names → Distinct names → known_at w first ≡ Some x → Spread w first names w' → DoneSpreading w first names w' x
+spread : (w : ModelWorld) (first : Bytes) (names : List Bytes) (w' : ModelWorld) (x : Ops) → NameIsApart first names → NamesAllDiffer names → known_at w first ≡ Some x → SpreadToOthers w first names w' → DoneSpreading w first names w' x
 spread w first [] w' x a d k g = record { ys = []; zs = []; had = refl; have = refl; keeps = ap (λ v. known_at v first) g ∙ k; spreads = tt; others = λ name _. ap (λ v. known_at v name) g }
 spread w first (n ∷ ns) w' x a d k g =
     let mid = g.0 in
@@ -179,7 +179,7 @@ spread w first (n ∷ ns) w' x a d k g =
       others = λ name h. r.others name h.2 ∙ t.others name h.0;
     }
 
-all_alike : (all : Ops) (zs : List Ops) → AllEqual operation_joins all zs → AllAlike all zs
+all_alike : (all : Ops) (zs : List Ops) → AllEqual operation_joins all zs → AllKnowAlike all zs
 unfolding operation_joins
 all_alike all [] e = tt
 all_alike all (z ∷ zs) e = (covers_alike z all e.0.0 e.0.1, all_alike all zs e.1)
@@ -190,7 +190,7 @@ settling_settles w first names w' x a d k s =
     let g = gathered w first names mid x a k s.1 in
     let t = spread mid first names w' g.x' a d g.has s.2 in
     let ys : t.ys ≡ g.ys = same_list t.ys g.ys (sym t.had ∙ known_same w mid first g.others names a ∙ g.had) in
-    let r = settled_alike x g.x' g.ys t.zs g.gathers (subst (λ y. Spreads operation_joins g.x' y t.zs) ys t.spreads) in
+    let r = settled_alike x g.x' g.ys t.zs g.gathers (subst (λ y. SpreadsToOthers operation_joins g.x' y t.zs) ys t.spreads) in
     record {
       before = x ∷ g.ys;
       after = g.x' ∷ t.zs;

@@ -23,24 +23,24 @@ use Rattle.sup_replica.specs.declared.refusal.Refusal.TheVariants.{AlreadyPresen
 use Rattle.sup_replica.specs.Checks.{refused_if}
 use Rattle.sup_replica.specs.Nodes.{Node, by_operations}
 use Rattle.sup_replica.specs.Steps.{reading}
-use Rattle.sup_replica.specs.Commands.{Reading, next, is_full, is_spent, drains, join, leave, drain, start, replace, delete, register, unregister}
+use Rattle.sup_replica.specs.Commands.{CommandReading, next, is_full, is_spent, drains, join, leave, drain, start, replace, delete, register, unregister}
 use Rattle.sup_model.specs.Worlds.{Ops}
 use Rattle.sup_model.proofs.Afters.{After, after-refused_if}
 use Rattle.sup_model.specs.Laws.{IsOperation}
 use Rattle.sup_model.proofs.TopLaws.{known-greatest}
 
-pub record Issued (r : Reading) (op : Operation) : Type 0 where
+pub record Issued (r : CommandReading) (op : Operation) : Type 0 where
   pub dot : (x : Row) → op.add ≡ Some x → x.dot ≡ next r
   pub own : IsOperation op
 
 -- it adds a row
-pub record Adds (r : Reading) (op : Operation) : Type 0 where
+pub record Adds (r : CommandReading) (op : Operation) : Type 0 where
   pub issued : Issued r op
   pub row : Row
   pub is : op.add ≡ Some row
 
 -- the live rows of the node have no dot past its greatest counter
-abbrev pub IsTop : Reading → Type 0
+abbrev pub IsTop : CommandReading → Type 0
 IsTop r = (x : Row) → among row_cmp r.rows x ≡ true → x.dot.node ≡ r.me → x.dot.counter ≤ r.counter
 
 -- the dot of an entry is that of a row
@@ -59,7 +59,7 @@ entry_of (y ∷ ys) p d e =
       | false ↦ later
     ] e
 
-next_is_new : (r : Reading) → IsTop r → (table : Table) (key : Bytes) → among dot_cmp (live_dots r.rows table key) (next r) ≡ false
+next_is_new : (r : CommandReading) → IsTop r → (table : Table) (key : Bytes) → among dot_cmp (live_dots r.rows table key) (next r) ≡ false
 next_is_new r top table key =
     elim (among dot_cmp (live_dots r.rows table key) (next r)) as (λ b. among dot_cmp (live_dots r.rows table key) (next r) ≡ b → b ≡ false) [
       | true ↦ λ e.
@@ -73,7 +73,7 @@ next_is_new r top table key =
 pub some_same : {X : Type 0} (x y : X) → Some x ≡ Some y → y ≡ x
 some_same x y e = cc
 
-adds : (r : Reading) (op : Operation) (x : Row) → op.add ≡ Some x → x.dot ≡ next r → among dot_cmp op.removes (next r) ≡ false → Adds r op
+adds : (r : CommandReading) (op : Operation) (x : Row) → op.add ≡ Some x → x.dot ≡ next r → among dot_cmp op.removes (next r) ≡ false → Adds r op
 adds r op x e d f = record {
   row = x;
   is = e;
@@ -83,10 +83,10 @@ adds r op x e d f = record {
   };
 }
 
-removes_only : (r : Reading) (op : Operation) → op.add ≡ None → Issued r op
+removes_only : (r : CommandReading) (op : Operation) → op.add ≡ None → Issued r op
 removes_only r op e = record { dot = λ y g. absurd (none-some y (sym e ∙ g)); own = λ y g. absurd (none-some y (sym e ∙ g)) }
 
-pub join_issued : (r : Reading) (label : Bytes) → After (Adds r) (join r label)
+pub join_issued : (r : CommandReading) (label : Bytes) → After (Adds r) (join r label)
 join_issued r label =
     let ok : Result Operation Refusal = Ok (put_member (next r) r.me (record { label = label; status = Open })) in
     let second = refused_if (is_spent r) DotsSpent ok in
@@ -95,13 +95,13 @@ join_issued r label =
     (after-refused_if (Adds r) (is_full r) TableFull second
     (after-refused_if (Adds r) (is_spent r) DotsSpent ok (adds r (put_member (next r) r.me (record { label = label; status = Open })) _ refl refl refl)))
 
-pub leave_issued : (r : Reading) (m : Bytes) → After (Issued r) (leave r m)
+pub leave_issued : (r : CommandReading) (m : Bytes) → After (Issued r) (leave r m)
 leave_issued r m =
     let ok : Result Operation Refusal = Ok (drop_member r.rows m) in
     after-refused_if (Issued r) (not (is_present r.rows members m)) NotMember ok (removes_only r (drop_member r.rows m) refl)
 
 -- by the winner, since where there is none nothing is added
-pub drain_issued : (r : Reading) (m : Bytes) → IsTop r → After (Adds r) (drain r m)
+pub drain_issued : (r : CommandReading) (m : Bytes) → IsTop r → After (Adds r) (drain r m)
 drain_issued r m top = go (winner r.rows members m) where
   go : (o : Option Row) → After (Adds r) (refused_if (not (is_some o)) NotMember (refused_if (drains o) AlreadyDraining (refused_if (is_spent r) DotsSpent (Ok (drain_over (next r) m (live_dots r.rows members m) o)))))
   go None = tt
@@ -112,7 +112,7 @@ drain_issued r m top = go (winner r.rows members m) where
       after-refused_if (Adds r) (drains (Some won)) AlreadyDraining last
       (after-refused_if (Adds r) (is_spent r) DotsSpent ok (adds r op _ refl refl (next_is_new r top members m)))
 
-pub start_issued : (r : Reading) (id : Bytes) (spec : ChildSpec) → After (Adds r) (start r id spec)
+pub start_issued : (r : CommandReading) (id : Bytes) (spec : ChildSpec) → After (Adds r) (start r id spec)
 start_issued r id spec =
     let ok : Result Operation Refusal = Ok (put_child (next r) id spec) in
     let second = refused_if (is_spent r) DotsSpent ok in
@@ -121,19 +121,19 @@ start_issued r id spec =
     (after-refused_if (Adds r) (is_full r) TableFull second
     (after-refused_if (Adds r) (is_spent r) DotsSpent ok (adds r (put_child (next r) id spec) _ refl refl refl)))
 
-pub replace_issued : (r : Reading) (id : Bytes) (spec : ChildSpec) → IsTop r → After (Adds r) (replace r id spec)
+pub replace_issued : (r : CommandReading) (id : Bytes) (spec : ChildSpec) → IsTop r → After (Adds r) (replace r id spec)
 replace_issued r id spec top =
     let ok : Result Operation Refusal = Ok (replace_child r.rows (next r) id spec) in
     let first = refused_if (is_spent r) DotsSpent ok in
     after-refused_if (Adds r) (not (is_present r.rows children id)) NotFound first
     (after-refused_if (Adds r) (is_spent r) DotsSpent ok (adds r (replace_child r.rows (next r) id spec) _ refl refl (next_is_new r top children id)))
 
-pub delete_issued : (r : Reading) (id : Bytes) → After (Issued r) (delete r id)
+pub delete_issued : (r : CommandReading) (id : Bytes) → After (Issued r) (delete r id)
 delete_issued r id =
     let ok : Result Operation Refusal = Ok (drop_child r.rows id) in
     after-refused_if (Issued r) (not (is_present r.rows children id)) NotFound ok (removes_only r (drop_child r.rows id) refl)
 
-pub register_issued : (r : Reading) (name id : Bytes) → After (Adds r) (register r name id)
+pub register_issued : (r : CommandReading) (name id : Bytes) → After (Adds r) (register r name id)
 register_issued r name id =
     let ok : Result Operation Refusal = Ok (put_name (next r) name id) in
     let third = refused_if (is_spent r) DotsSpent ok in
@@ -144,12 +144,12 @@ register_issued r name id =
     (after-refused_if (Adds r) (is_full r) TableFull third
     (after-refused_if (Adds r) (is_spent r) DotsSpent ok (adds r (put_name (next r) name id) _ refl refl refl))))
 
-pub unregister_issued : (r : Reading) (name : Bytes) → After (Issued r) (unregister r name)
+pub unregister_issued : (r : CommandReading) (name : Bytes) → After (Issued r) (unregister r name)
 unregister_issued r name =
     let ok : Result Operation Refusal = Ok (drop_name r.rows name) in
     after-refused_if (Issued r) (not (is_present r.rows names name)) NameUnknown ok (removes_only r (drop_name r.rows name) refl)
 
-pub removing_issued : (r : Reading) (dots : List Dot) → Issued r (removing dots)
+pub removing_issued : (r : CommandReading) (dots : List Dot) → Issued r (removing dots)
 removing_issued r dots = removes_only r (removing dots) refl
 
 -- at a node of the model

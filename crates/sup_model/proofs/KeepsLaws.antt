@@ -30,14 +30,14 @@ use Rattle.sup_replica.specs.declared.refusal.Refusal.{Refusal}
 use Rattle.sup_replica.specs.declared.refusal.Refusal.TheVariants.{Down, AlreadyUp, UnknownNode, BadMessage, WrongReceiver, CountSpent, KeepFailed, NoSuchMessage}
 use Rattle.sup_replica.specs.Checks.{refused_if, then_do}
 use Rattle.sup_placement.specs.Place.{Weigher}
-use Rattle.sup_model.specs.Worlds.{Setting, Ops, World, Site, Answer, Stepped, site_of, message_of, or_refused, acted, target_is_here, step, new}
-use Rattle.sup_replica.specs.Nodes.{Node, Kind, delta, push, ack, Message, Outcome, by_operations, is_named, wanted_at}
+use Rattle.sup_model.specs.Worlds.{WorldSetting, Ops, ModelWorld, ModelSite, ModelAnswer, WorldStepped, site_of, message_of, or_refused, acted, target_is_here, step, new}
+use Rattle.sup_replica.specs.Nodes.{Node, Kind, delta, push, ack, Message, ActOutcome, by_operations, is_named, wanted_at}
 use Rattle.sup_replica.specs.Steps.{wanted, issues, command, exit_step, up_step, passes_greatest, with_own}
 use Rattle.sup_replica.specs.Acts.{reconciled, stopped, booted, act_step, absorbs, takes, deliver, kept_by, keeps}
 use Rattle.sup_replica.specs.Steps.{only, push_step}
 use Rattle.sup_model.specs.declared.step.Step.{Step}
 use Rattle.sup_model.specs.declared.step.Step.TheVariants.{Node as AtNode, Deliver as Delivery, Raw}
-use Rattle.sup_model.specs.Runs.{world_after, Allows, Run}
+use Rattle.sup_model.specs.Runs.{world_after, ModelAllows, ModelRun}
 use mathlib.Core.Logic.{inl, inr}
 use Rattle.sup_model.specs.Headline.{KeepsExactly}
 use Rattle.sup_model.proofs.OnceLaws.{IsOnce, once_none, once_left, once_renewed}
@@ -48,7 +48,7 @@ use Rattle.sup_model.proofs.Afters.{After, after-refused_if, after-then_do, afte
 abbrev pub Good : Weigher → Node Ops → Type 0
 Good s n = n.up ≡ true → KeepsExactly s n
 
-abbrev pub GoodOutcome : Weigher → Outcome Ops → Type 0
+abbrev pub GoodOutcome : Weigher → ActOutcome Ops → Type 0
 GoodOutcome s o = Good s o.node
 
 -- a node that has just looked at its tables is good
@@ -102,7 +102,7 @@ event_good s n (Register name id) now good = command_good s n _ _ good
 event_good s n (Unregister name) now good = command_good s n _ _ good
 event_good s n (Exit id inc reason) now good = exit_good s n id now (ruling n.supervisor id inc reason now) good
 event_good s n (Ship to) now good =
-    let sent : Result (Outcome Ops) Refusal = Ok (only n Sent [] (Some (record { to = to; kind = delta; content = n.known }))) in
+    let sent : Result (ActOutcome Ops) Refusal = Ok (only n Sent [] (Some (record { to = to; kind = delta; content = n.known }))) in
     after-refused_if (GoodOutcome s) (is_named to n.name) UnknownNode sent good
 event_good s n (Push to) now good = after-refused_if (GoodOutcome s) (is_named to n.name) UnknownNode (push_step n to n.newest) (push_good s n to n.newest good)
 event_good s n (Deliver bytes) now good = tt
@@ -110,10 +110,10 @@ event_good s n (Deliver bytes) now good = tt
 act_good : (s : Weigher) (n : Node Ops) (a : Act) (now : ℕ) → Good s n → After (GoodOutcome s) (act_step by_operations s n a now)
 act_good s n (Of e) now good = after-refused_if (GoodOutcome s) (not n.up) Down (up_step by_operations s n e now) (event_good s n e now good)
 act_good s n Stop now good =
-    let ok : Result (Outcome Ops) Refusal = Ok (only (stopped n) Stopped [] None) in
+    let ok : Result (ActOutcome Ops) Refusal = Ok (only (stopped n) Stopped [] None) in
     after-refused_if (GoodOutcome s) (not n.up) Down ok (λ up. absurd (true≢false (sym up)))
 act_good s n Restart now good =
-    let ok : Result (Outcome Ops) Refusal = Ok (keeps by_operations s (booted n) (Boot (n.supervisor.boot + 1)) None) in
+    let ok : Result (ActOutcome Ops) Refusal = Ok (keeps by_operations s (booted n) (Boot (n.supervisor.boot + 1)) None) in
     after-refused_if (GoodOutcome s) n.up AlreadyUp ok (reconciled_good s (booted n) (λ _. once_none))
 
 -- what is covered leaves what is wanted
@@ -135,13 +135,13 @@ takes_good s n from push more good = absorbs_good s n more _ (covers n.known mor
 
 deliver_good : (s : Weigher) (n : Node Ops) (from : Bytes) (m : Message Ops) (whole : Bool) → Good s n → After (GoodOutcome s) (deliver by_operations s n from m whole)
 deliver_good s n from m whole good =
-    let ok : Result (Outcome Ops) Refusal = Ok (takes by_operations s n from m.kind m.content) in
+    let ok : Result (ActOutcome Ops) Refusal = Ok (takes by_operations s n from m.kind m.content) in
     let third = refused_if (not (is_named m.to n.name)) WrongReceiver ok in
     after-refused_if (GoodOutcome s) (not n.up) Down (refused_if (not whole) BadMessage third)
     (after-refused_if (GoodOutcome s) (not whole) BadMessage third
     (after-refused_if (GoodOutcome s) (not (is_named m.to n.name)) WrongReceiver ok (takes_good s n from m.kind m.content good)))
 
-kept_by_good : (s : Weigher) (saves : Bool) (x : Result (Outcome Ops) Refusal) → After (GoodOutcome s) x → After (GoodOutcome s) (kept_by saves x)
+kept_by_good : (s : Weigher) (saves : Bool) (x : Result (ActOutcome Ops) Refusal) → After (GoodOutcome s) x → After (GoodOutcome s) (kept_by saves x)
 kept_by_good s saves x good =
     after-then_do (GoodOutcome s) (GoodOutcome s) x _ good (λ o g. after-refused_if (GoodOutcome s) (passes_greatest o.node) CountSpent _ (after-refused_if (GoodOutcome s) (o.saves && not saves) KeepFailed (Ok o) g))
 
@@ -163,61 +163,61 @@ each-Contains P [] h k d l = absurd (omega (arith, l))
 each-Contains P (x ∷ xs) h zero d l = h.0
 each-Contains P (x ∷ xs) h (suc k) d l = each-Contains P xs h.1 k d (omega (arith, l))
 
-abbrev pub GoodWorld : World → Type 0
-GoodWorld w = AllByRecursion (λ (s : Site). Good w.weigher s.node) w.sites
+abbrev pub GoodWorld : ModelWorld → Type 0
+GoodWorld w = AllByRecursion (λ (s : ModelSite). Good w.weigher s.node) w.sites
 
-abbrev GoodStep : Stepped → Type 0
+abbrev GoodStep : WorldStepped → Type 0
 GoodStep x = GoodWorld x.world
 
-acted_good : (w : World) (site : Site) (o : Outcome Ops) → GoodWorld w → Good w.weigher o.node → GoodStep (acted w site o)
-acted_good w site o good h = each-put (λ (s : Site). Good w.weigher s.node) _ _ h w.sites good
+acted_good : (w : ModelWorld) (site : ModelSite) (o : ActOutcome Ops) → GoodWorld w → Good w.weigher o.node → GoodStep (acted w site o)
+acted_good w site o good h = each-put (λ (s : ModelSite). Good w.weigher s.node) _ _ h w.sites good
 
-step_good : (w : World) (st : Step) → GoodWorld w → After GoodStep (step w st)
+step_good : (w : ModelWorld) (st : Step) → GoodWorld w → After GoodStep (step w st)
 step_good w (AtNode at act now saves) good =
-    let done = λ (site : Site). kept_by saves (act_step by_operations w.weigher site.node act now) in
-    let next = λ (site : Site) (o : Outcome Ops). let x : Result Stepped Refusal = Ok (acted w site o) in x in
-    let rest = λ (site : Site). then_do (done site) (next site) in
+    let done = λ (site : ModelSite). kept_by saves (act_step by_operations w.weigher site.node act now) in
+    let next = λ (site : ModelSite) (o : ActOutcome Ops). let x : Result WorldStepped Refusal = Ok (acted w site o) in x in
+    let rest = λ (site : ModelSite). then_do (done site) (next site) in
     after-or_refused GoodStep (site_of w at) UnknownNode (λ site. refused_if (not (target_is_here w act)) UnknownNode (rest site)) (λ site e.
     after-refused_if GoodStep (not (target_is_here w act)) UnknownNode (rest site)
     (after-then_do (GoodOutcome w.weigher) GoodStep (done site) (next site)
     (kept_by_good w.weigher saves (act_step by_operations w.weigher site.node act now)
-    (act_good w.weigher site.node act now (each-find (λ (s : Site). Good w.weigher s.node) (λ s. is_named at s.node.name) w.sites site good e)))
+    (act_good w.weigher site.node act now (each-find (λ (s : ModelSite). Good w.weigher s.node) (λ s. is_named at s.node.name) w.sites site good e)))
     (λ o h. acted_good w site o good h)))
 step_good w (Delivery from k at drop now saves) good =
-    let arrives = λ (m : Message Ops) (receiver : Site). deliver by_operations w.weigher receiver.node from m (drop == 0) in
-    let next = λ (receiver : Site) (o : Outcome Ops). let x : Result Stepped Refusal = Ok (acted w receiver o) in x in
-    let at_receiver = λ (m : Message Ops) (receiver : Site). then_do (kept_by saves (arrives m receiver)) (next receiver) in
+    let arrives = λ (m : Message Ops) (receiver : ModelSite). deliver by_operations w.weigher receiver.node from m (drop == 0) in
+    let next = λ (receiver : ModelSite) (o : ActOutcome Ops). let x : Result WorldStepped Refusal = Ok (acted w receiver o) in x in
+    let at_receiver = λ (m : Message Ops) (receiver : ModelSite). then_do (kept_by saves (arrives m receiver)) (next receiver) in
     let with_message = λ (m : Message Ops). or_refused (site_of w (unwrap_or at m.to)) UnknownNode (at_receiver m) in
-    let with_sender = λ (sender : Site). or_refused (message_of sender k) NoSuchMessage with_message in
+    let with_sender = λ (sender : ModelSite). or_refused (message_of sender k) NoSuchMessage with_message in
     after-or_refused GoodStep (site_of w from) UnknownNode with_sender (λ sender _.
     after-or_refused GoodStep (message_of sender k) NoSuchMessage with_message (λ m _.
     after-or_refused GoodStep (site_of w (unwrap_or at m.to)) UnknownNode (at_receiver m) (λ receiver e.
     after-then_do (GoodOutcome w.weigher) GoodStep (kept_by saves (arrives m receiver)) (next receiver)
     (kept_by_good w.weigher saves (arrives m receiver)
-    (deliver_good w.weigher receiver.node from m (drop == 0) (each-find (λ (s : Site). Good w.weigher s.node) (λ s. is_named (unwrap_or at m.to) s.node.name) w.sites receiver good e)))
+    (deliver_good w.weigher receiver.node from m (drop == 0) (each-find (λ (s : ModelSite). Good w.weigher s.node) (λ s. is_named (unwrap_or at m.to) s.node.name) w.sites receiver good e)))
     (λ o h. acted_good w receiver o good h))))
 step_good w (Raw at bytes) good =
-    let none : Result Stepped Refusal = Err NoSuchMessage in
+    let none : Result WorldStepped Refusal = Err NoSuchMessage in
     let inner = refused_if (not (w.is_message bytes)) BadMessage none in
     after-or_refused GoodStep (site_of w at) UnknownNode (λ site. refused_if (not site.node.up) Down inner) (λ site _.
     after-refused_if GoodStep (not site.node.up) Down inner (after-refused_if GoodStep (not (w.is_message bytes)) BadMessage none tt))
 
-pub after_good : (w : World) (r : Result Stepped Refusal) → GoodWorld w → After GoodStep r → GoodWorld (world_after w r)
+pub after_good : (w : ModelWorld) (r : Result WorldStepped Refusal) → GoodWorld w → After GoodStep r → GoodWorld (world_after w r)
 after_good w (Ok x) good h = h
 after_good w (Err refusal) good h = good
 
-pub allowed_good : (w : World) (s : Step) (answer : Result Answer Refusal) (w' : World) → Allows w s answer w' → GoodWorld w → GoodWorld w'
+pub allowed_good : (w : ModelWorld) (s : Step) (answer : Result ModelAnswer Refusal) (w' : ModelWorld) → ModelAllows w s answer w' → GoodWorld w → GoodWorld w'
 allowed_good w s answer w' (inl h) good = subst GoodWorld (sym h.1) (after_good w (step w s) good (step_good w s good))
 allowed_good w s answer w' (inr (inl h)) good = subst GoodWorld (sym h.2) good
 allowed_good w s answer w' (inr (inr h)) good = subst GoodWorld (sym h.3) good
 
-pub run_good : (w : World) (steps : List Step) (answers : List (Result Answer Refusal)) (w' : World) → Run w steps answers w' → GoodWorld w → GoodWorld w'
+pub run_good : (w : ModelWorld) (steps : List Step) (answers : List (Result ModelAnswer Refusal)) (w' : ModelWorld) → ModelRun w steps answers w' → GoodWorld w → GoodWorld w'
 run_good w [] [] w' run good = subst GoodWorld (sym run) good
 run_good w (s ∷ steps) (answer ∷ rest) w' run good = run_good run.0 steps rest w' run.2 (allowed_good w s answer run.0 run.1 good)
 run_good w [] (answer ∷ rest) w' run good = absurd run
 run_good w (s ∷ steps) [] w' run good = absurd run
 
-pub new_good : (setting : Setting) (is_message : Bytes → Bool) (names : List Bytes) → GoodWorld (new setting is_message names)
+pub new_good : (setting : WorldSetting) (is_message : Bytes → Bool) (names : List Bytes) → GoodWorld (new setting is_message names)
 new_good setting is_message [] = tt
 new_good setting is_message (name ∷ names) = (λ up. record { none_more = refl; none_less = refl; once = once_none }, new_good setting is_message names)
 

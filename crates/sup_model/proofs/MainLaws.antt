@@ -3,7 +3,7 @@ use Rattle.std.specs.Prelude.{◌≡◌, []}
 use Rattle.std.specs.Map.{keys_of}
 use Rattle.sup_model.specs.Headline.{MainTheorem}
 use Rattle.sup_model.specs.Starts.{started_at}
-use Rattle.sup_model.specs.Worlds.{Site, new}
+use Rattle.sup_model.specs.Worlds.{ModelSite, new}
 use Rattle.sup_model.proofs.FollowLaws.{worlds_stand}
 use Rattle.sup_model.proofs.HeadlineLaws.{agree, stays}
 use Rattle.sup_model.proofs.KeepsLaws.{Good, each-of, new_good, run_good}
@@ -18,7 +18,7 @@ main setting is_message names steps answers w run =
       stands = λ real s. worlds_stand real w s;
       agree = λ a b _ _ same. agree w.weigher a.node b.node same;
       stays = λ a _. stays a.node;
-      keeps = λ a c. each-of (λ (s : Site). Good w.weigher s.node) w.sites good a c;
-      starts = λ a c. each-of (λ (s : Site). keys_of s.node.supervisor.kept ≡ started_at s.node.name [] steps answers) w.sites (starts setting is_message names steps answers w run fresh) a c;
+      keeps = λ a c. each-of (λ (s : ModelSite). Good w.weigher s.node) w.sites good a c;
+      starts = λ a c. each-of (λ (s : ModelSite). keys_of s.node.supervisor.kept ≡ started_at s.node.name [] steps answers) w.sites (starts setting is_message names steps answers w run fresh) a c;
       once = no_dot_twice setting is_message names steps answers w run;
     }

@@ -10,13 +10,13 @@ use Rattle.sup_causal.specs.declared.dot.Dot.{Dot}
 use Rattle.sup_causal.specs.Dots.{dot_cmp}
 use Rattle.sup_tables.specs.declared.row.Row.{Row}
 use Rattle.sup_tables.specs.Rows.{row_cmp}
-use Rattle.sup_tables.specs.Operations.{known, named, added, live, Covers}
+use Rattle.sup_tables.specs.Operations.{known, named, added, live, OperationsCover}
 use Rattle.sup_tables.specs.RowLaws.{row_total, row_tie}
 use Rattle.sup_tables.proofs.CoverLaws.{below-from_Covers, Covers-from_below, covers_itself, covers_trans, live-parts, live-from}
 use Rattle.sup_model.specs.Worlds.{Ops}
-use Rattle.sup_anti_entropy.specs.Joins.{Joins}
+use Rattle.sup_anti_entropy.specs.Joins.{JoinLattice}
 use Rattle.sup_model.specs.Clean.{HasRow}
-use Rattle.sup_model.specs.Laws.{Alike}
+use Rattle.sup_model.specs.Laws.{OperationsAlike}
 use Rattle.sup_tables.proofs.OperationLaws.{both_ways}
 use Rattle.sup_model.proofs.CleanLaws.{row-append, row-left, row-right, or-cases}
 
@@ -32,21 +32,21 @@ HasLive ops r = among row_cmp (live ops) r ≡ true
 free_of : (ops others : Ops) (r : Row) → HasLive (ops ++ others) r → (named ops r.dot ≡ false) × (named others r.dot ≡ false)
 free_of ops others r l = or_parts (named ops r.dot) (named others r.dot) (sym (named-append ops others r.dot) ∙ (live-parts (ops ++ others) r l).0)
 
-pub above_left : (ops others : Ops) → Covers (ops ++ others) ops
+pub above_left : (ops others : Ops) → OperationsCover (ops ++ others) ops
 above_left ops others = Covers-from_below (ops ++ others) ops (record {
   dots = λ d k. known-append ops others d ∙ or_left (known ops d) (known others d) k;
   lives = λ r l. (free_of ops others r l).0;
   there = λ r l n. row-left ops others r (live-parts ops r l).1;
 })
 
-pub above_right : (ops others : Ops) → Covers (ops ++ others) others
+pub above_right : (ops others : Ops) → OperationsCover (ops ++ others) others
 above_right ops others = Covers-from_below (ops ++ others) others (record {
   dots = λ d k. known-append ops others d ∙ or_right (known ops d) (known others d) k;
   lives = λ r l. (free_of ops others r l).1;
   there = λ r l n. row-right ops others r (live-parts others r l).1;
 })
 
-pub least_above : (ops others top : Ops) → Covers top ops → Covers top others → Covers top (ops ++ others)
+pub least_above : (ops others top : Ops) → OperationsCover top ops → OperationsCover top others → OperationsCover top (ops ++ others)
 least_above ops others top a b =
     let x = below-from_Covers top ops a in
     let y = below-from_Covers top others b in
@@ -59,12 +59,12 @@ least_above ops others top a b =
           (λ h. x.there r (live-from ops r f.0 h) n) (λ h. y.there r (live-from others r f.1 h) n);
     })
 
-pub none_below : (ops : Ops) → Covers ops []
+pub none_below : (ops : Ops) → OperationsCover ops []
 none_below ops = Covers-from_below ops [] (record { dots = λ d k. absurd (true≢false (sym k)); lives = λ r l. refl; there = λ r l n. absurd (true≢false (sym l)) })
 
-unfoldable pub operation_joins : Joins Ops
+unfoldable pub operation_joins : JoinLattice Ops
 operation_joins = record {
-  le = λ a b. Covers b a;
+  le = λ a b. OperationsCover b a;
   join = λ a b. a ++ b;
   nothing = [];
   itself = covers_itself;
@@ -89,7 +89,7 @@ swap_half a b r l =
     let free : named (b ++ a) r.dot ≡ false = named-append b a r.dot ∙ (λ i. f.1 i || f.0 i) in
     live-from (b ++ a) r free (row-append a b r (HasRow (b ++ a) r) (live-parts (a ++ b) r l).1 (row-right b a r) (row-left b a r))
 
-pub covers_alike : (a b : Ops) → Covers b a → Covers a b → Alike a b
+pub covers_alike : (a b : Ops) → OperationsCover b a → OperationsCover a b → OperationsAlike a b
 covers_alike a b h g = record {
   dots = λ d. both_ways (known a d) (known b d) ((below-from_Covers b a h).dots d) ((below-from_Covers a b g).dots d);
   rows = sym g.live_stays ∙ live_equal (a ++ b) (b ++ a) (swap_half a b) (swap_half b a) ∙ h.live_stays;

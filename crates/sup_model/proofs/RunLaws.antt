@@ -27,16 +27,16 @@ use Rattle.sup_replica.specs.declared.done.Reply.TheVariants.{Removed, Sent, Sto
 use Rattle.sup_replica.specs.declared.refusal.Refusal.{Refusal}
 use Rattle.sup_replica.specs.declared.refusal.Refusal.TheVariants.{Down, AlreadyUp, UnknownNode, NotMember, NotFound, NameUnknown, NoSuchMessage, BadMessage, WrongReceiver}
 use Rattle.sup_replica.specs.Checks.{refused_if, then_do}
-use Rattle.sup_replica.specs.Nodes.{Node, Kind, delta, push, ack, Message, Outcome, by_operations, is_named}
+use Rattle.sup_replica.specs.Nodes.{Node, Kind, delta, push, ack, Message, ActOutcome, by_operations, is_named}
 use Rattle.sup_replica.specs.Commands as commands
 use Rattle.sup_replica.specs.Steps.{only, push_step, reading, command, exit_step, up_step}
 use Rattle.sup_replica.specs.Acts.{stopped, booted, keeps, act_step, absorbs, takes, deliver, kept_by, answer_to}
 use Rattle.sup_model.specs.declared.step.Step.{Step}
 use Rattle.sup_model.specs.declared.step.Step.TheVariants.{Node as AtNode, Deliver as Delivery, Raw}
-use Rattle.sup_model.specs.Worlds.{Setting, Ops, World, Site, Answer, Stepped, site_of, message_of, or_refused, acted, posted, target_is_here, step, new}
-use Rattle.sup_model.specs.Runs.{world_after, answer_of, Allows, Run, ops_at, issued, all_issued, dot_of, new_dots}
+use Rattle.sup_model.specs.Worlds.{WorldSetting, Ops, ModelWorld, ModelSite, ModelAnswer, WorldStepped, site_of, message_of, or_refused, acted, posted, target_is_here, step, new}
+use Rattle.sup_model.specs.Runs.{world_after, answer_of, ModelAllows, ModelRun, ops_at, issued, all_issued, dot_of, new_dots}
 use Rattle.sup_model.specs.Headline.{RepliesTellDots}
-use Rattle.sup_model.specs.Clean.{Clean}
+use Rattle.sup_model.specs.Clean.{HasCleanRows}
 use Rattle.sup_model.proofs.Afters.{After, after-refused_if, after-then_do, after-or_refused}
 use Rattle.sup_model.proofs.IssueLaws.{Adds, join_issued, drain_issued, start_issued, replace_issued, register_issued, reading_top}
 use Rattle.sup_model.proofs.CleanLaws.{kept_by_after}
@@ -55,7 +55,7 @@ nil_behind [] = refl
 nil_behind (x ∷ xs) = ap (λ ys. x ∷ ys) (nil_behind xs)
 
 -- an act of a node puts its own operations behind what it knows, and its reply tells their dots
-record Grew (n : Node Ops) (o : Outcome Ops) : Type 0 where
+record Grew (n : Node Ops) (o : ActOutcome Ops) : Type 0 where
   pub own : Ops
   pub known : o.node.known ≡ n.known ++ own
   pub name : o.node.name ≡ n.name
@@ -73,7 +73,7 @@ removes_grew : (s : Weigher) (n : Node Ops) (b : Bool) (refusal : Refusal) (op :
 removes_grew s n true refusal op e = tt
 removes_grew s n false refusal op e = record { own = op ∷ []; known = refl; name = refl; dots = ap dots_of_add e }
 
-only_grew : (n : Node Ops) (o : Outcome Ops) → o.node.known ≡ n.known → o.node.name ≡ n.name → dot_of o.done.reply ≡ [] → Grew n o
+only_grew : (n : Node Ops) (o : ActOutcome Ops) → o.node.known ≡ n.known → o.node.name ≡ n.name → dot_of o.done.reply ≡ [] → Grew n o
 only_grew n o known name none = record { own = []; known = known ∙ nil_behind n.known; name = name; dots = sym none }
 
 exit_grew : (s : Weigher) (n : Node Ops) (id : Bytes) (now : ℕ) (r : Ruling) → After (Grew n) (exit_step by_operations s n id now r)
@@ -98,7 +98,7 @@ event_grew s n (Unregister name) now = removes_grew s n (not (is_present (live n
 event_grew s n (Exit id inc reason) now = exit_grew s n id now (ruling n.supervisor id inc reason now)
 event_grew s n (Ship to) now =
     let o = only n Sent [] (Some (record { to = to; kind = delta; content = n.known })) in
-    let sent : Result (Outcome Ops) Refusal = Ok o in
+    let sent : Result (ActOutcome Ops) Refusal = Ok o in
     after-refused_if (Grew n) (is_named to n.name) UnknownNode sent (only_grew n o refl refl refl)
 event_grew s n (Push to) now = after-refused_if (Grew n) (is_named to n.name) UnknownNode (push_step n to n.newest) (push_grew n to n.newest)
 event_grew s n (Deliver bytes) now = tt
@@ -107,15 +107,15 @@ act_grew : (s : Weigher) (n : Node Ops) (a : Act) (now : ℕ) → After (Grew n)
 act_grew s n (Of e) now = after-refused_if (Grew n) (not n.up) Down (up_step by_operations s n e now) (event_grew s n e now)
 act_grew s n Stop now =
     let o = only (stopped n) Stopped [] None in
-    let ok : Result (Outcome Ops) Refusal = Ok o in
+    let ok : Result (ActOutcome Ops) Refusal = Ok o in
     after-refused_if (Grew n) (not n.up) Down ok (only_grew n o refl refl refl)
 act_grew s n Restart now =
-    let o : Outcome Ops = keeps by_operations s (booted n) (Boot (n.supervisor.boot + 1)) None in
-    let ok : Result (Outcome Ops) Refusal = Ok o in
+    let o : ActOutcome Ops = keeps by_operations s (booted n) (Boot (n.supervisor.boot + 1)) None in
+    let ok : Result (ActOutcome Ops) Refusal = Ok o in
     after-refused_if (Grew n) n.up AlreadyUp ok (only_grew n o refl refl refl)
 
 -- a delivery's reply tells no dot
-abbrev Silent : Outcome Ops → Type 0
+abbrev Silent : ActOutcome Ops → Type 0
 Silent o = dot_of o.done.reply ≡ []
 
 absorbs_silent : (s : Weigher) (n : Node Ops) (more : Ops) (letter : Option (Message Ops)) (b : Bool) → Silent (absorbs by_operations s n more letter b)
@@ -129,31 +129,31 @@ takes_silent s n from push more = absorbs_silent s n more None (covers n.known m
 
 deliver_silent : (s : Weigher) (n : Node Ops) (from : Bytes) (m : Message Ops) (whole : Bool) → After Silent (deliver by_operations s n from m whole)
 deliver_silent s n from m whole =
-    let ok : Result (Outcome Ops) Refusal = Ok (takes by_operations s n from m.kind m.content) in
+    let ok : Result (ActOutcome Ops) Refusal = Ok (takes by_operations s n from m.kind m.content) in
     let third = refused_if (not (is_named m.to n.name)) WrongReceiver ok in
     after-refused_if Silent (not n.up) Down (refused_if (not whole) BadMessage third)
     (after-refused_if Silent (not whole) BadMessage third
     (after-refused_if Silent (not (is_named m.to n.name)) WrongReceiver ok (takes_silent s n from m.kind m.content)))
 
 -- the operations that a step adds are those by which its node's list has grown
-tells : (w : World) (at : Bytes) (site : Site) → site_of w at ≡ Some site → (o : Outcome Ops) → Grew site.node o
+tells : (w : ModelWorld) (at : Bytes) (site : ModelSite) → site_of w at ≡ Some site → (o : ActOutcome Ops) → Grew site.node o
     → dots_in (drop (length (ops_at w at)) (ops_at (acted w site o).world at)) ≡ dot_of o.done.reply
 tells w at site found o g =
-    let known = λ (s : Option Site). unwrap_or (option_map (λ (x : Site). x.node.known) s) [] in
+    let known = λ (s : Option ModelSite). unwrap_or (option_map (λ (x : ModelSite). x.node.known) s) [] in
     let before : ops_at w at ≡ site.node.known = ap known found in
     let after : ops_at (acted w site o).world at ≡ o.node.known = ap known (put_here w site (record { node = o.node; sent = posted site.sent o.letter }) at found g.name) in
     let own : drop (length (ops_at w at)) (ops_at (acted w site o).world at) ≡ g.own =
     (λ i. drop (length (before i)) (after i)) ∙ ap (drop (length site.node.known)) g.known ∙ drop-append_seam site.node.known g.own in
     ap dots_in own ∙ g.dots
 
-abbrev Tells : World → Step → Stepped → Type 0
+abbrev Tells : ModelWorld → Step → WorldStepped → Type 0
 Tells w s x = dots_in (issued w s x.world) ≡ dot_of x.answer.done.reply
 
-step_tells : (w : World) (s : Step) → After (Tells w s) (step w s)
+step_tells : (w : ModelWorld) (s : Step) → After (Tells w s) (step w s)
 step_tells w (AtNode at act now saves) =
     let T = Tells w (AtNode at act now saves) in
-    let done = λ (site : Site). kept_by saves (act_step by_operations w.weigher site.node act now) in
-    let go = λ (site : Site) (o : Outcome Ops). let x : Result Stepped Refusal = Ok (acted w site o) in x in
+    let done = λ (site : ModelSite). kept_by saves (act_step by_operations w.weigher site.node act now) in
+    let go = λ (site : ModelSite) (o : ActOutcome Ops). let x : Result WorldStepped Refusal = Ok (acted w site o) in x in
     after-or_refused T (site_of w at) UnknownNode (λ site. refused_if (not (target_is_here w act)) UnknownNode (then_do (done site) (go site))) (λ site e.
     after-refused_if T (not (target_is_here w act)) UnknownNode (then_do (done site) (go site))
     (after-then_do (Grew site.node) T (done site) (go site)
@@ -161,11 +161,11 @@ step_tells w (AtNode at act now saves) =
     (λ o g. tells w at site e o g)))
 step_tells w (Delivery from k at drop now saves) =
     let T = Tells w (Delivery from k at drop now saves) in
-    let done = λ (m : Message Ops) (receiver : Site). kept_by saves (deliver by_operations w.weigher receiver.node from m (drop == 0)) in
-    let go = λ (receiver : Site) (o : Outcome Ops). let x : Result Stepped Refusal = Ok (acted w receiver o) in x in
-    let at_receiver = λ (m : Message Ops) (receiver : Site). then_do (done m receiver) (go receiver) in
+    let done = λ (m : Message Ops) (receiver : ModelSite). kept_by saves (deliver by_operations w.weigher receiver.node from m (drop == 0)) in
+    let go = λ (receiver : ModelSite) (o : ActOutcome Ops). let x : Result WorldStepped Refusal = Ok (acted w receiver o) in x in
+    let at_receiver = λ (m : Message Ops) (receiver : ModelSite). then_do (done m receiver) (go receiver) in
     let with_message = λ (m : Message Ops). or_refused (site_of w (unwrap_or at m.to)) UnknownNode (at_receiver m) in
-    let with_sender = λ (sender : Site). or_refused (message_of sender k) NoSuchMessage with_message in
+    let with_sender = λ (sender : ModelSite). or_refused (message_of sender k) NoSuchMessage with_message in
     after-or_refused T (site_of w from) UnknownNode with_sender (λ sender f.
     after-or_refused T (message_of sender k) NoSuchMessage with_message (λ m g.
     after-or_refused T (site_of w (unwrap_or at m.to)) UnknownNode (at_receiver m) (λ receiver e.
@@ -174,27 +174,27 @@ step_tells w (Delivery from k at drop now saves) =
     (λ o silent. sym silent))))
 step_tells w (Raw at bytes) =
     let T = Tells w (Raw at bytes) in
-    let none : Result Stepped Refusal = Err NoSuchMessage in
+    let none : Result WorldStepped Refusal = Err NoSuchMessage in
     let inner = refused_if (not (w.is_message bytes)) BadMessage none in
     after-or_refused T (site_of w at) UnknownNode (λ site. refused_if (not site.node.up) Down inner) (λ site _.
     after-refused_if T (not site.node.up) Down inner (after-refused_if T (not (w.is_message bytes)) BadMessage none tt))
 
 -- where nothing changes nothing is added
-issued_none : (w : World) (s : Step) → issued w s w ≡ []
+issued_none : (w : ModelWorld) (s : Step) → issued w s w ≡ []
 issued_none w (AtNode at act now saves) = drop-length (ops_at w at)
 issued_none w (Delivery from k at drop now saves) = refl
 issued_none w (Raw at bytes) = refl
 
-module _ (w : World) (s : Step) (rest : List (Result Answer Refusal)) where
-  stepped_tells : (r : Result Stepped Refusal) → After (Tells w s) r → new_dots (answer_of r ∷ rest) ≡ dots_in (issued w s (world_after w r)) ++ new_dots rest
+module _ (w : ModelWorld) (s : Step) (rest : List (Result ModelAnswer Refusal)) where
+  stepped_tells : (r : Result WorldStepped Refusal) → After (Tells w s) r → new_dots (answer_of r ∷ rest) ≡ dots_in (issued w s (world_after w r)) ++ new_dots rest
   stepped_tells (Ok x) t = ap (λ dots. dots ++ new_dots rest) (sym t)
   stepped_tells (Err r) t = ap (λ ops. dots_in ops ++ new_dots rest) (sym (issued_none w s))
 
-  refused_tells : (refusal : Refusal) (answer : Result Answer Refusal) (mid : World) → answer ≡ Err refusal → mid ≡ w → new_dots (answer ∷ rest) ≡ dots_in (issued w s mid) ++ new_dots rest
+  refused_tells : (refusal : Refusal) (answer : Result ModelAnswer Refusal) (mid : ModelWorld) → answer ≡ Err refusal → mid ≡ w → new_dots (answer ∷ rest) ≡ dots_in (issued w s mid) ++ new_dots rest
   refused_tells refusal answer mid e same =
       ap (λ a. new_dots (a ∷ rest)) e ∙ ap (λ ops. dots_in ops ++ new_dots rest) (sym (issued_none w s)) ∙ ap (λ v. dots_in (issued w s v) ++ new_dots rest) (sym same)
 
-  allowed_tells : (answer : Result Answer Refusal) (mid : World) → Allows w s answer mid → new_dots (answer ∷ rest) ≡ dots_in (issued w s mid) ++ new_dots rest
+  allowed_tells : (answer : Result ModelAnswer Refusal) (mid : ModelWorld) → ModelAllows w s answer mid → new_dots (answer ∷ rest) ≡ dots_in (issued w s mid) ++ new_dots rest
   allowed_tells answer mid (inl h) =
       ap (λ a. new_dots (a ∷ rest)) h.0 ∙ stepped_tells (step w s) (step_tells w s) ∙ ap (λ v. dots_in (issued w s v) ++ new_dots rest) (sym h.1)
   allowed_tells answer mid (inr (inl h)) = refused_tells _ answer mid h.0 h.2
@@ -203,7 +203,7 @@ module _ (w : World) (s : Step) (rest : List (Result Answer Refusal)) where
 dots-append : (ops others : Ops) → dots_in (ops ++ others) ≡ dots_in ops ++ dots_in others
 dots-append ops others = ap (map (λ (r : Row). r.dot)) (filter_map-append (λ (op : Operation). op.add) ops others) ∙ map-append (λ (r : Row). r.dot) (added ops) (added others)
 
-told_dots : (w : World) (steps : List Step) (answers : List (Result Answer Refusal)) (w' : World) (run : Run w steps answers w') → new_dots answers ≡ dots_in (all_issued w steps answers w' run)
+told_dots : (w : ModelWorld) (steps : List Step) (answers : List (Result ModelAnswer Refusal)) (w' : ModelWorld) (run : ModelRun w steps answers w') → new_dots answers ≡ dots_in (all_issued w steps answers w' run)
 told_dots w [] [] w' run = refl
 told_dots w (s ∷ steps) (answer ∷ rest) w' run =
     allowed_tells w s rest answer run.0 run.1
@@ -213,21 +213,21 @@ told_dots w [] (answer ∷ rest) w' run = absurd run
 told_dots w (s ∷ steps) [] w' run = absurd run
 
 -- a run keeps the world clean
-allowed_clean : (w : World) (s : Step) (answer : Result Answer Refusal) (mid : World) → Allows w s answer mid → Clean w → Clean mid
-allowed_clean w s answer mid (inl h) clean = subst Clean (sym h.1) (go (step w s) (step_clean w s clean)) where
-  go : (r : Result Stepped Refusal) → After (λ (x : Stepped). Clean x.world) r → Clean (world_after w r)
+allowed_clean : (w : ModelWorld) (s : Step) (answer : Result ModelAnswer Refusal) (mid : ModelWorld) → ModelAllows w s answer mid → HasCleanRows w → HasCleanRows mid
+allowed_clean w s answer mid (inl h) clean = subst HasCleanRows (sym h.1) (go (step w s) (step_clean w s clean)) where
+  go : (r : Result WorldStepped Refusal) → After (λ (x : WorldStepped). HasCleanRows x.world) r → HasCleanRows (world_after w r)
   go (Ok x) c = c
   go (Err r) c = clean
-allowed_clean w s answer mid (inr (inl h)) clean = subst Clean (sym h.2) clean
-allowed_clean w s answer mid (inr (inr h)) clean = subst Clean (sym h.3) clean
+allowed_clean w s answer mid (inr (inl h)) clean = subst HasCleanRows (sym h.2) clean
+allowed_clean w s answer mid (inr (inr h)) clean = subst HasCleanRows (sym h.3) clean
 
-allowed_apart : (w : World) → Clean w → (s : Step) (answer : Result Answer Refusal) (mid : World) → Allows w s answer mid → (rest : List (Result Answer Refusal)) → Apart mid (new_dots rest) → Apart w (new_dots (answer ∷ rest))
+allowed_apart : (w : ModelWorld) → HasCleanRows w → (s : Step) (answer : Result ModelAnswer Refusal) (mid : ModelWorld) → ModelAllows w s answer mid → (rest : List (Result ModelAnswer Refusal)) → Apart mid (new_dots rest) → Apart w (new_dots (answer ∷ rest))
 allowed_apart w clean s answer mid (inl h) rest apart =
     subst (λ a. Apart w (new_dots (a ∷ rest))) (sym h.0) (step_apart w clean (step w s) (step_is_at w s) rest (subst (λ v. Apart v (new_dots rest)) h.1 apart))
 allowed_apart w clean s answer mid (inr (inl h)) rest apart = subst (λ a. Apart w (new_dots (a ∷ rest))) (sym h.0) (subst (λ v. Apart v (new_dots rest)) h.2 apart)
 allowed_apart w clean s answer mid (inr (inr h)) rest apart = subst (λ a. Apart w (new_dots (a ∷ rest))) (sym h.0) (subst (λ v. Apart v (new_dots rest)) h.3 apart)
 
-run_apart : (w : World) (steps : List Step) (answers : List (Result Answer Refusal)) (w' : World) → Clean w → Run w steps answers w' → Apart w (new_dots answers)
+run_apart : (w : ModelWorld) (steps : List Step) (answers : List (Result ModelAnswer Refusal)) (w' : ModelWorld) → HasCleanRows w → ModelRun w steps answers w' → Apart w (new_dots answers)
 run_apart w [] [] w' clean run = record { later = λ d h x home. absurd h; pairs = no_pairs }
 run_apart w (s ∷ steps) (answer ∷ rest) w' clean run =
     allowed_apart w clean s answer run.0 run.1 rest (run_apart run.0 steps rest w' (allowed_clean w s answer run.0 run.1 clean) run.2)
@@ -238,7 +238,7 @@ pub replies_tell_dots : RepliesTellDots
 replies_tell_dots setting is_message names steps answers w run = told_dots (new setting is_message names) steps answers w run
 
 -- no two operations of one run add the same dot
-pub no_dot_twice : (setting : Setting) (is_message : Bytes → Bool) (names : List Bytes) (steps : List Step) (answers : List (Result Answer Refusal)) (w : World) (run : Run (new setting is_message names) steps answers w)
+pub no_dot_twice : (setting : WorldSetting) (is_message : Bytes → Bool) (names : List Bytes) (steps : List Step) (answers : List (Result ModelAnswer Refusal)) (w : ModelWorld) (run : ModelRun (new setting is_message names) steps answers w)
     → AllPairs (λ (d e : Dot). d ≢ e) (map (λ r. r.dot) (added (all_issued (new setting is_message names) steps answers w run)))
 no_dot_twice setting is_message names steps answers w run =
     let start = new setting is_message names in

@@ -27,27 +27,27 @@ use Rattle.sup_specs.specs.declared.limits.TheConstants.{MAX}
 use Rattle.sup_replica.specs.Checks.{refused_if, then_do}
 use Rattle.sup_placement.specs.Place.{Weigher}
 use Rattle.sup_model.specs.Worlds.{Ops}
-use Rattle.sup_replica.specs.Nodes.{Knowledge, Node, delta, Outcome, by_operations, is_named, wanted_at}
+use Rattle.sup_replica.specs.Nodes.{Knowledge, Node, delta, ActOutcome, by_operations, is_named, wanted_at}
 use Rattle.sup_replica.specs.Steps.{wanted, reading, issues, command, exit_step, up_step, passes_greatest, with_own}
-use Rattle.sup_replica.specs.Commands.{Reading, next, join, leave, drain, start, replace, delete, register, unregister}
+use Rattle.sup_replica.specs.Commands.{CommandReading, next, join, leave, drain, start, replace, delete, register, unregister}
 use Rattle.sup_replica.specs.Acts.{reconciled, stopped, booted, act_step, kept_by, changes, keeps}
 use Rattle.sup_replica.specs.Steps.{only, push_step}
 use Rattle.sup_model.proofs.Afters.{After}
 use Rattle.sup_model.specs.Clean.{HasRow}
-use Rattle.sup_model.specs.Laws.{View, Laws}
-use Rattle.sup_model.specs.Stands.{Together, BothOrNone, NodeStands, OutcomeStands, SupervisorStands}
+use Rattle.sup_model.specs.Laws.{StateView, StateLaws}
+use Rattle.sup_model.specs.Stands.{DoneTogether, BothOrNone, NodeStands, OutcomeStands, SupervisorStands}
 use Rattle.sup_model.proofs.IssueLaws.{Issued, Adds, some_same, join_issued, leave_issued, drain_issued, start_issued, replace_issued, delete_issued, register_issued, unregister_issued, removing_issued, added-greatest, reading_top}
 use Rattle.sup_model.proofs.CleanLaws.{row-append, row-one}
 
 -- the two results of one check
-pub both-refused_if : {A B : Type 0} (R : A → B → Type 0) (b c : Bool) (refusal : Refusal) (x : Result A Refusal) (y : Result B Refusal) → b ≡ c → Together R x y → Together R (refused_if b refusal x) (refused_if c refusal y)
-both-refused_if R b c refusal x y e h = subst (λ d. Together R (refused_if b refusal x) (refused_if d refusal y)) e (go b) where
-  go : (d : Bool) → Together R (refused_if d refusal x) (refused_if d refusal y)
+pub both-refused_if : {A B : Type 0} (R : A → B → Type 0) (b c : Bool) (refusal : Refusal) (x : Result A Refusal) (y : Result B Refusal) → b ≡ c → DoneTogether R x y → DoneTogether R (refused_if b refusal x) (refused_if c refusal y)
+both-refused_if R b c refusal x y e h = subst (λ d. DoneTogether R (refused_if b refusal x) (refused_if d refusal y)) e (go b) where
+  go : (d : Bool) → DoneTogether R (refused_if d refusal x) (refused_if d refusal y)
   go true = refl
   go false = h
 
 pub both-then_do : {A B C D : Type 0} (R : A → B → Type 0) (Q : C → D → Type 0) (x : Result A Refusal) (y : Result B Refusal) (f : A → Result C Refusal) (g : B → Result D Refusal)
-    → Together R x y → ((a : A) (b : B) → R a b → Together Q (f a) (g b)) → Together Q (then_do x f) (then_do y g)
+    → DoneTogether R x y → ((a : A) (b : B) → R a b → DoneTogether Q (f a) (g b)) → DoneTogether Q (then_do x f) (then_do y g)
 both-then_do R Q (Ok a) (Ok b) f g h next = next a b h
 both-then_do R Q (Err r) (Err q) f g h next = h
 both-then_do R Q (Ok a) (Err q) f g h next = absurd h
@@ -66,7 +66,7 @@ own_clash m op clear i x y hx hy same =
     (λ old. row-append m.known (op ∷ []) y (x ≡ y) hy (λ other. clear x y old other same) (λ new. absurd (late x y old (row-one op y new) same)))
     (λ new. row-append m.known (op ∷ []) y (x ≡ y) hy (λ other. absurd (late y x other (row-one op x new) (sym same))) (λ also. some_same y x (sym (row-one op y also) ∙ row-one op x new)))
 
-module _ {K : Type 0} (k : Knowledge K) (view : View K) (laws : Laws k view) where
+module _ {K : Type 0} (k : Knowledge K) (view : StateView K) (laws : StateLaws k view) where
   more_stands : (a b : K) (ops others : Ops) → view.stands a ops → view.stands b others → NoClash (ops ++ others) → view.stands (k.with_more a b) (ops ++ others)
   more_stands a b ops others sa sb clear = laws.both a b ops others sa sb clear
 
@@ -137,19 +137,19 @@ module _ {K : Type 0} (k : Knowledge K) (view : View K) (laws : Laws k view) whe
       }
 
   command_stands : (s : Weigher) (n : Node K) (m : Node Ops) → NodeStands view n m → NoClash m.known → (issued : Result Operation Refusal) (reply : Operation → Reply) → After (Issued (reading by_operations m)) issued
-      → Together (OutcomeStands view) (command k s n issued reply) (command by_operations s m issued reply)
+      → DoneTogether (OutcomeStands view) (command k s n issued reply) (command by_operations s m issued reply)
   command_stands s n m h clear (Ok op) reply i = issues_stand s n m (reply op) Nobody op h clear i
   command_stands s n m h clear (Err r) reply i = refl
 
   -- a command reads the same in both
-  read_stands : (s : Weigher) (n : Node K) (m : Node Ops) → NodeStands view n m → NoClash m.known → (issued : Reading → Result Operation Refusal) (reply : Reading → Operation → Reply)
+  read_stands : (s : Weigher) (n : Node K) (m : Node Ops) → NodeStands view n m → NoClash m.known → (issued : CommandReading → Result Operation Refusal) (reply : CommandReading → Operation → Reply)
       → After (Issued (reading by_operations m)) (issued (reading by_operations m))
-      → Together (OutcomeStands view) (command k s n (issued (reading k n)) (reply (reading k n))) (command by_operations s m (issued (reading by_operations m)) (reply (reading by_operations m)))
+      → DoneTogether (OutcomeStands view) (command k s n (issued (reading k n)) (reply (reading k n))) (command by_operations s m (issued (reading by_operations m)) (reply (reading by_operations m)))
   read_stands s n m h clear issued reply i =
-      subst (λ r. Together (OutcomeStands view) (command k s n (issued r) (reply r)) (command by_operations s m (issued (reading by_operations m)) (reply (reading by_operations m)))) (sym (reading_same n m h))
+      subst (λ r. DoneTogether (OutcomeStands view) (command k s n (issued r) (reply r)) (command by_operations s m (issued (reading by_operations m)) (reply (reading by_operations m)))) (sym (reading_same n m h))
       (command_stands s n m h clear (issued (reading by_operations m)) (reply (reading by_operations m)) i)
 
-  exit_stands : (s : Weigher) (n : Node K) (m : Node Ops) → NodeStands view n m → NoClash m.known → (id : Bytes) (now : ℕ) (r : Ruling) → Together (OutcomeStands view) (exit_step k s n id now r) (exit_step by_operations s m id now r)
+  exit_stands : (s : Weigher) (n : Node K) (m : Node Ops) → NodeStands view n m → NoClash m.known → (id : Bytes) (now : ℕ) (r : Ruling) → DoneTogether (OutcomeStands view) (exit_step k s n id now r) (exit_step by_operations s m id now r)
   exit_stands s n m h clear id now Stale = refl
   exit_stands s n m h clear id now Again =
       let u = h.supervisor in
@@ -179,17 +179,17 @@ module _ {K : Type 0} (k : Knowledge K) (view : View K) (laws : Laws k view) whe
       subst (λ (x : Operation). OutcomeStands view (issues k s n (GaveUp x.removes) (gave_up id) (k.of_one x)) (issues by_operations s m (GaveUp op.removes) (gave_up id) (op ∷ []))) (sym same)
       (issues_stand s n m (GaveUp op.removes) (gave_up id) op h clear (removing_issued (reading by_operations m) op.removes))
 
-  push_stands : (n : Node K) (m : Node Ops) → NodeStands view n m → (to : Bytes) (own : Option K) (ops : Option Ops) → BothOrNone view.stands own ops → Together (OutcomeStands view) (push_step n to own) (push_step m to ops)
+  push_stands : (n : Node K) (m : Node Ops) → NodeStands view n m → (to : Bytes) (own : Option K) (ops : Option Ops) → BothOrNone view.stands own ops → DoneTogether (OutcomeStands view) (push_step n to own) (push_step m to ops)
   push_stands n m h to None None b = refl
   push_stands n m h to (Some own) (Some ops) b = record { reply = refl; effects = refl; letter = record { to = refl; kind = refl; content = b }; node = h; saves = refl }
   push_stands n m h to None (Some ops) b = absurd b
   push_stands n m h to (Some own) None b = absurd b
 
-  adds_issued : (r : Reading) (x : Result Operation Refusal) → After (Adds r) x → After (Issued r) x
+  adds_issued : (r : CommandReading) (x : Result Operation Refusal) → After (Adds r) x → After (Issued r) x
   adds_issued r (Ok op) a = a.issued
   adds_issued r (Err e) a = tt
 
-  event_stands : (s : Weigher) (n : Node K) (m : Node Ops) → NodeStands view n m → NoClash m.known → (e : Event) (now : ℕ) → Together (OutcomeStands view) (up_step k s n e now) (up_step by_operations s m e now)
+  event_stands : (s : Weigher) (n : Node K) (m : Node Ops) → NodeStands view n m → NoClash m.known → (e : Event) (now : ℕ) → DoneTogether (OutcomeStands view) (up_step k s n e now) (up_step by_operations s m e now)
   event_stands s n m h clear (Join info) now = read_stands s n m h clear (λ r. join r info) (λ r op. Added (next r)) (adds_issued _ _ (join_issued (reading by_operations m) info))
   event_stands s n m h clear (Leave x) now = read_stands s n m h clear (λ r. leave r x) (λ r op. Removed op.removes) (leave_issued (reading by_operations m) x)
   event_stands s n m h clear (Drain x) now = read_stands s n m h clear (λ r. drain r x) (λ r op. Replaced (next r) op.removes) (adds_issued _ _ (drain_issued (reading by_operations m) x (reading_top m)))
@@ -202,11 +202,11 @@ module _ {K : Type 0} (k : Knowledge K) (view : View K) (laws : Laws k view) whe
   event_stands s n m h clear (Exit id inc reason) now =
       let r = ruling m.supervisor id inc reason now in
       let same : ruling n.supervisor id inc reason now ≡ r = ruling_alike n.supervisor m.supervisor id inc reason now h.supervisor.kept (laws.decides n.supervisor.window m.supervisor.window now h.supervisor.window) in
-      subst (λ (x : Ruling). Together (OutcomeStands view) (exit_step k s n id now x) (exit_step by_operations s m id now r)) (sym same)
+      subst (λ (x : Ruling). DoneTogether (OutcomeStands view) (exit_step k s n id now x) (exit_step by_operations s m id now r)) (sym same)
       (exit_stands s n m h clear id now r)
   event_stands s n m h clear (Ship to) now =
-      let sent : Result (Outcome K) Refusal = Ok (only n Sent [] (Some (record { to = to; kind = delta; content = n.known }))) in
-      let also : Result (Outcome Ops) Refusal = Ok (only m Sent [] (Some (record { to = to; kind = delta; content = m.known }))) in
+      let sent : Result (ActOutcome K) Refusal = Ok (only n Sent [] (Some (record { to = to; kind = delta; content = n.known }))) in
+      let also : Result (ActOutcome Ops) Refusal = Ok (only m Sent [] (Some (record { to = to; kind = delta; content = m.known }))) in
       both-refused_if (OutcomeStands view) (is_named to n.name) (is_named to m.name) UnknownNode sent also (ap (is_named to) h.name)
       (record { reply = refl; effects = refl; letter = record { to = refl; kind = refl; content = h.state }; node = h; saves = refl })
   event_stands s n m h clear (Push to) now =
@@ -214,11 +214,11 @@ module _ {K : Type 0} (k : Knowledge K) (view : View K) (laws : Laws k view) whe
       (push_stands n m h to n.newest m.newest h.newest)
   event_stands s n m h clear (Deliver bytes) now = refl
 
-  pub act_stands : (s : Weigher) (n : Node K) (m : Node Ops) → NodeStands view n m → NoClash m.known → (a : Act) (now : ℕ) → Together (OutcomeStands view) (act_step k s n a now) (act_step by_operations s m a now)
+  pub act_stands : (s : Weigher) (n : Node K) (m : Node Ops) → NodeStands view n m → NoClash m.known → (a : Act) (now : ℕ) → DoneTogether (OutcomeStands view) (act_step k s n a now) (act_step by_operations s m a now)
   act_stands s n m h clear (Of e) now = both-refused_if (OutcomeStands view) (not n.up) (not m.up) Down (up_step k s n e now) (up_step by_operations s m e now) (ap not h.up) (event_stands s n m h clear e now)
   act_stands s n m h clear Stop now =
-      let ok : Result (Outcome K) Refusal = Ok (only (stopped n) Stopped [] None) in
-      let also : Result (Outcome Ops) Refusal = Ok (only (stopped m) Stopped [] None) in
+      let ok : Result (ActOutcome K) Refusal = Ok (only (stopped n) Stopped [] None) in
+      let also : Result (ActOutcome Ops) Refusal = Ok (only (stopped m) Stopped [] None) in
       both-refused_if (OutcomeStands view) (not n.up) (not m.up) Down ok also (ap not h.up)
       (record {
         reply = refl;
@@ -245,8 +245,8 @@ module _ {K : Type 0} (k : Knowledge K) (view : View K) (laws : Laws k view) whe
         newest = tt;
         supervisor = record { boot = ap (λ b. b + 1) h.supervisor.boot; given = refl; kept = refl; window = laws.forgets n.supervisor.window m.supervisor.window h.supervisor.window };
       } in
-      let ok : Result (Outcome K) Refusal = Ok (keeps k s n' (Boot (n.supervisor.boot + 1)) None) in
-      let also : Result (Outcome Ops) Refusal = Ok (keeps by_operations s m' (Boot (m.supervisor.boot + 1)) None) in
+      let ok : Result (ActOutcome K) Refusal = Ok (keeps k s n' (Boot (n.supervisor.boot + 1)) None) in
+      let also : Result (ActOutcome Ops) Refusal = Ok (keeps by_operations s m' (Boot (m.supervisor.boot + 1)) None) in
       both-refused_if (OutcomeStands view) n.up m.up AlreadyUp ok also h.up
       (record {
         reply = λ i. Boot (h.supervisor.boot i + 1);
@@ -260,11 +260,11 @@ module _ {K : Type 0} (k : Knowledge K) (view : View K) (laws : Laws k view) whe
   passes_same n m h = λ i. nat_lt MAX (h.count i) || (nat_lt MAX (h.supervisor.given i) || nat_lt MAX (h.supervisor.boot i))
 
   -- the last checks are the same
-  pub kept_stands : (saves : Bool) (x : Result (Outcome K) Refusal) (y : Result (Outcome Ops) Refusal) → Together (OutcomeStands view) x y → Together (OutcomeStands view) (kept_by saves x) (kept_by saves y)
+  pub kept_stands : (saves : Bool) (x : Result (ActOutcome K) Refusal) (y : Result (ActOutcome Ops) Refusal) → DoneTogether (OutcomeStands view) x y → DoneTogether (OutcomeStands view) (kept_by saves x) (kept_by saves y)
   kept_stands saves x y h =
       both-then_do (OutcomeStands view) (OutcomeStands view) x y _ _ h (λ o p r.
-      let ok : Result (Outcome K) Refusal = Ok o in
-      let also : Result (Outcome Ops) Refusal = Ok p in
+      let ok : Result (ActOutcome K) Refusal = Ok o in
+      let also : Result (ActOutcome Ops) Refusal = Ok p in
       both-refused_if (OutcomeStands view) (passes_greatest o.node) (passes_greatest p.node) CountSpent (refused_if (o.saves && not saves) KeepFailed ok) (refused_if (p.saves && not saves) KeepFailed also)
       (passes_same o.node p.node r.node)
       (both-refused_if (OutcomeStands view) (o.saves && not saves) (p.saves && not saves) KeepFailed ok also (ap (λ b. b && not saves) r.saves) r))

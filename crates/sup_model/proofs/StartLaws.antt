@@ -30,13 +30,13 @@ use Rattle.sup_replica.specs.declared.refusal.Refusal.{Refusal}
 use Rattle.sup_replica.specs.declared.refusal.Refusal.TheVariants.{Down, AlreadyUp, UnknownNode, BadMessage, WrongReceiver, NoSuchMessage}
 use Rattle.sup_replica.specs.Acts.{reconciled, stopped, booted, act_step, absorbs, takes, deliver, kept_by, keeps}
 use Rattle.sup_replica.specs.Checks.{refused_if, then_do}
-use Rattle.sup_replica.specs.Nodes.{Node, Kind, delta, push, ack, Message, Outcome, by_operations, is_named}
+use Rattle.sup_replica.specs.Nodes.{Node, Kind, delta, push, ack, Message, ActOutcome, by_operations, is_named}
 use Rattle.sup_replica.specs.Steps.{wanted, command, exit_step, up_step, with_own, only, push_step}
 use Rattle.sup_model.specs.declared.step.Step.{Step}
 use Rattle.sup_model.specs.declared.step.Step.TheVariants.{Node as AtNode, Deliver as Delivery, Raw}
-use Rattle.sup_model.specs.Runs.{world_after, answer_of, Allows, Run}
+use Rattle.sup_model.specs.Runs.{world_after, answer_of, ModelAllows, ModelRun}
 use Rattle.sup_model.specs.Starts.{left_by, started_by, started_with, started_at, without}
-use Rattle.sup_model.specs.Worlds.{Setting, Ops, World, Site, Answer, Stepped, site_of, message_of, or_refused, acted, target_is_here, step, new}
+use Rattle.sup_model.specs.Worlds.{WorldSetting, Ops, ModelWorld, ModelSite, ModelAnswer, WorldStepped, site_of, message_of, or_refused, acted, target_is_here, step, new}
 use Rattle.sup_model.proofs.Afters.{After, after-refused_if, after-checked, after-then_do, after-or_refused}
 use Rattle.sup_model.proofs.CleanLaws.{kept_by_after}
 use Rattle.sup_model.proofs.EffectLaws.{all_stopped, keys_without, restart_starts, started_append, wanted_starts}
@@ -48,7 +48,7 @@ abbrev ids_at : Node Ops → List Bytes
 ids_at n = keys_of n.supervisor.kept
 
 -- the effects of what a node does lead from what it kept to what it keeps; `ends` are those that no effect stops
-record Tells (ends : Reply → List Bytes → List Bytes) (n : Node Ops) (o : Outcome Ops) : Type 0 where
+record Tells (ends : Reply → List Bytes → List Bytes) (n : Node Ops) (o : ActOutcome Ops) : Type 0 where
   name : o.node.name ≡ n.name
   starts : ids_at o.node ≡ started_by (ends o.done.reply (ids_at n)) o.done.effects
 
@@ -99,7 +99,7 @@ event_tells s n (Register name id) now once = command_tells s n _ _ once
 event_tells s n (Unregister name) now once = command_tells s n _ _ once
 event_tells s n (Exit id inc reason) now once = finish_tells s n id inc reason now (ruling n.supervisor id inc reason now) once
 event_tells s n (Ship to) now once =
-    let sent : Result (Outcome Ops) Refusal = Ok (only n Sent [] (Some (record { to = to; kind = delta; content = n.known }))) in
+    let sent : Result (ActOutcome Ops) Refusal = Ok (only n Sent [] (Some (record { to = to; kind = delta; content = n.known }))) in
     after-refused_if (Tells none_ends n) (is_named to n.name) UnknownNode sent (record { name = refl; starts = refl })
 event_tells s n (Push to) now once = after-refused_if (Tells none_ends n) (is_named to n.name) UnknownNode (push_step n to n.newest) (push_tells n to n.newest)
 event_tells s n (Deliver bytes) now once = tt
@@ -113,10 +113,10 @@ act_tells : (s : Weigher) (n : Node Ops) (a : Act) (now : ℕ) → Good s n → 
 act_tells s n (Of e) now good =
     after-checked (Tells (left_by (Of e)) n) (not n.up) Down (up_step by_operations s n e now) (λ off. event_tells s n e now (good (up_from n.up off)).once)
 act_tells s n Stop now good =
-    let ok : Result (Outcome Ops) Refusal = Ok (only (stopped n) Stopped [] None) in
+    let ok : Result (ActOutcome Ops) Refusal = Ok (only (stopped n) Stopped [] None) in
     after-refused_if (Tells (left_by Stop) n) (not n.up) Down ok (record { name = refl; starts = refl })
 act_tells s n Restart now good =
-    let ok : Result (Outcome Ops) Refusal = Ok (keeps by_operations s (booted n) (Boot (n.supervisor.boot + 1)) None) in
+    let ok : Result (ActOutcome Ops) Refusal = Ok (keeps by_operations s (booted n) (Boot (n.supervisor.boot + 1)) None) in
     after-refused_if (Tells (left_by Restart) n) n.up AlreadyUp ok (record { name = refl; starts = reconciles s (booted n) once_none })
 
 absorbs_tells : (s : Weigher) (n : Node Ops) (more : Ops) (letter : Option (Message Ops)) (b : Bool) → IsOnce n.supervisor.kept → Tells none_ends n (absorbs by_operations s n more letter b)
@@ -130,17 +130,17 @@ takes_tells s n from push more once = absorbs_tells s n more _ (covers n.known m
 
 deliver_tells : (s : Weigher) (n : Node Ops) (from : Bytes) (m : Message Ops) (whole : Bool) → Good s n → After (Tells none_ends n) (deliver by_operations s n from m whole)
 deliver_tells s n from m whole good =
-    let ok : Result (Outcome Ops) Refusal = Ok (takes by_operations s n from m.kind m.content) in
+    let ok : Result (ActOutcome Ops) Refusal = Ok (takes by_operations s n from m.kind m.content) in
     let third = refused_if (not (is_named m.to n.name)) WrongReceiver ok in
     after-checked (Tells none_ends n) (not n.up) Down (refused_if (not whole) BadMessage third) (λ off.
     after-refused_if (Tells none_ends n) (not whole) BadMessage third
     (after-refused_if (Tells none_ends n) (not (is_named m.to n.name)) WrongReceiver ok (takes_tells s n from m.kind m.content (good (up_from n.up off)).once)))
 
 -- each node keeps what was told of it
-abbrev KeptWorld : (Bytes → List Bytes) → World → Type 0
-KeptWorld ids w = AllByRecursion (λ (s : Site). ids_at s.node ≡ ids s.node.name) w.sites
+abbrev KeptWorld : (Bytes → List Bytes) → ModelWorld → Type 0
+KeptWorld ids w = AllByRecursion (λ (s : ModelSite). ids_at s.node ≡ ids s.node.name) w.sites
 
-abbrev next_ids : (Bytes → List Bytes) → Step → Result Answer Refusal → Bytes → List Bytes
+abbrev next_ids : (Bytes → List Bytes) → Step → Result ModelAnswer Refusal → Bytes → List Bytes
 next_ids ids step (Ok answer) name = if is_named name answer.at then started_with step answer (ids name) else ids name
 next_ids ids step (Err refusal) name = ids name
 
@@ -152,80 +152,80 @@ each-changed P Q p new h other (x ∷ xs) a =
 named_itself : (a : Bytes) → is_named a a ≡ true
 named_itself a = ap is_eq (tied_itself text_total a)
 
-module _ (ids : Bytes → List Bytes) (w : World) (st : Step) where
-  abbrev TellsStep : Stepped → Type 0
+module _ (ids : Bytes → List Bytes) (w : ModelWorld) (st : Step) where
+  abbrev TellsStep : WorldStepped → Type 0
   TellsStep x = KeptWorld (next_ids ids st (Ok x.answer)) x.world
 
-  acted_tells : (site : Site) (o : Outcome Ops) → KeptWorld ids w → ids_at site.node ≡ ids site.node.name → o.node.name ≡ site.node.name → ids_at o.node ≡ started_with st (acted w site o).answer (ids_at site.node) → TellsStep (acted w site o)
+  acted_tells : (site : ModelSite) (o : ActOutcome Ops) → KeptWorld ids w → ids_at site.node ≡ ids site.node.name → o.node.name ≡ site.node.name → ids_at o.node ≡ started_with st (acted w site o).answer (ids_at site.node) → TellsStep (acted w site o)
   acted_tells site o kept own name starts =
-      each-changed (λ (s : Site). ids_at s.node ≡ ids s.node.name) (λ (s : Site). ids_at s.node ≡ next_ids ids st (Ok (acted w site o).answer) s.node.name) _ _
+      each-changed (λ (s : ModelSite). ids_at s.node ≡ ids s.node.name) (λ (s : ModelSite). ids_at s.node ≡ next_ids ids st (Ok (acted w site o).answer) s.node.name) _ _
       (starts ∙ ap (started_with st (acted w site o).answer) (own ∙ ap ids (sym name))
       ∙ ap (λ b. if b then started_with st (acted w site o).answer (ids o.node.name) else ids o.node.name) (sym (ap (is_named o.node.name) (sym name) ∙ named_itself o.node.name)))
       (λ s off h. h ∙ ap (λ b. if b then started_with st (acted w site o).answer (ids s.node.name) else ids s.node.name)
       (sym ((eq_by_cmp_equiv text_total).symm s.node.name site.node.name ∙ ap (λ a. is_named a s.node.name) (sym name) ∙ off)))
       w.sites kept
 
-both_find : (w : World) (ids : Bytes → List Bytes) (name : Bytes) (site : Site) → KeptWorld ids w → site_of w name ≡ Some site → ids_at site.node ≡ ids site.node.name
-both_find w ids name site kept e = each-find (λ (s : Site). ids_at s.node ≡ ids s.node.name) (λ s. is_named name s.node.name) w.sites site kept e
+both_find : (w : ModelWorld) (ids : Bytes → List Bytes) (name : Bytes) (site : ModelSite) → KeptWorld ids w → site_of w name ≡ Some site → ids_at site.node ≡ ids site.node.name
+both_find w ids name site kept e = each-find (λ (s : ModelSite). ids_at s.node ≡ ids s.node.name) (λ s. is_named name s.node.name) w.sites site kept e
 
-step_tells : (ids : Bytes → List Bytes) (w : World) (st : Step) → GoodWorld w → KeptWorld ids w → After (TellsStep ids w st) (step w st)
+step_tells : (ids : Bytes → List Bytes) (w : ModelWorld) (st : Step) → GoodWorld w → KeptWorld ids w → After (TellsStep ids w st) (step w st)
 step_tells ids w (AtNode at act now saves) good kept =
     let P = TellsStep ids w (AtNode at act now saves) in
-    let done = λ (site : Site). kept_by saves (act_step by_operations w.weigher site.node act now) in
-    let next = λ (site : Site) (o : Outcome Ops). let x : Result Stepped Refusal = Ok (acted w site o) in x in
-    let rest = λ (site : Site). then_do (done site) (next site) in
+    let done = λ (site : ModelSite). kept_by saves (act_step by_operations w.weigher site.node act now) in
+    let next = λ (site : ModelSite) (o : ActOutcome Ops). let x : Result WorldStepped Refusal = Ok (acted w site o) in x in
+    let rest = λ (site : ModelSite). then_do (done site) (next site) in
     after-or_refused P (site_of w at) UnknownNode (λ site. refused_if (not (target_is_here w act)) UnknownNode (rest site)) (λ site e.
     after-refused_if P (not (target_is_here w act)) UnknownNode (rest site)
     (after-then_do (Tells (left_by act) site.node) P (done site) (next site)
     (kept_by_after (Tells (left_by act) site.node) saves (act_step by_operations w.weigher site.node act now)
-    (act_tells w.weigher site.node act now (each-find (λ (s : Site). Good w.weigher s.node) (λ s. is_named at s.node.name) w.sites site good e)))
+    (act_tells w.weigher site.node act now (each-find (λ (s : ModelSite). Good w.weigher s.node) (λ s. is_named at s.node.name) w.sites site good e)))
     (λ o h. acted_tells ids w (AtNode at act now saves) site o kept (both_find w ids at site kept e) h.name h.starts)))
 step_tells ids w (Delivery from k at drop now saves) good kept =
     let P = TellsStep ids w (Delivery from k at drop now saves) in
-    let arrives = λ (m : Message Ops) (receiver : Site). deliver by_operations w.weigher receiver.node from m (drop == 0) in
-    let next = λ (receiver : Site) (o : Outcome Ops). let x : Result Stepped Refusal = Ok (acted w receiver o) in x in
-    let at_receiver = λ (m : Message Ops) (receiver : Site). then_do (kept_by saves (arrives m receiver)) (next receiver) in
+    let arrives = λ (m : Message Ops) (receiver : ModelSite). deliver by_operations w.weigher receiver.node from m (drop == 0) in
+    let next = λ (receiver : ModelSite) (o : ActOutcome Ops). let x : Result WorldStepped Refusal = Ok (acted w receiver o) in x in
+    let at_receiver = λ (m : Message Ops) (receiver : ModelSite). then_do (kept_by saves (arrives m receiver)) (next receiver) in
     let with_message = λ (m : Message Ops). or_refused (site_of w (unwrap_or at m.to)) UnknownNode (at_receiver m) in
-    let with_sender = λ (sender : Site). or_refused (message_of sender k) NoSuchMessage with_message in
+    let with_sender = λ (sender : ModelSite). or_refused (message_of sender k) NoSuchMessage with_message in
     after-or_refused P (site_of w from) UnknownNode with_sender (λ sender _.
     after-or_refused P (message_of sender k) NoSuchMessage with_message (λ m _.
     after-or_refused P (site_of w (unwrap_or at m.to)) UnknownNode (at_receiver m) (λ receiver e.
     after-then_do (Tells none_ends receiver.node) P (kept_by saves (arrives m receiver)) (next receiver)
     (kept_by_after (Tells none_ends receiver.node) saves (arrives m receiver)
-    (deliver_tells w.weigher receiver.node from m (drop == 0) (each-find (λ (s : Site). Good w.weigher s.node) (λ s. is_named (unwrap_or at m.to) s.node.name) w.sites receiver good e)))
+    (deliver_tells w.weigher receiver.node from m (drop == 0) (each-find (λ (s : ModelSite). Good w.weigher s.node) (λ s. is_named (unwrap_or at m.to) s.node.name) w.sites receiver good e)))
     (λ o h. acted_tells ids w (Delivery from k at drop now saves) receiver o kept (both_find w ids (unwrap_or at m.to) receiver kept e) h.name h.starts))))
 step_tells ids w (Raw at bytes) good kept =
     let P = TellsStep ids w (Raw at bytes) in
-    let none : Result Stepped Refusal = Err NoSuchMessage in
+    let none : Result WorldStepped Refusal = Err NoSuchMessage in
     let inner = refused_if (not (w.is_message bytes)) BadMessage none in
     after-or_refused P (site_of w at) UnknownNode (λ site. refused_if (not site.node.up) Down inner) (λ site _.
     after-refused_if P (not site.node.up) Down inner (after-refused_if P (not (w.is_message bytes)) BadMessage none tt))
 
 -- a step, answered as it may be
-allowed_tells : (ids : Bytes → List Bytes) (w : World) (s : Step) (answer : Result Answer Refusal) (w' : World) → Allows w s answer w' → GoodWorld w → KeptWorld ids w → KeptWorld (next_ids ids s answer) w'
+allowed_tells : (ids : Bytes → List Bytes) (w : ModelWorld) (s : Step) (answer : Result ModelAnswer Refusal) (w' : ModelWorld) → ModelAllows w s answer w' → GoodWorld w → KeptWorld ids w → KeptWorld (next_ids ids s answer) w'
 allowed_tells ids w s answer w' (inl h) good kept =
-    subst (λ (a : Result Answer Refusal). KeptWorld (next_ids ids s a) w') (sym h.0)
+    subst (λ (a : Result ModelAnswer Refusal). KeptWorld (next_ids ids s a) w') (sym h.0)
     (subst (KeptWorld (next_ids ids s (answer_of (step w s)))) (sym h.1) (go (step w s) (step_tells ids w s good kept)))
   where
-    go : (r : Result Stepped Refusal) → After (TellsStep ids w s) r → KeptWorld (next_ids ids s (answer_of r)) (world_after w r)
+    go : (r : Result WorldStepped Refusal) → After (TellsStep ids w s) r → KeptWorld (next_ids ids s (answer_of r)) (world_after w r)
     go (Ok x) t = t
     go (Err r) t = kept
-allowed_tells ids w s answer w' (inr (inl h)) good kept = subst (λ (a : Result Answer Refusal). KeptWorld (next_ids ids s a) w') (sym h.0) (subst (KeptWorld ids) (sym h.2) kept)
-allowed_tells ids w s answer w' (inr (inr h)) good kept = subst (λ (a : Result Answer Refusal). KeptWorld (next_ids ids s a) w') (sym h.0) (subst (KeptWorld ids) (sym h.3) kept)
+allowed_tells ids w s answer w' (inr (inl h)) good kept = subst (λ (a : Result ModelAnswer Refusal). KeptWorld (next_ids ids s a) w') (sym h.0) (subst (KeptWorld ids) (sym h.2) kept)
+allowed_tells ids w s answer w' (inr (inr h)) good kept = subst (λ (a : Result ModelAnswer Refusal). KeptWorld (next_ids ids s a) w') (sym h.0) (subst (KeptWorld ids) (sym h.3) kept)
 
-later : (ids : Bytes → List Bytes) (s : Step) (steps : List Step) (answer : Result Answer Refusal) (answers : List (Result Answer Refusal)) (name : Bytes)
+later : (ids : Bytes → List Bytes) (s : Step) (steps : List Step) (answer : Result ModelAnswer Refusal) (answers : List (Result ModelAnswer Refusal)) (name : Bytes)
     → started_at name (next_ids ids s answer name) steps answers ≡ started_at name (ids name) (s ∷ steps) (answer ∷ answers)
 later ids s steps (Ok a) answers name = refl
 later ids s steps (Err r) answers name = refl
 
 -- and a run of them
-run_tells : (ids : Bytes → List Bytes) (w : World) (steps : List Step) (answers : List (Result Answer Refusal)) (w' : World) → Run w steps answers w' → GoodWorld w → KeptWorld ids w → KeptWorld (λ name. started_at name (ids name) steps answers) w'
+run_tells : (ids : Bytes → List Bytes) (w : ModelWorld) (steps : List Step) (answers : List (Result ModelAnswer Refusal)) (w' : ModelWorld) → ModelRun w steps answers w' → GoodWorld w → KeptWorld ids w → KeptWorld (λ name. started_at name (ids name) steps answers) w'
 run_tells ids w [] [] w' run good kept = subst (KeptWorld ids) (sym run) kept
 run_tells ids w (s ∷ steps) (answer ∷ rest) w' run good kept =
     each (run_tells (next_ids ids s answer) run.0 steps rest w' run.2 (allowed_good w s answer run.0 run.1 good) (allowed_tells ids w s answer run.0 run.1 good kept))
   where
-    go : (sites : List Site) → AllByRecursion (λ (t : Site). ids_at t.node ≡ started_at t.node.name (next_ids ids s answer t.node.name) steps rest) sites
-        → AllByRecursion (λ (t : Site). ids_at t.node ≡ started_at t.node.name (ids t.node.name) (s ∷ steps) (answer ∷ rest)) sites
+    go : (sites : List ModelSite) → AllByRecursion (λ (t : ModelSite). ids_at t.node ≡ started_at t.node.name (next_ids ids s answer t.node.name) steps rest) sites
+        → AllByRecursion (λ (t : ModelSite). ids_at t.node ≡ started_at t.node.name (ids t.node.name) (s ∷ steps) (answer ∷ rest)) sites
     go [] a = tt
     go (t ∷ sites) a = (a.0 ∙ later ids s steps answer rest t.node.name, go sites a.1)
 
@@ -234,10 +234,10 @@ run_tells ids w (s ∷ steps) (answer ∷ rest) w' run good kept =
 run_tells ids w [] (answer ∷ rest) w' run good kept = absurd run
 run_tells ids w (s ∷ steps) [] w' run good kept = absurd run
 
-new_kept : (setting : Setting) (is_message : Bytes → Bool) (names : List Bytes) → KeptWorld (λ name. []) (new setting is_message names)
+new_kept : (setting : WorldSetting) (is_message : Bytes → Bool) (names : List Bytes) → KeptWorld (λ name. []) (new setting is_message names)
 new_kept setting is_message [] = tt
 new_kept setting is_message (name ∷ names) = (refl, new_kept setting is_message names)
 
-pub starts : (setting : Setting) (is_message : Bytes → Bool) (names : List Bytes) (steps : List Step) (answers : List (Result Answer Refusal)) (w : World) → Run (new setting is_message names) steps answers w → GoodWorld (new setting is_message names)
-    → AllByRecursion (λ (a : Site). keys_of a.node.supervisor.kept ≡ started_at a.node.name [] steps answers) w.sites
+pub starts : (setting : WorldSetting) (is_message : Bytes → Bool) (names : List Bytes) (steps : List Step) (answers : List (Result ModelAnswer Refusal)) (w : ModelWorld) → ModelRun (new setting is_message names) steps answers w → GoodWorld (new setting is_message names)
+    → AllByRecursion (λ (a : ModelSite). keys_of a.node.supervisor.kept ≡ started_at a.node.name [] steps answers) w.sites
 starts setting is_message names steps answers w run good = run_tells (λ name. []) (new setting is_message names) steps answers w run good (new_kept setting is_message names)

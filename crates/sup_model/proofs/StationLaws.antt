@@ -16,11 +16,11 @@ use Rattle.sup_replica.specs.declared.refusal.Refusal.TheVariants.{Down, Already
 use Rattle.sup_replica.specs.Acts.{act_step, answer_to, booted, deliver, keeps, kept_by, stopped, takes}
 use Rattle.sup_replica.specs.ByTables.{by_tables}
 use Rattle.sup_replica.specs.Checks.{refused_if, then_do}
-use Rattle.sup_replica.specs.Nodes.{Node, Kind, Message, Outcome, by_operations, is_named, delta, push, ack}
-use Rattle.sup_replica.specs.Stations.{Station, Mail, a_delta, a_push, an_ack, Move, acknowledged, mail_of_shipment, mail_step, moved, notes, own_step, pushed, ship_step, shipped, taken_with, volatile, volatile_step}
+use Rattle.sup_replica.specs.Nodes.{Node, Kind, Message, ActOutcome, by_operations, is_named, delta, push, ack}
+use Rattle.sup_replica.specs.Stations.{Station, Mail, a_delta, a_push, an_ack, StationMove, acknowledged, mail_of_shipment, mail_step, moved, notes, own_step, pushed, ship_step, shipped, taken_with, volatile, volatile_step}
 use Rattle.sup_replica.specs.Steps.{only, passes_greatest}
 use Rattle.sup_model.specs.OneStation.{LetterStands, MailStands, MoveStands, PlainActsStand, ShipStands, ShipsStand}
-use Rattle.sup_model.specs.Stands.{BothOrNone, MessageStands, NodeStands, OutcomeStands, Together}
+use Rattle.sup_model.specs.Stands.{BothOrNone, MessageStands, NodeStands, OutcomeStands, DoneTogether}
 use Rattle.sup_model.specs.TableViews.{table_view}
 use Rattle.sup_model.specs.Worlds.{Ops}
 use Rattle.sup_model.proofs.Afters.{After, after-refused_if}
@@ -30,17 +30,17 @@ use Rattle.sup_model.proofs.NodeLaws.{acts, deliveries}
 use Rattle.sup_model.proofs.TableLaws.{table_laws}
 
 -- what a station makes of its node's answer
-station_of_both : (Q : Outcome Ops → Type 0) (f : Outcome State → Move State) (x : Result (Outcome State) Refusal) (y : Result (Outcome Ops) Refusal) → Together (OutcomeStands table_view) x y → After Q y
-    → ((o : Outcome State) (p : Outcome Ops) → OutcomeStands table_view o p → Q p → MoveStands (f o) p) → Together MoveStands (then_do x (λ o. let r : Result (Move State) Refusal = Ok (f o) in r)) y
+station_of_both : (Q : ActOutcome Ops → Type 0) (f : ActOutcome State → StationMove State) (x : Result (ActOutcome State) Refusal) (y : Result (ActOutcome Ops) Refusal) → DoneTogether (OutcomeStands table_view) x y → After Q y
+    → ((o : ActOutcome State) (p : ActOutcome Ops) → OutcomeStands table_view o p → Q p → MoveStands (f o) p) → DoneTogether MoveStands (then_do x (λ o. let r : Result (StationMove State) Refusal = Ok (f o) in r)) y
 station_of_both Q f (Ok o) (Ok p) h q g = g o p h q
 station_of_both Q f (Err r) (Err s) h q g = h
 station_of_both Q f (Ok o) (Err s) h q g = absurd h
 station_of_both Q f (Err r) (Ok p) h q g = absurd h
 
-abbrev Any : Outcome Ops → Type 0
+abbrev Any : ActOutcome Ops → Type 0
 Any p = Unit {0}
 
-any : (y : Result (Outcome Ops) Refusal) → After Any y
+any : (y : Result (ActOutcome Ops) Refusal) → After Any y
 any (Ok p) = tt
 any (Err r) = tt
 
@@ -50,13 +50,13 @@ pushed_stands from (Some a) (Some b) h = (h.to, h.content)
 pushed_stands from (Some a) None h = absurd h
 pushed_stands from None (Some b) h = absurd h
 
-own_stands : (g : Weigher) (s : Station State) (m : Node Ops) (a : Act) (now : ℕ) (saves : Bool) → NodeStands table_view s.node m → NoClash m.known → Together MoveStands (own_step by_tables g s a now saves) (kept_by saves (act_step by_operations g m a now))
+own_stands : (g : Weigher) (s : Station State) (m : Node Ops) (a : Act) (now : ℕ) (saves : Bool) → NodeStands table_view s.node m → NoClash m.known → DoneTogether MoveStands (own_step by_tables g s a now saves) (kept_by saves (act_step by_operations g m a now))
 own_stands g s m a now saves h clear =
     station_of_both Any (λ o. moved by_tables o (notes by_tables s o.node (unwrap_or o.node.newest by_tables.nothing)) (pushed by_tables s.node.name o.letter)) _ _ (acts g s.node m a now saves h clear) (any _)
     (λ o p r _. record { reply = r.reply; effects = r.effects; letter = pushed_stands s.node.name o.letter p.letter r.letter; node = r.node })
 
 -- a stop or a restart sends nothing
-abbrev Silent : Outcome Ops → Type 0
+abbrev Silent : ActOutcome Ops → Type 0
 Silent p = p.letter ≡ None
 
 none_stands : (b : Option (Message Ops)) → b ≡ None → BothOrNone LetterStands None b
@@ -64,7 +64,7 @@ none_stands None e = tt
 none_stands (Some b) e = absurd (none-some b (sym e))
 
 volatile_stands : (g : Weigher) (s : Station State) (m : Node Ops) (a : Act) (now : ℕ) (saves : Bool) → NodeStands table_view s.node m → NoClash m.known → After Silent (act_step by_operations g m a now)
-    → Together MoveStands (volatile_step by_tables g s a now saves) (kept_by saves (act_step by_operations g m a now))
+    → DoneTogether MoveStands (volatile_step by_tables g s a now saves) (kept_by saves (act_step by_operations g m a now))
 volatile_stands g s m a now saves h clear silent =
     station_of_both Silent (λ o. moved by_tables o (volatile by_tables s o.node) None) _ _ (acts g s.node m a now saves h clear) (kept_by_after Silent saves (act_step by_operations g m a now) silent)
     (λ o p r q. record { reply = r.reply; effects = r.effects; letter = none_stands p.letter q; node = r.node })
@@ -83,10 +83,10 @@ plain_acts_stand codec g s m (Of (Unregister name)) now saves plain h clear = ow
 plain_acts_stand codec g s m (Of (Exit id inc reason)) now saves plain h clear = own_stands g s m (Of (Exit id inc reason)) now saves h clear
 plain_acts_stand codec g s m (Of (Push to)) now saves plain h clear = own_stands g s m (Of (Push to)) now saves h clear
 plain_acts_stand codec g s m Stop now saves plain h clear =
-    let ok : Result (Outcome Ops) Refusal = Ok (only (stopped m) Stopped [] None) in
+    let ok : Result (ActOutcome Ops) Refusal = Ok (only (stopped m) Stopped [] None) in
     volatile_stands g s m Stop now saves h clear (after-refused_if Silent (not m.up) Down ok refl)
 plain_acts_stand codec g s m Restart now saves plain h clear =
-    let ok : Result (Outcome Ops) Refusal = Ok (keeps by_operations g (booted m) (Boot (m.supervisor.boot + 1)) None) in
+    let ok : Result (ActOutcome Ops) Refusal = Ok (keeps by_operations g (booted m) (Boot (m.supervisor.boot + 1)) None) in
     volatile_stands g s m Restart now saves h clear (after-refused_if Silent m.up AlreadyUp ok refl)
 
 -- a ship, once its checks have passed
@@ -96,23 +96,23 @@ none_of false true x y = refl
 none_of false false x y = refl
 
 shipment_stands : (s : Station State) (m : Node Ops) (to : Bytes) → NodeStands table_view s.node m → (all : Bool) (x : Option (Shipment State)) → is_none x ≡ all
-    → (let ok : Result (Outcome Ops) Refusal = Ok (only m Sent [] (Some (record { to = to; kind = delta; content = m.known }))) in ShipStands all (ship_step by_tables s (mail_of_shipment s.node.name to x)) ok)
+    → (let ok : Result (ActOutcome Ops) Refusal = Ok (only m Sent [] (Some (record { to = to; kind = delta; content = m.known }))) in ShipStands all (ship_step by_tables s (mail_of_shipment s.node.name to x)) ok)
 shipment_stands s m to h all None e = (sym e, refl)
 shipment_stands s m to h all (Some x) e = (sym e, record { reply = refl; effects = refl; letter = refl; node = h })
 
-ship_checked : (up named saves all : Bool) (x : Result (Move State) Refusal) (o : Outcome Ops) → passes_greatest o.node ≡ false → o.saves ≡ false → (let ok : Result (Outcome Ops) Refusal = Ok o in ShipStands all x ok
+ship_checked : (up named saves all : Bool) (x : Result (StationMove State) Refusal) (o : ActOutcome Ops) → passes_greatest o.node ≡ false → o.saves ≡ false → (let ok : Result (ActOutcome Ops) Refusal = Ok o in ShipStands all x ok
     → ShipStands all (refused_if (not up) Down (refused_if named UnknownNode x)) (kept_by saves (refused_if (not up) Down (refused_if named UnknownNode ok))))
 ship_checked false named saves all x o fits still h = refl
 ship_checked true true saves all x o fits still h = refl
 ship_checked true false saves all x o fits still h =
-    let ok : Result (Outcome Ops) Refusal = Ok o in
+    let ok : Result (ActOutcome Ops) Refusal = Ok o in
     subst (λ b. ShipStands all x (refused_if b CountSpent (refused_if (o.saves && not saves) KeepFailed ok))) (sym fits)
     (subst (λ b. ShipStands all x (refused_if (b && not saves) KeepFailed ok)) (sym still) h)
 
 pub ships_stand : ShipsStand
 ships_stand codec g s m to now saves h fits =
     let o = only m Sent [] (Some (record { to = to; kind = delta; content = m.known })) in
-    let ok : Result (Outcome Ops) Refusal = Ok o in
+    let ok : Result (ActOutcome Ops) Refusal = Ok o in
     let all = (s.node.count - s.acked to) == 0 in
     let x = ship_step by_tables s (shipped by_tables s to) in
     let y = kept_by saves (refused_if (not m.up) Down (refused_if (is_named to m.name) UnknownNode ok)) in
@@ -121,7 +121,7 @@ ships_stand codec g s m to now saves h fits =
     (ship_checked m.up (is_named to m.name) saves all x o fits refl (shipment_stands s m to h all (shipment_of by_tables.with_more by_tables.nothing s.held s.node.count s.node.known (s.node.count - s.acked to)) (none_of _ _ _ _))))
 
 -- mail that brings operations
-abbrev Answered : Bytes → Kind → Outcome Ops → Type 0
+abbrev Answered : Bytes → Kind → ActOutcome Ops → Type 0
 Answered from kind p = p.letter ≡ answer_to by_operations from kind
 
 takes_letter : (g : Weigher) (m : Node Ops) (from : Bytes) (kind : Kind) (more : Ops) → Answered from kind (takes by_operations g m from kind more)
@@ -131,13 +131,13 @@ takes_letter g m from push more = absorbs_letter by_tables table_view table_laws
 
 deliver_letter : (g : Weigher) (m : Node Ops) (from : Bytes) (b : Message Ops) → After (Answered from b.kind) (deliver by_operations g m from b true)
 deliver_letter g m from b =
-    let ok : Result (Outcome Ops) Refusal = Ok (takes by_operations g m from b.kind b.content) in
+    let ok : Result (ActOutcome Ops) Refusal = Ok (takes by_operations g m from b.kind b.content) in
     let third = refused_if (not (is_named b.to m.name)) WrongReceiver ok in
     after-refused_if (Answered from b.kind) (not m.up) Down third (after-refused_if (Answered from b.kind) (not (is_named b.to m.name)) WrongReceiver ok (takes_letter g m from b.kind b.content))
 
 taken_stands : (g : Weigher) (s : Station State) (m : Node Ops) (from to : Bytes) (kind : Kind) (content : State) (b : Message Ops) (saves : Bool) (letter : Option (Mail State)) → NodeStands table_view s.node m → to ≡ b.to → b.kind ≡ kind → table_view.stands content b.content
     → NoClash (m.known ++ b.content) → ((l : Option (Message Ops)) → l ≡ answer_to by_operations from kind → BothOrNone LetterStands letter l)
-    → Together MoveStands (taken_with by_tables g s from (record { to = to; kind = kind; content = content }) saves letter) (kept_by saves (deliver by_operations g m from b true))
+    → DoneTogether MoveStands (taken_with by_tables g s from (record { to = to; kind = kind; content = content }) saves letter) (kept_by saves (deliver by_operations g m from b true))
 taken_stands g s m from to kind content b saves letter h named same brings clear letters =
     let a : Message State = record { to = to; kind = kind; content = content } in
     station_of_both (Answered from b.kind) (λ o. moved by_tables o (notes by_tables s o.node content) letter) _ _
@@ -146,28 +146,28 @@ taken_stands g s m from to kind content b saves letter h named same brings clear
     (λ o p r q. record { reply = r.reply; effects = r.effects; letter = letters p.letter (q ∙ ap (answer_to by_operations from) same); node = r.node })
 
 -- and an acknowledgement
-ack_checked : (up named saves : Bool) (move : Move State) (o : Outcome Ops) → passes_greatest o.node ≡ false → o.saves ≡ false → MoveStands move o
-    → (let done : Result (Move State) Refusal = Ok move in let ok : Result (Outcome Ops) Refusal = Ok o in
-    Together MoveStands (refused_if (not up) Down (refused_if (not named) WrongReceiver done)) (kept_by saves (refused_if (not up) Down (refused_if (not named) WrongReceiver ok))))
+ack_checked : (up named saves : Bool) (move : StationMove State) (o : ActOutcome Ops) → passes_greatest o.node ≡ false → o.saves ≡ false → MoveStands move o
+    → (let done : Result (StationMove State) Refusal = Ok move in let ok : Result (ActOutcome Ops) Refusal = Ok o in
+    DoneTogether MoveStands (refused_if (not up) Down (refused_if (not named) WrongReceiver done)) (kept_by saves (refused_if (not up) Down (refused_if (not named) WrongReceiver ok))))
 ack_checked false named saves move o fits still h = refl
 ack_checked true false saves move o fits still h = refl
 ack_checked true true saves move o fits still h =
-    let done : Result (Move State) Refusal = Ok move in
-    let ok : Result (Outcome Ops) Refusal = Ok o in
-    subst (λ b. Together MoveStands done (refused_if b CountSpent (refused_if (o.saves && not saves) KeepFailed ok))) (sym fits)
-    (subst (λ b. Together MoveStands done (refused_if (b && not saves) KeepFailed ok)) (sym still) h)
+    let done : Result (StationMove State) Refusal = Ok move in
+    let ok : Result (ActOutcome Ops) Refusal = Ok o in
+    subst (λ b. DoneTogether MoveStands done (refused_if b CountSpent (refused_if (o.saves && not saves) KeepFailed ok))) (sym fits)
+    (subst (λ b. DoneTogether MoveStands done (refused_if (b && not saves) KeepFailed ok)) (sym still) h)
 
 ack_stands : (g : Weigher) (s : Station State) (m : Node Ops) (from to : Bytes) (n : ℕ) (b : Message Ops) (saves : Bool) → NodeStands table_view s.node m → to ≡ b.to → b.kind ≡ ack → nat_lt s.node.count n ≡ false → passes_greatest m ≡ false
-    → Together MoveStands (mail_step by_tables g s (an_ack from to n) saves) (kept_by saves (deliver by_operations g m from b true))
+    → DoneTogether MoveStands (mail_step by_tables g s (an_ack from to n) saves) (kept_by saves (deliver by_operations g m from b true))
 ack_stands g s m from to n b saves h named same fits below =
-    let move : Move State = record { done = record { reply = Acked; effects = [] }; letter = None; station = acknowledged by_tables s from n } in
-    let done : Result (Move State) Refusal = Ok move in
-    let answer = λ (kind : Kind). let x : Result (Outcome Ops) Refusal = Ok (takes by_operations g m from kind b.content) in x in
+    let move : StationMove State = record { done = record { reply = Acked; effects = [] }; letter = None; station = acknowledged by_tables s from n } in
+    let done : Result (StationMove State) Refusal = Ok move in
+    let answer = λ (kind : Kind). let x : Result (ActOutcome Ops) Refusal = Ok (takes by_operations g m from kind b.content) in x in
     let model = λ (kind : Kind). kept_by saves (refused_if (not m.up) Down (refused_if (not (is_named b.to m.name)) WrongReceiver (answer kind))) in
-    subst (λ (kind : Kind). Together MoveStands (mail_step by_tables g s (an_ack from to n) saves) (model kind)) (sym same)
-    (subst (λ c. Together MoveStands (refused_if (not s.node.up) Down (refused_if (not (is_named to s.node.name)) WrongReceiver (refused_if c BadMessage done))) (model ack)) (sym fits)
-    (subst (λ c. Together MoveStands (refused_if (not c) Down (refused_if (not (is_named to s.node.name)) WrongReceiver done)) (model ack)) (sym h.up)
-    (subst (λ c. Together MoveStands (refused_if (not m.up) Down (refused_if (not c) WrongReceiver done)) (model ack)) (sym (λ i. is_named (named i) (h.name i)))
+    subst (λ (kind : Kind). DoneTogether MoveStands (mail_step by_tables g s (an_ack from to n) saves) (model kind)) (sym same)
+    (subst (λ c. DoneTogether MoveStands (refused_if (not s.node.up) Down (refused_if (not (is_named to s.node.name)) WrongReceiver (refused_if c BadMessage done))) (model ack)) (sym fits)
+    (subst (λ c. DoneTogether MoveStands (refused_if (not c) Down (refused_if (not (is_named to s.node.name)) WrongReceiver done)) (model ack)) (sym h.up)
+    (subst (λ c. DoneTogether MoveStands (refused_if (not m.up) Down (refused_if (not c) WrongReceiver done)) (model ack)) (sym (λ i. is_named (named i) (h.name i)))
     (ack_checked m.up (is_named b.to m.name) saves move (only m Acked [] None) below refl (record { reply = refl; effects = refl; letter = tt; node = h })))))
 
 pub mail_stands : MailStands

@@ -17,8 +17,8 @@ use Rattle.sup_tables.proofs.JoinLaws.{join_stands}
 use Rattle.sup_tables.proofs.StateJoins.{knows_both, tables_both, below_of_test, test_of_below}
 use Rattle.sup_local_sup.proofs.HeldLaws.{window_decides, window_restarts, window_forgets, window_itself}
 use Rattle.sup_anti_entropy.specs.Joins.{joins_of}
-use Rattle.sup_replica.specs.ByTables.{Stands, by_tables}
-use Rattle.sup_model.specs.Laws.{Laws}
+use Rattle.sup_replica.specs.ByTables.{TablesStandFor, by_tables}
+use Rattle.sup_model.specs.Laws.{StateLaws}
 use Rattle.sup_model.specs.TableViews.{no_meaning, table_joins, table_view}
 
 counter_is : (s : State) (ops : List Operation) → StandsFor s ops → (node : Bytes) → counter_in s node ≡ greatest ops node
@@ -29,7 +29,7 @@ counter_is s ops st node =
 none_knows : knowledge no_state ≡ no_meaning
 none_knows = λ i. (fun_ext (λ d. has_among [] d) i, λ d t k. standing (has_among [] d i) None)
 
-pub table_laws : Laws by_tables table_view
+pub table_laws : StateLaws by_tables table_view
 unfolding table_joins joins_of
 table_laws = record {
   more_valid = λ a b v w. tables_both a b;
@@ -46,7 +46,7 @@ table_laws = record {
   equal = λ a b ops h g. ap (λ x. together (knowledge x) (knowledge b)) (same_of_stands a b ops h.stands h.tables g.stands g.tables) ∙ together_laws.repeats (knowledge b);
   moves = λ a b ops h v up down.
       let e : a ≡ b = same_state a b h.tables v (sym down ∙ together_laws.commutes (knowledge b) (knowledge a) ∙ up) in
-      subst (λ x. Stands x ops) e h;
+      subst (λ x. TablesStandFor x ops) e h;
   both = λ a b ops others h g clear.
       record { stands = join_stands a b (join_states a b) ops others h.stands g.stands clear (tables_both a b).kept (knows_both a b); tables = tables_both a b };
   one = λ op own. record { stands = one_stands op; tables = one_is_tables op };

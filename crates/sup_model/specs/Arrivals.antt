@@ -8,17 +8,17 @@ use Rattle.sup_replica.specs.declared.event.Act.TheVariants.{Event as Of}
 use Rattle.sup_replica.specs.declared.refusal.Refusal.TheVariants.{Down, BadMessage}
 use Rattle.sup_replica.specs.Checks.{refused_if}
 use Rattle.sup_replica.specs.ByTables.{by_tables}
-use Rattle.sup_replica.specs.Stations.{Station, Mail, Codec, station_step}
+use Rattle.sup_replica.specs.Stations.{Station, Mail, MailCodec, station_step}
 use Rattle.sup_model.specs.Posts.{arrives}
 
 -- what is read as a letter comes as that letter does, uncut
 abbrev pub BytesArrive : Type 0
 BytesArrive =
-    (codec : Codec State) (weigher : Weigher) (s : Station State) (bytes : Bytes) (mail : Mail State) (now : ℕ) (saves : Bool) → codec.read bytes ≡ Some mail
+    (codec : MailCodec State) (weigher : Weigher) (s : Station State) (bytes : Bytes) (mail : Mail State) (now : ℕ) (saves : Bool) → codec.read bytes ≡ Some mail
     → station_step by_tables codec weigher s (Of (Deliver bytes)) now saves ≡ arrives by_tables weigher s mail 0 saves
 
 -- and what isn't is refused
 abbrev pub OtherBytesAreRefused : Type 0
 OtherBytesAreRefused =
-    (codec : Codec State) (weigher : Weigher) (s : Station State) (bytes : Bytes) (now : ℕ) (saves : Bool) → codec.read bytes ≡ None
+    (codec : MailCodec State) (weigher : Weigher) (s : Station State) (bytes : Bytes) (now : ℕ) (saves : Bool) → codec.read bytes ≡ None
     → station_step by_tables codec weigher s (Of (Deliver bytes)) now saves ≡ refused_if (not s.node.up) Down (Err BadMessage)

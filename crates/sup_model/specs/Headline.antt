@@ -18,22 +18,22 @@ use Rattle.sup_replica.specs.Nodes.{Node, by_operations}
 use Rattle.sup_replica.specs.Steps.{wanted}
 use Rattle.sup_model.specs.declared.step.Step.{Step}
 use Rattle.sup_model.specs.Follows.{WorldStandsFor}
-use Rattle.sup_model.specs.Posts.{Real}
+use Rattle.sup_model.specs.Posts.{RealWorld}
 use Rattle.sup_model.specs.Refines.{WorldStands}
-use Rattle.sup_model.specs.Runs.{Run, all_issued, new_dots}
+use Rattle.sup_model.specs.Runs.{ModelRun, all_issued, new_dots}
 use Rattle.sup_model.specs.Starts.{started_at}
 use Rattle.sup_model.specs.TableViews.{table_view}
-use Rattle.sup_model.specs.Worlds.{Setting, Ops, World, Site, Answer, new}
+use Rattle.sup_model.specs.Worlds.{WorldSetting, Ops, ModelWorld, ModelSite, ModelAnswer, new}
 
 -- nodes that absorbed the same operations agree: the same known dots and live entries, so the same winners and losers, and each child on one same member
-pub record Agree (weigher : Weigher) (a b : Node Ops) : Type 0 where
+pub record NodesAgree (weigher : Weigher) (a b : Node Ops) : Type 0 where
   pub dots : (d : Dot) → known a.known d ≡ known b.known d
   pub rows : live a.known ≡ live b.known
   pub placed : (id : Bytes) → place weigher (eligible (live a.known)) id ≡ place weigher (eligible (live b.known)) id
 
 -- an add that no absorbed removal names is a winner or a loser of its key
-abbrev pub Stays : Node Ops → Type 0
-Stays n = (r : Row) → Contains (added n.known) r → named n.known r.dot ≡ false → Contains (entries (live n.known) (table_of r.entry) (key_of r.entry)) r
+abbrev pub AddsStay : Node Ops → Type 0
+AddsStay n = (r : Row) → Contains (added n.known) r → named n.known r.dot ≡ false → Contains (entries (live n.known) (table_of r.entry) (key_of r.entry)) r
 
 -- an up node keeps exactly the children placed on it, each once
 pub record KeepsExactly (s : Weigher) (n : Node Ops) : Type 0 where
@@ -42,27 +42,27 @@ pub record KeepsExactly (s : Weigher) (n : Node Ops) : Type 0 where
   pub once : IsDistinct bytes_eq (keys_of n.supervisor.kept)
 
 -- what holds of the world that these steps, answered so, lead to from a new one; its nodes issued these operations
-pub record Headline (steps : List Step) (answers : List (Result Answer Refusal)) (w : World) (issued : Ops) : Type 0 where
+pub record Headline (steps : List Step) (answers : List (Result ModelAnswer Refusal)) (w : ModelWorld) (issued : Ops) : Type 0 where
   -- what the code has of a node stands for what the node absorbed, wherever the code's world stands for this one
-  pub stands : (real : Real State) → WorldStandsFor real w → WorldStands by_tables table_view real w
-  pub agree : (a b : Site) → Contains w.sites a → Contains w.sites b → SameOperations a.node.known b.node.known → Agree w.weigher a.node b.node
-  pub stays : (a : Site) → Contains w.sites a → Stays a.node
-  pub keeps : (a : Site) → Contains w.sites a → a.node.up ≡ true → KeepsExactly w.weigher a.node
+  pub stands : (real : RealWorld State) → WorldStandsFor real w → WorldStands by_tables table_view real w
+  pub agree : (a b : ModelSite) → Contains w.sites a → Contains w.sites b → SameOperations a.node.known b.node.known → NodesAgree w.weigher a.node b.node
+  pub stays : (a : ModelSite) → Contains w.sites a → AddsStay a.node
+  pub keeps : (a : ModelSite) → Contains w.sites a → a.node.up ≡ true → KeepsExactly w.weigher a.node
   -- in the order in which its effects started them
-  pub starts : (a : Site) → Contains w.sites a → keys_of a.node.supervisor.kept ≡ started_at a.node.name [] steps answers
+  pub starts : (a : ModelSite) → Contains w.sites a → keys_of a.node.supervisor.kept ≡ started_at a.node.name [] steps answers
   -- no two operations add the same dot
   pub once : AllPairs (λ (d e : Dot). d ≢ e) (map (λ r. r.dot) (added issued))
 
 -- after any list of steps from a new world, answered as they may be, want of memory and ships that are up to date among them
 abbrev pub MainTheorem : Type 0
 MainTheorem =
-    (setting : Setting) (is_message : Bytes → Bool) (names : List Bytes) (steps : List Step) (answers : List (Result Answer Refusal)) (w : World)
-    (run : Run (new setting is_message names) steps answers w)
+    (setting : WorldSetting) (is_message : Bytes → Bool) (names : List Bytes) (steps : List Step) (answers : List (Result ModelAnswer Refusal)) (w : ModelWorld)
+    (run : ModelRun (new setting is_message names) steps answers w)
     → Headline steps answers w (all_issued (new setting is_message names) steps answers w run)
 
 -- the dots that its replies tell are those of the operations that it adds, one after another
 abbrev pub RepliesTellDots : Type 0
 RepliesTellDots =
-    (setting : Setting) (is_message : Bytes → Bool) (names : List Bytes) (steps : List Step) (answers : List (Result Answer Refusal)) (w : World)
-    (run : Run (new setting is_message names) steps answers w)
+    (setting : WorldSetting) (is_message : Bytes → Bool) (names : List Bytes) (steps : List Step) (answers : List (Result ModelAnswer Refusal)) (w : ModelWorld)
+    (run : ModelRun (new setting is_message names) steps answers w)
     → new_dots answers ≡ map (λ r. r.dot) (added (all_issued (new setting is_message names) steps answers w run))

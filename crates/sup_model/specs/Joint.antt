@@ -2,41 +2,41 @@
 use Rattle.std.specs.Prelude.{ℕ, ◌≡◌, ◌≤◌, false, List, [], ◌∷◌, map}
 use Rattle.sup_specs.specs.Values.{Bytes}
 use Rattle.sup_placement.specs.Place.{Weigher}
-use Rattle.sup_model.specs.Worlds.{Ops, World, Site, Answer}
+use Rattle.sup_model.specs.Worlds.{Ops, ModelWorld, ModelSite, ModelAnswer}
 use Rattle.sup_replica.specs.Nodes.{Message, delta as is_delta, push as is_push, ack as is_ack}
 use Rattle.sup_replica.specs.Steps.{passes_greatest}
-use Rattle.sup_anti_entropy.specs.Peers.{In, Letter, delta, push, ack, Peer, Sound}
-use Rattle.sup_model.specs.Laws.{View}
-use Rattle.sup_replica.specs.Stations.{Codec, Mail, a_delta, a_push, an_ack}
-use Rattle.sup_model.specs.Posts.{Post, Real, RealAnswer, reads}
+use Rattle.sup_anti_entropy.specs.Peers.{OccursIn, Letter, delta, push, ack, Peer, PeersAreSound}
+use Rattle.sup_model.specs.Laws.{StateView}
+use Rattle.sup_replica.specs.Stations.{MailCodec, Mail, a_delta, a_push, an_ack}
+use Rattle.sup_model.specs.Posts.{StationPost, RealWorld, RealAnswer, reads}
 use Rattle.sup_model.specs.Stands.{NodeStands}
-use Rattle.sup_model.specs.Clean.{Clean}
+use Rattle.sup_model.specs.Clean.{HasCleanRows}
 
 -- one node: what the code keeps, the model's node, and, for proofs alone, the state that it had at each count
-pub record Trio (K : Type 0) : Type 0 where
-  pub post : Post K
-  pub site : Site
+pub record NodeTrio (K : Type 0) : Type 0 where
+  pub post : StationPost K
+  pub site : ModelSite
   pub past : ℕ → K
 
-pub record Joint (K : Type 0) : Type 0 where
+pub record JointWorld (K : Type 0) : Type 0 where
   pub weigher : Weigher
-  pub codec : Codec K
-  pub trios : List (Trio K)
+  pub codec : MailCodec K
+  pub trios : List (NodeTrio K)
 
-abbrev pub real_of : {K : Type 0} → Joint K → Real K
+abbrev pub real_of : {K : Type 0} → JointWorld K → RealWorld K
 real_of j = record { weigher = j.weigher; codec = j.codec; posts = map (λ t. t.post) j.trios }
 
-abbrev pub model_of : {K : Type 0} → Joint K → World
+abbrev pub model_of : {K : Type 0} → JointWorld K → ModelWorld
 model_of j = record { weigher = j.weigher; is_message = reads j.codec; sites = map (λ t. t.site) j.trios }
 
-module _ {K : Type 0} (view : View K) where
+module _ {K : Type 0} (view : StateView K) where
   abbrev pub letter_of : Mail K → Letter Bytes view.S
   letter_of (a_delta from to n whole content) = delta to n (view.sem content)
   letter_of (a_push from to content) = push to (view.sem content)
   letter_of (an_ack from to n) = ack to n
 
   -- the node as anti-entropy sees it
-  abbrev pub peer : Trio K → Peer Bytes view.S
+  abbrev pub peer : NodeTrio K → Peer Bytes view.S
   peer t = record {
     name = t.post.station.node.name;
     state = view.sem t.post.station.node.known;
@@ -48,11 +48,11 @@ module _ {K : Type 0} (view : View K) where
   }
 
   -- one of the peers
-  abbrev pub Peers : List (Trio K) → Peer Bytes view.S → Type 0
-  Peers trios p = (t : Trio K) × In trios t × (p ≡ peer t)
+  abbrev pub ArePeersOf : List (NodeTrio K) → Peer Bytes view.S → Type 0
+  ArePeersOf trios p = (t : NodeTrio K) × OccursIn trios t × (p ≡ peer t)
 
-  abbrev pub AllValid : List K → Type 0
-  AllValid held = (x : K) → In held x → view.valid x
+  abbrev pub AllStatesValid : List K → Type 0
+  AllStatesValid held = (x : K) → OccursIn held x → view.valid x
 
   -- a letter: what a delta's sender had at its number stands for what the model's message carries
   abbrev pub MailStands : Bytes → ℕ → (ℕ → K) → Mail K → Message Ops → Type 0
@@ -60,28 +60,28 @@ module _ {K : Type 0} (view : View K) where
   MailStands name count past (a_push from to content) m = (from ≡ name) × (to ≡ m.to) × (m.kind ≡ is_push) × view.stands content m.content
   MailStands name count past (an_ack from to n) m = (from ≡ name) × (to ≡ m.to) × (m.kind ≡ is_ack)
 
-  abbrev pub AllMail : Bytes → ℕ → (ℕ → K) → List (Mail K) → List (Message Ops) → Type 0
-  AllMail name count past [] [] = Unit {0}
-  AllMail name count past (x ∷ xs) (m ∷ ms) = MailStands name count past x m × AllMail name count past xs ms
-  AllMail name count past [] (m ∷ ms) = ⊥
-  AllMail name count past (x ∷ xs) [] = ⊥
+  abbrev pub AllMailStands : Bytes → ℕ → (ℕ → K) → List (Mail K) → List (Message Ops) → Type 0
+  AllMailStands name count past [] [] = Unit {0}
+  AllMailStands name count past (x ∷ xs) (m ∷ ms) = MailStands name count past x m × AllMailStands name count past xs ms
+  AllMailStands name count past [] (m ∷ ms) = ⊥
+  AllMailStands name count past (x ∷ xs) [] = ⊥
 
-  pub record TrioStands (t : Trio K) : Type 0 where
+  pub record TrioStands (t : NodeTrio K) : Type 0 where
     pub node : NodeStands view t.post.station.node t.site.node
-    pub mail : AllMail t.post.station.node.name t.post.station.node.count t.past t.post.sent t.site.sent
-    pub held : AllValid t.post.station.held
+    pub mail : AllMailStands t.post.station.node.name t.post.station.node.count t.past t.post.sent t.site.sent
+    pub held : AllStatesValid t.post.station.held
     pub now : view.valid (t.past t.post.station.node.count)
     pub fits : passes_greatest t.site.node ≡ false
 
   -- the invariant
-  pub record Holds (j : Joint K) : Type 0 where
-    pub one : (t u : Trio K) → In j.trios t → In j.trios u → t.site.node.name ≡ u.site.node.name → t ≡ u
-    pub each : (t : Trio K) → In j.trios t → TrioStands t
-    pub sound : Sound view.joins (Peers j.trios)
-    pub clean : Clean (model_of j)
+  pub record JointHolds (j : JointWorld K) : Type 0 where
+    pub one : (t u : NodeTrio K) → OccursIn j.trios t → OccursIn j.trios u → t.site.node.name ≡ u.site.node.name → t ≡ u
+    pub each : (t : NodeTrio K) → OccursIn j.trios t → TrioStands t
+    pub sound : PeersAreSound view.joins (ArePeersOf j.trios)
+    pub clean : HasCleanRows (model_of j)
 
   -- an answer, seen without the contents
-  pub record AnswerStands (a : RealAnswer K) (b : Answer) : Type 0 where
+  pub record AnswerStands (a : RealAnswer K) (b : ModelAnswer) : Type 0 where
     pub at : a.at ≡ b.at
     pub reply : a.reply ≡ b.done.reply
     pub effects : a.effects ≡ b.done.effects

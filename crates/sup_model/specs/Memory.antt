@@ -6,17 +6,17 @@ use Rattle.sup_replica.specs.declared.event.Act.TheVariants.{Event as Of, Stop}
 use Rattle.sup_replica.specs.declared.refusal.Refusal.{Refusal}
 use Rattle.sup_replica.specs.Refusals.{is_found_first}
 use Rattle.sup_model.specs.declared.step.Step.TheVariants.{Node as AtNode}
-use Rattle.sup_model.specs.Worlds.{World, Answer, step}
-use Rattle.sup_model.specs.Runs.{answer_of, Allows}
+use Rattle.sup_model.specs.Worlds.{ModelWorld, ModelAnswer, step}
+use Rattle.sup_model.specs.Runs.{answer_of, ModelAllows}
 
 -- a stop is answered as the model says
 abbrev pub StopsAreAnswered : Type 0
 StopsAreAnswered =
-    (w : World) (at : Bytes) (now : ℕ) (saves : Bool) (answer : Result Answer Refusal) (w' : World) → Allows w (AtNode at Stop now saves) answer w'
+    (w : ModelWorld) (at : Bytes) (now : ℕ) (saves : Bool) (answer : Result ModelAnswer Refusal) (w' : ModelWorld) → ModelAllows w (AtNode at Stop now saves) answer w'
     → answer ≡ answer_of (step w (AtNode at Stop now saves))
 
 -- an event that the first checks refuse is refused so
 abbrev pub FirstChecksComeFirst : Type 0
 FirstChecksComeFirst =
-    (w : World) (at : Bytes) (event : Event) (now : ℕ) (saves : Bool) (refusal : Refusal) (answer : Result Answer Refusal) (w' : World)
-    → step w (AtNode at (Of event) now saves) ≡ Err refusal → is_found_first refusal ≡ true → Allows w (AtNode at (Of event) now saves) answer w' → answer ≡ Err refusal
+    (w : ModelWorld) (at : Bytes) (event : Event) (now : ℕ) (saves : Bool) (refusal : Refusal) (answer : Result ModelAnswer Refusal) (w' : ModelWorld)
+    → step w (AtNode at (Of event) now saves) ≡ Err refusal → is_found_first refusal ≡ true → ModelAllows w (AtNode at (Of event) now saves) answer w' → answer ≡ Err refusal

@@ -12,10 +12,10 @@ use Rattle.sup_replica.specs.declared.refusal.Refusal.{Refusal}
 use Rattle.sup_replica.specs.declared.refusal.Refusal.TheVariants.{UpToDate}
 use Rattle.sup_replica.specs.Acts.{act_step, deliver, kept_by}
 use Rattle.sup_replica.specs.ByTables.{by_tables}
-use Rattle.sup_replica.specs.Nodes.{Node, Message, Outcome, by_operations, delta, push, ack}
-use Rattle.sup_replica.specs.Stations.{Station, Mail, a_delta, a_push, an_ack, Codec, Move, mail_step, station_step}
+use Rattle.sup_replica.specs.Nodes.{Node, Message, ActOutcome, by_operations, delta, push, ack}
+use Rattle.sup_replica.specs.Stations.{Station, Mail, a_delta, a_push, an_ack, MailCodec, StationMove, mail_step, station_step}
 use Rattle.sup_replica.specs.Steps.{passes_greatest}
-use Rattle.sup_model.specs.Stands.{BothOrNone, Together, NodeStands}
+use Rattle.sup_model.specs.Stands.{BothOrNone, DoneTogether, NodeStands}
 use Rattle.sup_model.specs.TableViews.{table_view}
 use Rattle.sup_model.specs.Worlds.{Ops}
 
@@ -26,7 +26,7 @@ LetterStands (a_push from to content) m = (to ≡ m.to) × table_view.stands con
 LetterStands (an_ack from to n) m = to ≡ m.to
 
 -- the same reply and effects, a letter exactly where there is a message, and the node then stands for that of operations
-pub record MoveStands (move : Move State) (o : Outcome Ops) : Type 0 where
+pub record MoveStands (move : StationMove State) (o : ActOutcome Ops) : Type 0 where
   pub reply : move.done.reply ≡ o.done.reply
   pub effects : move.done.effects ≡ o.done.effects
   pub letter : BothOrNone LetterStands move.letter o.letter
@@ -40,11 +40,11 @@ is_plain act = true
 
 abbrev pub PlainActsStand : Type 0
 PlainActsStand =
-    (codec : Codec State) (g : Weigher) (s : Station State) (m : Node Ops) (act : Act) (now : ℕ) (saves : Bool) → is_plain act ≡ true → NodeStands table_view s.node m → NoClash m.known
-    → Together MoveStands (station_step by_tables codec g s act now saves) (kept_by saves (act_step by_operations g m act now))
+    (codec : MailCodec State) (g : Weigher) (s : Station State) (m : Node Ops) (act : Act) (now : ℕ) (saves : Bool) → is_plain act ≡ true → NodeStands table_view s.node m → NoClash m.known
+    → DoneTogether MoveStands (station_step by_tables codec g s act now saves) (kept_by saves (act_step by_operations g m act now))
 
 -- a ship is refused as it is over operations, and where it isn't, up to date exactly where all changes are acknowledged
-abbrev pub ShipStands : Bool → Result (Move State) Refusal → Result (Outcome Ops) Refusal → Type 0
+abbrev pub ShipStands : Bool → Result (StationMove State) Refusal → Result (ActOutcome Ops) Refusal → Type 0
 ShipStands acknowledged (Ok move) (Ok o) = (acknowledged ≡ false) × MoveStands move o
 ShipStands acknowledged (Err r) (Ok o) = (acknowledged ≡ true) × (r ≡ UpToDate)
 ShipStands acknowledged (Err r) (Err q) = r ≡ q
@@ -52,7 +52,7 @@ ShipStands acknowledged (Ok move) (Err q) = ⊥
 
 abbrev pub ShipsStand : Type 0
 ShipsStand =
-    (codec : Codec State) (g : Weigher) (s : Station State) (m : Node Ops) (to : Bytes) (now : ℕ) (saves : Bool) → NodeStands table_view s.node m → passes_greatest m ≡ false
+    (codec : MailCodec State) (g : Weigher) (s : Station State) (m : Node Ops) (to : Bytes) (now : ℕ) (saves : Bool) → NodeStands table_view s.node m → passes_greatest m ≡ false
     → ShipStands ((s.node.count - s.acked to) == 0) (station_step by_tables codec g s (Of (Ship to)) now saves) (kept_by saves (act_step by_operations g m (Of (Ship to)) now))
 
 -- mail beside a message: its content stands for the message's operations. An acknowledged number is no greater than the count
@@ -70,4 +70,4 @@ sender_of (an_ack from to n) = from
 abbrev pub MailStands : Type 0
 MailStands =
     (g : Weigher) (s : Station State) (m : Node Ops) (mail : Mail State) (b : Message Ops) (saves : Bool) → NodeStands table_view s.node m → MailStandsFor s mail b → NoClash (m.known ++ b.content) → passes_greatest m ≡ false
-    → Together MoveStands (mail_step by_tables g s mail saves) (kept_by saves (deliver by_operations g m (sender_of mail) b true))
+    → DoneTogether MoveStands (mail_step by_tables g s mail saves) (kept_by saves (deliver by_operations g m (sender_of mail) b true))

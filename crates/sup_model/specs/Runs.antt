@@ -3,7 +3,7 @@ use Rattle.std.specs.Prelude.{◌≡◌, ◌⊎◌, Bool, true, false, not, List
 use Rattle.std.specs.Option.{option_map, unwrap_or}
 use Rattle.sup_specs.specs.Values.{Bytes}
 use Rattle.sup_causal.specs.declared.dot.Dot.{Dot}
-use Rattle.sup_tables.specs.Operations.{Covers}
+use Rattle.sup_tables.specs.Operations.{OperationsCover}
 use Rattle.sup_replica.specs.declared.event.Event.TheVariants.{Ship}
 use Rattle.sup_replica.specs.declared.event.Act.TheVariants.{Event as Of, Stop, Restart}
 use Rattle.sup_replica.specs.Refusals.{is_found_first}
@@ -13,35 +13,35 @@ use Rattle.sup_replica.specs.declared.refusal.Refusal.{Refusal}
 use Rattle.sup_replica.specs.declared.refusal.Refusal.TheVariants.{OutOfMemory, UpToDate}
 use Rattle.sup_model.specs.declared.step.Step.{Step}
 use Rattle.sup_model.specs.declared.step.Step.TheVariants.{Node as AtNode, Deliver as Delivery, Raw}
-use Rattle.sup_model.specs.Worlds.{Ops, World, Site, Answer, Stepped, step, site_of}
+use Rattle.sup_model.specs.Worlds.{Ops, ModelWorld, ModelSite, ModelAnswer, WorldStepped, step, site_of}
 
 -- the world after a step; a refused step changes nothing
-abbrev pub world_after : World → Result Stepped Refusal → World
+abbrev pub world_after : ModelWorld → Result WorldStepped Refusal → ModelWorld
 world_after w (Ok s) = s.world
 world_after w (Err refusal) = w
 
-abbrev pub answer_of : Result Stepped Refusal → Result Answer Refusal
+abbrev pub answer_of : Result WorldStepped Refusal → Result ModelAnswer Refusal
 answer_of (Ok s) = Ok s.answer
 answer_of (Err refusal) = Err refusal
 
 -- a whole list of steps
-abbrev pub run : World → List Step → World
+abbrev pub run : ModelWorld → List Step → ModelWorld
 run w [] = w
 run w (s ∷ steps) = run (world_after w (step w s)) steps
 
-abbrev pub answers : World → List Step → List (Result Answer Refusal)
+abbrev pub answers : ModelWorld → List Step → List (Result ModelAnswer Refusal)
 answers w [] = []
 answers w (s ∷ steps) = answer_of (step w s) ∷ answers (world_after w (step w s)) steps
 
 -- a ship to a node that knows all that the sender knows
-pub record IsCoveredShip (w : World) (at to : Bytes) : Type 0 where
-  pub sender : Site
-  pub target : Site
+pub record IsCoveredShip (w : ModelWorld) (at to : Bytes) : Type 0 where
+  pub sender : ModelSite
+  pub target : ModelSite
   pub is_sender : site_of w at ≡ Some sender
   pub is_target : site_of w to ≡ Some target
-  pub covered : Covers target.node.known sender.node.known
+  pub covered : OperationsCover target.node.known sender.node.known
 
-abbrev pub MayBeUpToDate : World → Step → Type 0
+abbrev pub MayBeUpToDate : ModelWorld → Step → Type 0
 MayBeUpToDate w (AtNode at (Of (Ship to)) now saves) = IsCoveredShip w at to
 MayBeUpToDate w _ = ⊥
 
@@ -61,31 +61,31 @@ may_want (Raw at bytes) late = true
 
 -- from w, a step may be answered so and leave w': as the model says; or out of memory, where that may be; or, in place of an answer that is no
 -- refusal, up to date. A refused step leaves w
-abbrev pub Allows : World → Step → Result Answer Refusal → World → Type 0
-Allows w s answer w' =
+abbrev pub ModelAllows : ModelWorld → Step → Result ModelAnswer Refusal → ModelWorld → Type 0
+ModelAllows w s answer w' =
     ((answer ≡ answer_of (step w s)) × (w' ≡ world_after w (step w s)))
     ⊎ ((answer ≡ Err OutOfMemory) × (may_want s (is_late (step w s)) ≡ true) × (w' ≡ w))
     ⊎ ((answer ≡ Err UpToDate) × IsOk (step w s) × MayBeUpToDate w s × (w' ≡ w))
 
 -- these answers to these steps, one after another
-abbrev pub Run : World → List Step → List (Result Answer Refusal) → World → Type 0
-Run w [] [] w' = w' ≡ w
-Run w (s ∷ steps) (answer ∷ rest) w' = (mid : World) × Allows w s answer mid × Run mid steps rest w'
-Run w [] (answer ∷ rest) w' = ⊥
-Run w (s ∷ steps) [] w' = ⊥
+abbrev pub ModelRun : ModelWorld → List Step → List (Result ModelAnswer Refusal) → ModelWorld → Type 0
+ModelRun w [] [] w' = w' ≡ w
+ModelRun w (s ∷ steps) (answer ∷ rest) w' = (mid : ModelWorld) × ModelAllows w s answer mid × ModelRun mid steps rest w'
+ModelRun w [] (answer ∷ rest) w' = ⊥
+ModelRun w (s ∷ steps) [] w' = ⊥
 
 -- what a node knows, nothing where it isn't there
-abbrev pub ops_at : World → Bytes → Ops
+abbrev pub ops_at : ModelWorld → Bytes → Ops
 ops_at w name = unwrap_or (option_map (λ s. s.node.known) (site_of w name)) []
 
 -- the operations of its own that a node adds by an act
-abbrev pub issued : World → Step → World → Ops
+abbrev pub issued : ModelWorld → Step → ModelWorld → Ops
 issued w (AtNode at act now saves) w' = drop (length (ops_at w at)) (ops_at w' at)
 issued w (Delivery from k at drop now saves) w' = []
 issued w (Raw at bytes) w' = []
 
 -- those of a run
-abbrev pub all_issued : (w : World) (steps : List Step) (answers : List (Result Answer Refusal)) (w' : World) → Run w steps answers w' → Ops
+abbrev pub all_issued : (w : ModelWorld) (steps : List Step) (answers : List (Result ModelAnswer Refusal)) (w' : ModelWorld) → ModelRun w steps answers w' → Ops
 all_issued w [] [] w' run = []
 all_issued w (s ∷ steps) (answer ∷ rest) w' run = issued w s run.0 ++ all_issued run.0 steps rest w' run.2
 all_issued w [] (answer ∷ rest) w' run = []
@@ -97,7 +97,7 @@ dot_of (Added dot) = dot ∷ []
 dot_of (Replaced dot removes) = dot ∷ []
 dot_of _ = []
 
-abbrev pub new_dots : List (Result Answer Refusal) → List Dot
+abbrev pub new_dots : List (Result ModelAnswer Refusal) → List Dot
 new_dots [] = []
 new_dots (Ok a ∷ rest) = dot_of a.done.reply ++ new_dots rest
 new_dots (Err refusal ∷ rest) = new_dots rest

@@ -2,16 +2,16 @@
 use Rattle.sup_local_sup.specs.Supervising.{Supervisor}
 use Rattle.std.specs.Prelude.{◌≡◌, Option, Some, None, Result, Ok, Err}
 use Rattle.sup_replica.specs.declared.refusal.Refusal.{Refusal}
-use Rattle.sup_replica.specs.Nodes.{Node, Message, Outcome}
+use Rattle.sup_replica.specs.Nodes.{Node, Message, ActOutcome}
 use Rattle.sup_model.specs.Worlds.{Ops}
-use Rattle.sup_model.specs.Laws.{View}
+use Rattle.sup_model.specs.Laws.{StateView}
 
 -- both refused alike, or both done and R
-abbrev pub Together : {A B : Type 0} → (A → B → Type 0) → Result A Refusal → Result B Refusal → Type 0
-Together R (Ok a) (Ok b) = R a b
-Together R (Err r) (Err q) = r ≡ q
-Together R (Ok a) (Err q) = ⊥
-Together R (Err r) (Ok b) = ⊥
+abbrev pub DoneTogether : {A B : Type 0} → (A → B → Type 0) → Result A Refusal → Result B Refusal → Type 0
+DoneTogether R (Ok a) (Ok b) = R a b
+DoneTogether R (Err r) (Err q) = r ≡ q
+DoneTogether R (Ok a) (Err q) = ⊥
+DoneTogether R (Err r) (Ok b) = ⊥
 
 -- both there and R, or neither
 abbrev pub BothOrNone : {A B : Type 0} → (A → B → Type 0) → Option A → Option B → Type 0
@@ -20,7 +20,7 @@ BothOrNone R (Some a) (Some b) = R a b
 BothOrNone R None (Some b) = ⊥
 BothOrNone R (Some a) None = ⊥
 
-module _ {K : Type 0} (view : View K) where
+module _ {K : Type 0} (view : StateView K) where
   -- a supervisor: its window is seen as the view says, and the rest is equal
   pub record SupervisorStands (u v : Supervisor) : Type 0 where
     pub boot : u.boot ≡ v.boot
@@ -42,7 +42,7 @@ module _ {K : Type 0} (view : View K) where
     pub kind : a.kind ≡ b.kind
     pub content : view.stands a.content b.content
 
-  pub record OutcomeStands (o : Outcome K) (p : Outcome Ops) : Type 0 where
+  pub record OutcomeStands (o : ActOutcome K) (p : ActOutcome Ops) : Type 0 where
     pub reply : o.done.reply ≡ p.done.reply
     pub effects : o.done.effects ≡ p.done.effects
     pub letter : BothOrNone MessageStands o.letter p.letter

@@ -14,7 +14,7 @@ use Rattle.sup_replica.specs.declared.refusal.Refusal.{Refusal}
 use Rattle.sup_replica.specs.Nodes.{is_named}
 use Rattle.sup_model.specs.declared.step.Step.{Step}
 use Rattle.sup_model.specs.declared.step.Step.TheVariants.{Node as AtNode, Deliver as Delivery, Raw}
-use Rattle.sup_model.specs.Worlds.{Answer}
+use Rattle.sup_model.specs.Worlds.{ModelAnswer}
 
 abbrev pub without : Bytes → List Bytes → List Bytes
 without id ids = filter (λ i. not (bytes_eq id i)) ids
@@ -47,11 +47,11 @@ left_at (AtNode at act now saves) reply ids = left_by act reply ids
 left_at (Delivery from k at drop now saves) reply ids = ids
 left_at (Raw at bytes) reply ids = ids
 
-abbrev pub started_with : Step → Answer → List Bytes → List Bytes
+abbrev pub started_with : Step → ModelAnswer → List Bytes → List Bytes
 started_with step answer ids = started_by (left_at step answer.done.reply ids) answer.done.effects
 
 -- what the answers of one node leave started, where these were
-abbrev pub started_at : Bytes → List Bytes → List Step → List (Result Answer Refusal) → List Bytes
+abbrev pub started_at : Bytes → List Bytes → List Step → List (Result ModelAnswer Refusal) → List Bytes
 started_at name ids [] answers = ids
 started_at name ids (step ∷ steps) [] = ids
 started_at name ids (step ∷ steps) (Ok answer ∷ answers) = started_at name (if is_named name answer.at then started_with step answer ids else ids) steps answers

@@ -9,13 +9,13 @@ use Rattle.sup_replica.specs.declared.refusal.Refusal.{Refusal}
 use Rattle.sup_replica.specs.declared.refusal.Refusal.TheVariants.{Down, UnknownNode, NoSuchMessage, BadMessage}
 use Rattle.sup_replica.specs.Checks.{refused_if, then_do}
 use Rattle.sup_placement.specs.Place.{Weigher}
-use Rattle.sup_replica.specs.Nodes.{Node, Message, Told, Outcome, by_operations, is_named, fresh}
+use Rattle.sup_replica.specs.Nodes.{Node, Message, ToldOutcome, ActOutcome, by_operations, is_named, fresh}
 use Rattle.sup_replica.specs.Acts.{act_step, deliver, kept_by}
 use Rattle.sup_model.specs.declared.step.Step.{Step}
 use Rattle.sup_model.specs.declared.step.Step.TheVariants.{Node as AtNode, Deliver as Delivery, Raw}
 
 -- what is set when a world is made
-pub record Setting : Type 0 where
+pub record WorldSetting : Type 0 where
   pub weigher : Weigher
   pub intensity : ℕ
   pub period : ℕ
@@ -25,33 +25,33 @@ abbrev pub Ops : Type 0
 Ops = List Operation
 
 -- a node with all that it ever sent, oldest first
-pub record Site : Type 0 where
+pub record ModelSite : Type 0 where
   pub node : Node Ops
   pub sent : List (Message Ops)
 
-pub record World : Type 0 where
+pub record ModelWorld : Type 0 where
   pub weigher : Weigher
   pub is_message : Bytes → Bool  -- which texts are messages at all
-  pub sites : List Site
+  pub sites : List ModelSite
 
 -- an answer says where it was given, and which number its letter has at that node
-pub record Answer : Type 0 where
+pub record ModelAnswer : Type 0 where
   pub at : Bytes
-  pub done : Told
+  pub done : ToldOutcome
   pub number : Option ℕ
 
-pub record Stepped : Type 0 where
-  pub answer : Answer
-  pub world : World
+pub record WorldStepped : Type 0 where
+  pub answer : ModelAnswer
+  pub world : ModelWorld
 
-abbrev pub site_of : World → Bytes → Option Site
+abbrev pub site_of : ModelWorld → Bytes → Option ModelSite
 site_of w name = find (λ s. is_named name s.node.name) w.sites
 
-abbrev pub with_site : World → Site → World
+abbrev pub with_site : ModelWorld → ModelSite → ModelWorld
 with_site w site = record w { sites = map (λ s. if is_named site.node.name s.node.name then site else s) w.sites }
 
 -- the k-th message that a node sent, from 1
-abbrev pub message_of : Site → ℕ → Option (Message Ops)
+abbrev pub message_of : ModelSite → ℕ → Option (Message Ops)
 message_of site k = if k == 0 then None else slice_get site.sent (k - 1)
 
 abbrev pub or_refused : {A B : Type 0} → Option A → Refusal → (A → Result B Refusal) → Result B Refusal
@@ -67,20 +67,20 @@ number_of sent None = None
 number_of sent (Some m) = Some (length sent + 1)
 
 -- the world after one node's act: that node is changed, and its letter is sent
-abbrev pub acted : World → Site → Outcome Ops → Stepped
+abbrev pub acted : ModelWorld → ModelSite → ActOutcome Ops → WorldStepped
 acted w site o = record {
   answer = record { at = site.node.name; done = o.done; number = number_of site.sent o.letter };
   world = with_site w (record { node = o.node; sent = posted site.sent o.letter });
 }
 
 -- the target of a ship or a push is a node of this world
-abbrev pub target_is_here : World → Act → Bool
+abbrev pub target_is_here : ModelWorld → Act → Bool
 target_is_here w (Of (Ship to)) = is_some (site_of w to)
 target_is_here w (Of (Push to)) = is_some (site_of w to)
 target_is_here w _ = true
 
 -- one step of the world. Bytes that come from nowhere are told as `Raw`, so an act that brings bytes brings no message of this world
-abbrev pub step : World → Step → Result Stepped Refusal
+abbrev pub step : ModelWorld → Step → Result WorldStepped Refusal
 step w (AtNode at act now saves) =
     or_refused (site_of w at) UnknownNode (λ site.
     refused_if (not (target_is_here w act)) UnknownNode
@@ -95,7 +95,7 @@ step w (Raw at bytes) =
     refused_if (not site.node.up) Down (refused_if (not (w.is_message bytes)) BadMessage (Err NoSuchMessage)))
 
 -- a new world
-abbrev pub new : Setting → (Bytes → Bool) → List Bytes → World
+abbrev pub new : WorldSetting → (Bytes → Bool) → List Bytes → ModelWorld
 new setting is_message names = record {
   weigher = setting.weigher;
   is_message = is_message;

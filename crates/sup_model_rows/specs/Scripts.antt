@@ -13,11 +13,11 @@ use Rattle.sup_replica.specs.declared.letter.LetterKind.{LetterKind}
 use Rattle.sup_replica.specs.declared.refusal.Refusal.{Refusal}
 use Rattle.sup_replica.specs.declared.refusal.Refusal.TheVariants.{UnknownNode}
 use Rattle.sup_replica.specs.Nodes.{Knowledge, by_operations}
-use Rattle.sup_replica.specs.Stations.{Mail, a_delta, a_push, an_ack, Codec, receiver_of, kind_of}
+use Rattle.sup_replica.specs.Stations.{Mail, a_delta, a_push, an_ack, MailCodec, receiver_of, kind_of}
 use Rattle.sup_replica.specs.ByTables.{by_tables}
 use Rattle.sup_model.specs.declared.step.Step.{Step}
-use Rattle.sup_model.specs.Worlds.{Setting}
-use Rattle.sup_model.specs.Posts.{Post, Real, RealStepped, post_of, mail_of, real_step, real_after, real_run, real_new}
+use Rattle.sup_model.specs.Worlds.{WorldSetting}
+use Rattle.sup_model.specs.Posts.{StationPost, RealWorld, RealStepped, post_of, mail_of, real_step, real_after, real_run, real_new}
 use Rattle.sup_model_rows.specs.Settled.{settles, up_names}
 use Rattle.sup_node_text.specs.Shown.{Shown, show_text, where_text, down_text}
 
@@ -61,29 +61,29 @@ told_answer (Ok s) = ok s.answer.at s.answer.reply s.answer.effects (numbered_le
 told_answer (Err refusal) = refused refusal
 
 module _ {K : Type 0} (k : Knowledge K) (dots : K → List Dot) where
-  abbrev pub told_station : Weigher → (Weigher → Post K → Telling) → Option (Post K) → Telling
+  abbrev pub told_station : Weigher → (Weigher → StationPost K → Telling) → Option (StationPost K) → Telling
   told_station weight tell None = refused UnknownNode
   told_station weight tell (Some post) = tell weight post
 
   -- what of a node is shown, nothing of a stopped one
-  abbrev pub shown_in : Post K → Option Shown
+  abbrev pub shown_in : StationPost K → Option Shown
   shown_in post =
       let node = post.station.node in
       if node.up then Some (record { boot = node.supervisor.boot; rows = k.rows node.known; kept = node.supervisor.kept }) else None
 
-  abbrev pub shows : Weigher → Post K → Telling
+  abbrev pub shows : Weigher → StationPost K → Telling
   shows weight post = prints (show_text weight post.station.node.name (shown_in post))
 
-  abbrev pub inspects : Weigher → Post K → Telling
+  abbrev pub inspects : Weigher → StationPost K → Telling
   inspects weight post =
       let node = post.station.node in
       if node.up then knows node.count (length post.station.held) (dots node.known) else prints (down_text node.name)
 
-  abbrev pub finds : Bytes → Weigher → Post K → Telling
+  abbrev pub finds : Bytes → Weigher → StationPost K → Telling
   finds name weight post = prints (where_text weight post.station.node.name (shown_in post) name)
 
   -- a whole script
-  abbrev pub plays : Real K → List Asked → List Telling
+  abbrev pub plays : RealWorld K → List Asked → List Telling
   plays w [] = []
   plays w (steps s ∷ rest) = told_answer (real_step k w s) ∷ plays (real_after k w (real_step k w s)) rest
   plays w (settle ∷ rest) = let s = settles k w (up_names w) in settled s.messages s.effects ∷ plays s.world rest
@@ -93,12 +93,12 @@ module _ {K : Type 0} (k : Knowledge K) (dots : K → List Dot) where
 
 -- how a world is made: besides its setting the room of the buffers, and which words are messages
 pub record Options : Type 0 where
-  pub setting : Setting
+  pub setting : WorldSetting
   pub room : ℕ
   pub messages : List Bytes
 
 -- the texts of a world in which just these words are messages, whatever they say
-abbrev pub codec_of : {K : Type 0} → List Bytes → Codec K
+abbrev pub codec_of : {K : Type 0} → List Bytes → MailCodec K
 codec_of messages = record { write = λ mail. []; read = λ bytes. if among text_cmp messages bytes then Some (an_ack [] [] 1) else None }
 
 abbrev pub told_by : {K : Type 0} → Knowledge K → (K → List Dot) → Options → List Bytes → List Asked → List Telling
@@ -116,7 +116,7 @@ steps_in [] = []
 steps_in (steps s ∷ rest) = s ∷ steps_in rest
 steps_in (asked ∷ rest) = steps_in rest
 
-abbrev pub mail_in : Option (Post State) → ℕ → Option (Mail State)
+abbrev pub mail_in : Option (StationPost State) → ℕ → Option (Mail State)
 mail_in None k = None
 mail_in (Some post) k = mail_of post k
 

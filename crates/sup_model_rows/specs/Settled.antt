@@ -9,17 +9,17 @@ use Rattle.sup_replica.specs.declared.refusal.Refusal.{Refusal}
 use Rattle.sup_replica.specs.declared.refusal.Refusal.TheVariants.{NoSuchMessage}
 use Rattle.sup_replica.specs.Nodes.{Knowledge}
 use Rattle.sup_model.specs.declared.step.Step.TheVariants.{Node as AtNode, Deliver as Delivery}
-use Rattle.sup_model.specs.Posts.{Real, RealStepped, real_step}
+use Rattle.sup_model.specs.Posts.{RealWorld, RealStepped, real_step}
 
 -- what settling has come to so far
 pub record Settling (K : Type 0) : Type 0 where
-  pub world : Real K
+  pub world : RealWorld K
   pub messages : ℕ
   pub effects : List (Bytes × Effect)
 
 module _ {K : Type 0} (k : Knowledge K) where
   -- the delivery of the letter that a step sent, at once
-  abbrev pub brings : Real K → Bytes → Option ℕ → Result (RealStepped K) Refusal
+  abbrev pub brings : RealWorld K → Bytes → Option ℕ → Result (RealStepped K) Refusal
   brings w from None = Err NoSuchMessage
   brings w from (Some n) = real_step k w (Delivery from n None 0 0 true)
 
@@ -53,10 +53,10 @@ module _ {K : Type 0} (k : Knowledge K) where
   spreads s first (node ∷ nodes) = spreads (exchanges s first node) first nodes
 
   -- all to the first, and then the first to all
-  abbrev pub settles : Real K → List Bytes → Settling K
+  abbrev pub settles : RealWorld K → List Bytes → Settling K
   settles w [] = record { world = w; messages = 0; effects = [] }
   settles w (first ∷ nodes) = spreads (gathers (record { world = w; messages = 0; effects = [] }) first nodes) first nodes
 
 -- the nodes that are up, by name
-abbrev pub up_names : {K : Type 0} → Real K → List Bytes
+abbrev pub up_names : {K : Type 0} → RealWorld K → List Bytes
 up_names w = rising text_cmp (map (λ p. p.station.node.name) (filter (λ p. p.station.node.up) w.posts))

@@ -16,7 +16,7 @@ use Rattle.sup_local_sup.specs.declared.effect.Effect.{Effect}
 use Rattle.sup_local_sup.specs.declared.change.Change.{Change}
 use Rattle.sup_local_sup.specs.declared.leaving.Leaving.{Leaving}
 use Rattle.sup_local_sup.specs.declared.leaving.Leaving.TheVariants.{Nobody, Finished, GaveUp}
-use Rattle.sup_local_sup.specs.Keeping.{Kept, newly}
+use Rattle.sup_local_sup.specs.Keeping.{KeptChild, newly}
 use Rattle.sup_local_sup.specs.Changing.{Planned, IsReplaced, news, left_of, leaving_of, carried}
 use Rattle.sup_local_sup.specs.Planning.{kept_of_leaving, leaving_after, leaving_effects}
 use Rattle.sup_local_sup.proofs.ReplacedLaws.{newly_replaced}
@@ -28,7 +28,7 @@ use Rattle.sup_node.specs.Placed.{keeps_placed, change_of, ListsLeaving, ended_o
 use Rattle.sup_node.proofs.TouchLaws.{is_replaced, reached, leaving_back, eligible_stable}
 
 -- who leaves is kept no longer
-left_then : (kept : List Kept) (ids : List Bytes) (leaving : Leaving) → ListsLeaving ids leaving → kept_of_leaving kept leaving ≡ left_of kept (ended_of leaving)
+left_then : (kept : List KeptChild) (ids : List Bytes) (leaving : Leaving) → ListsLeaving ids leaving → kept_of_leaving kept leaving ≡ left_of kept (ended_of leaving)
 left_then kept ids Nobody h = refl
 left_then kept ids (Finished id) h = refl
 left_then kept ids (GaveUp id) h = absurd h
@@ -75,6 +75,6 @@ module _ (g : Weigher) (n : Node State) (leaving : Leaving) (delta : State) (ids
       let lefts : left_of n.supervisor.kept ended ≡ kept_of_leaving n.supervisor.kept leaving = ap (left_of n.supervisor.kept) ee ∙ sym (left_then n.supervisor.kept ids leaving reaches) in
       inr (
         refl,
-        subst (λ (ks : List Kept). MAX < n.supervisor.given + length (newly ks (wanted_with g n delta))) lefts
+        subst (λ (ks : List KeptChild). MAX < n.supervisor.given + length (newly ks (wanted_with g n delta))) lefts
             (subst (λ (ws : List _). MAX < n.supervisor.given + length ws) (sym (newly_replaced (left_of n.supervisor.kept ended) changes (wanted_with g n delta) is)) h),
       )

@@ -13,7 +13,7 @@ use Rattle.sup_placement.specs.Place.{Weigher}
 use Rattle.sup_wire.specs.declared.image.Image.{Image}
 use Rattle.sup_wire.specs.declared.message.Message.{Message as WireMessage}
 use Rattle.sup_wire.specs.Drafts.{IsDraftOf, IsWholeMessage}
-use Rattle.sup_wire.specs.Faults.{Says}
+use Rattle.sup_wire.specs.Faults.{TextSays}
 use Rattle.sup_local_sup.specs.declared.effect.Effect.{Effect}
 use Rattle.sup_replica.specs.Configs.{Config}
 use Rattle.sup_anti_entropy.specs.Buffers.{Buffer, Shipment, shipment_of, holds_more, shipped as shipment}
@@ -25,11 +25,11 @@ use Rattle.sup_replica.specs.declared.letter.Letter.{Letter}
 use Rattle.sup_replica.specs.declared.refusal.Refusal.{Refusal}
 use Rattle.sup_replica.specs.declared.refusal.Refusal.TheVariants.{OutOfMemory, KeepFailed, CountSpent, Down, UnknownNode, BadMessage, WrongReceiver}
 use Rattle.sup_replica.specs.Checks.{refused_if, then_do}
-use Rattle.sup_replica.specs.Nodes.{Node, Outcome, Message, push, is_named}
+use Rattle.sup_replica.specs.Nodes.{Node, ActOutcome, Message, push, is_named}
 use Rattle.sup_replica.specs.Acts.{act_step, kept_by, absorbs, deliver, takes}
 use Rattle.sup_replica.specs.ByTables.{by_tables}
 use Rattle.sup_replica.specs.Steps.{only, push_step, up_step, passes_greatest}
-use Rattle.sup_replica.specs.Stations.{Station, Mail, a_delta, a_push, an_ack, Move, own_step, moved, notes, volatile, pushed, mail_of_shipment, shipped, ship_step, acknowledged, taken_with, mail_step}
+use Rattle.sup_replica.specs.Stations.{Station, Mail, a_delta, a_push, an_ack, StationMove, own_step, moved, notes, volatile, pushed, mail_of_shipment, shipped, ship_step, acknowledged, taken_with, mail_step}
 use Rattle.sup_node.specs.declared.change.Change.{Change}
 use Rattle.sup_node.specs.declared.change.Change.TheVariants.{Nothing, Begins, Learns, Acknowledges}
 use Rattle.sup_node.specs.declared.change.Ready.{Ready}
@@ -83,48 +83,48 @@ module _ {A : Type 0} where
   check-kept false r a x e = one_ok a x e
 
 -- with a check that is passed, and a save that holds or not
-saved-true : (c : Bool) (o : Outcome State) → refused_if (c && false) KeepFailed (Ok o) ≡ Ok o
+saved-true : (c : Bool) (o : ActOutcome State) → refused_if (c && false) KeepFailed (Ok o) ≡ Ok o
 saved-true true o = refl
 saved-true false o = refl
 
-saved-false : (c : Bool) (o : Outcome State) → refused_if (c && true) KeepFailed (Ok o) ≡ (if c then Err KeepFailed else Ok o)
+saved-false : (c : Bool) (o : ActOutcome State) → refused_if (c && true) KeepFailed (Ok o) ≡ (if c then Err KeepFailed else Ok o)
 saved-false true o = refl
 saved-false false o = refl
 
-module _ (o : Outcome State) where
+module _ (o : ActOutcome State) where
   -- of a step that is told so
-  within : (step : Result (Outcome State) Refusal) → checked step ≡ Ok o → passes_greatest o.node ≡ false
+  within : (step : Result (ActOutcome State) Refusal) → checked step ≡ Ok o → passes_greatest o.node ≡ false
   within (Err r) e = absurd cc
-  within (Ok x) e = subst (λ (y : Outcome State). passes_greatest y.node ≡ false) (check-kept (passes_greatest x.node) CountSpent x o e) (check-passed (passes_greatest x.node) CountSpent x o e)
+  within (Ok x) e = subst (λ (y : ActOutcome State). passes_greatest y.node ≡ false) (check-kept (passes_greatest x.node) CountSpent x o e) (check-passed (passes_greatest x.node) CountSpent x o e)
 
-  kept-ok : (saved : Bool) (step : Result (Outcome State) Refusal) → checked step ≡ Ok o → kept_by saved step ≡ refused_if (o.saves && not saved) KeepFailed (Ok o)
+  kept-ok : (saved : Bool) (step : Result (ActOutcome State) Refusal) → checked step ≡ Ok o → kept_by saved step ≡ refused_if (o.saves && not saved) KeepFailed (Ok o)
   kept-ok saved (Err r) e = absurd cc
   kept-ok saved (Ok x) e =
       ap (λ b. refused_if b CountSpent (refused_if (x.saves && not saved) KeepFailed (Ok x))) (check-passed (passes_greatest x.node) CountSpent x o e)
-      ∙ ap (λ (y : Outcome State). refused_if (y.saves && not saved) KeepFailed (Ok y)) (check-kept (passes_greatest x.node) CountSpent x o e)
+      ∙ ap (λ (y : ActOutcome State). refused_if (y.saves && not saved) KeepFailed (Ok y)) (check-kept (passes_greatest x.node) CountSpent x o e)
 
-  pub kept-true : (step : Result (Outcome State) Refusal) → checked step ≡ Ok o → kept_by true step ≡ Ok o
+  pub kept-true : (step : Result (ActOutcome State) Refusal) → checked step ≡ Ok o → kept_by true step ≡ Ok o
   kept-true step e = kept-ok true step e ∙ saved-true o.saves o
 
-  pub kept-false : (step : Result (Outcome State) Refusal) → checked step ≡ Ok o → kept_by false step ≡ (if o.saves then Err KeepFailed else Ok o)
+  pub kept-false : (step : Result (ActOutcome State) Refusal) → checked step ≡ Ok o → kept_by false step ≡ (if o.saves then Err KeepFailed else Ok o)
   kept-false step e = kept-ok false step e ∙ saved-false o.saves o
 
 -- a step that is refused
-err-after : (b c : Bool) (o : Outcome State) (r : Refusal) → refused_if b CountSpent (Ok o) ≡ Err r → refused_if b CountSpent (refused_if (c && false) KeepFailed (Ok o)) ≡ Err r
+err-after : (b c : Bool) (o : ActOutcome State) (r : Refusal) → refused_if b CountSpent (Ok o) ≡ Err r → refused_if b CountSpent (refused_if (c && false) KeepFailed (Ok o)) ≡ Err r
 err-after true c o r e = e
 err-after false c o r e = absurd cc
 
-pub kept-err : (step : Result (Outcome State) Refusal) (r : Refusal) → checked step ≡ Err r → kept_by true step ≡ Err r
+pub kept-err : (step : Result (ActOutcome State) Refusal) (r : Refusal) → checked step ≡ Err r → kept_by true step ≡ Err r
 kept-err (Err q) r e = e
 kept-err (Ok o) r e = err-after (passes_greatest o.node) o.saves o r e
 
 -- a step that is told, or refused for a number
-err-counts : (b c : Bool) (o : Outcome State) (r : Refusal) → refused_if b CountSpent (refused_if (c && false) KeepFailed (Ok o)) ≡ Err r → r ≡ CountSpent
+err-counts : (b c : Bool) (o : ActOutcome State) (r : Refusal) → refused_if b CountSpent (refused_if (c && false) KeepFailed (Ok o)) ≡ Err r → r ≡ CountSpent
 err-counts true c o r e = cc
 err-counts false true o r e = absurd cc
 err-counts false false o r e = absurd cc
 
-pub lacks : (step : Result (Outcome State) Refusal) → IsOk step → (r : Refusal) → kept_by true step ≡ Err r → r ≡ CountSpent
+pub lacks : (step : Result (ActOutcome State) Refusal) → IsOk step → (r : Refusal) → kept_by true step ≡ Err r → r ≡ CountSpent
 lacks (Err q) ok r e = absurd cc
 lacks (Ok o) ok r e = err-counts (passes_greatest o.node) o.saves o r e
 
@@ -189,13 +189,13 @@ module _ (s : Station State) where
 -- ---- own events
 
 module _ (g : Weigher) (s : Station State) (event : Event) (now : ℕ) (up : s.node.up ≡ true) where
-  abbrev own : Bool → Result (Move State) Refusal
+  abbrev own : Bool → Result (StationMove State) Refusal
   own saved = own_step by_tables g s (Of event) now saved
 
-  abbrev step-of : Result (Outcome State) Refusal
+  abbrev step-of : Result (ActOutcome State) Refusal
   step-of = up_step by_tables g s.node event now
 
-  abbrev own-move : Outcome State → Move State
+  abbrev own-move : ActOutcome State → StationMove State
   own-move o = moved by_tables o (notes by_tables s o.node (unwrap_or o.node.newest no_state)) (pushed by_tables s.node.name o.letter)
 
   acts : act_step by_tables g s.node (Of event) now ≡ step-of
@@ -232,17 +232,17 @@ module _ (g : Weigher) (s : Station State) (event : Event) (now : ℕ) (up : s.n
 -- ---- tables that come
 
 module _ (g : Weigher) (s : Station State) (from : Bytes) (m : Message State) (mail : Option (Mail State)) (up : s.node.up ≡ true) (here : is_named m.to s.node.name ≡ true) where
-  abbrev takes-of : Result (Outcome State) Refusal
+  abbrev takes-of : Result (ActOutcome State) Refusal
   takes-of = Ok (absorbs by_tables g s.node m.content None (covers_state s.node.known m.content))
 
   -- but for the letter, which the station writes
-  abbrev other-letter : Outcome State → Option (Message State) → Outcome State
+  abbrev other-letter : ActOutcome State → Option (Message State) → ActOutcome State
   other-letter o l = record o { letter = l }
 
-  abbrev taken-move : Outcome State → Move State
+  abbrev taken-move : ActOutcome State → StationMove State
   taken-move o = moved by_tables o (notes by_tables s o.node m.content) mail
 
-  letterless : (b c : Bool) (o : Outcome State) (l : Option (Message State))
+  letterless : (b c : Bool) (o : ActOutcome State) (l : Option (Message State))
       → go-on taken-move (refused_if b CountSpent (refused_if c KeepFailed (Ok (other-letter o l)))) ≡ go-on taken-move (refused_if b CountSpent (refused_if c KeepFailed (Ok o)))
   letterless true c o l = refl
   letterless false true o l = refl
@@ -252,7 +252,7 @@ module _ (g : Weigher) (s : Station State) (from : Bytes) (m : Message State) (m
   absorbs-letter l true = refl
   absorbs-letter l false = refl
 
-  abbrev taken : Bool → Result (Move State) Refusal
+  abbrev taken : Bool → Result (StationMove State) Refusal
   taken saved = taken_with by_tables g s from m saved mail
 
   module _ (l : Option (Message State)) (kind : takes by_tables g s.node from m.kind m.content ≡ absorbs by_tables g s.node m.content l (covers_state s.node.known m.content)) where
@@ -281,10 +281,10 @@ module _ (g : Weigher) (s : Station State) (from : Bytes) (m : Message State) (m
 -- ---- acknowledgements
 
 module _ (g : Weigher) (s : Station State) (from to : Bytes) (n : ℕ) (up : s.node.up ≡ true) where
-  abbrev acked-move : Move State
+  abbrev acked-move : StationMove State
   acked-move = record { done = record { reply = Acked; effects = [] }; letter = None; station = acknowledged by_tables s from n }
 
-  abbrev ack-step : Bool → Bool → Bool → Result (Move State) Refusal
+  abbrev ack-step : Bool → Bool → Bool → Result (StationMove State) Refusal
   ack-step a b c = refused_if (not a) Down (refused_if (not b) WrongReceiver (refused_if c BadMessage (Ok acked-move)))
 
   ack-taken : is_named to s.node.name ≡ true → nat_lt s.node.count n ≡ false → (saved : Bool) → mail_step by_tables g s (an_ack from to n) saved ≡ Ok acked-move
@@ -303,7 +303,7 @@ shipped-as b n to me x e m h =
     (λ i. mail_of_shipment (sym m i) to (shipment_of join_states no_state b.held (e i) n.known (e i - b.acked to))) ∙ ap (mail_of_shipment me to) (sym h)
 
 module _ (g : Weigher) (s : Station State) (to : Bytes) (now : ℕ) (up : s.node.up ≡ true) where
-  abbrev ships : Option (Mail State) → Bool → Bool → Result (Move State) Refusal
+  abbrev ships : Option (Mail State) → Bool → Bool → Result (StationMove State) Refusal
   ships mail a b = refused_if (not a) Down (refused_if b UnknownNode (ship_step by_tables s mail))
 
   ship-sent : (mail : Mail State) → is_named to s.node.name ≡ false → shipped by_tables s to ≡ Some mail → (saved : Bool)
@@ -325,10 +325,10 @@ module _ (g : Weigher) (s : Station State) (to : Bytes) (now : ℕ) (up : s.node
     };
   }
 
-  abbrev push-step : Option State → Bool → Result (Outcome State) Refusal
+  abbrev push-step : Option State → Bool → Result (ActOutcome State) Refusal
   push-step newest b = refused_if b UnknownNode (push_step s.node to newest)
 
-  abbrev pushes : State → Outcome State
+  abbrev pushes : State → ActOutcome State
   pushes own = only s.node Sent [] (Some (record { to = to; kind = push; content = own }))
 
   pub push-ready : (own : State) (letter : Letter) → is_named to s.node.name ≡ false → s.node.newest ≡ Some own → passes_greatest s.node ≡ false → IsLetter (a_push s.node.name to own) letter → keeps_placed g s.node ≡ true
@@ -349,13 +349,13 @@ module _ (g : Weigher) (s : Station State) (to : Bytes) (now : ℕ) (up : s.node
 -- ---- restarts
 
 module _ (g : Weigher) (c : Config) (image : Image) (r : Node State) (effects : List Effect) where
-  abbrev restart-move : Outcome State → Move State
+  abbrev restart-move : ActOutcome State → StationMove State
   restart-move o = moved by_tables o (volatile by_tables (stopped_by c image) o.node) None
 
   pub restart-is : (intensity period : ℕ) → intensity ≡ c.intensity → period ≡ c.period → (t : Station State)
       → checked (act_step by_tables g (stopped_node intensity period image) Restart 0) ≡ Ok (record { done = record { reply = Boot r.supervisor.boot; effects = effects }; letter = None; node = r; saves = true })
       → t ≡ record { node = r; held = []; room = c.buffer; acked = λ q. 0 } → IsRestart g c image effects t
-  restart-is i p ei ep t e f = let o : Outcome State = record { done = record { reply = Boot r.supervisor.boot; effects = effects }; letter = None; node = r; saves = true } in record {
+  restart-is i p ei ep t e f = let o : ActOutcome State = record { done = record { reply = Boot r.supervisor.boot; effects = effects }; letter = None; node = r; saves = true } in record {
     move = restart-move o;
     moves = (λ k. go-on restart-move (kept_by true (act_step by_tables g (stopped_node (sym ei k) (sym ep k) image) Restart 0))) ∙ ap (go-on restart-move) (kept-true o (act_step by_tables g (stopped_node i p image) Restart 0) e);
     unsaved = (λ k. go-on restart-move (kept_by false (act_step by_tables g (stopped_node (sym ei k) (sym ep k) image) Restart 0))) ∙ ap (go-on restart-move) (kept-false o (act_step by_tables g (stopped_node i p image) Restart 0) e);
@@ -372,7 +372,7 @@ module _ (g : Weigher) (c : Config) (image : Image) (r : Node State) (effects : 
 
 -- ---- what was planned and then lacked memory
 
-planned-lacks : (x : Result (Move State) Refusal) (move : Move State) → x ≡ Ok move → (r : Refusal) → x ≡ Err r → r ≡ CountSpent
+planned-lacks : (x : Result (StationMove State) Refusal) (move : StationMove State) → x ≡ Ok move → (r : Refusal) → x ≡ Err r → r ≡ CountSpent
 planned-lacks x move e r f = let both = sym e ∙ f in absurd cc
 
 module _ (g : Weigher) (s : Station State) (now : ℕ) (p : Planned) where
@@ -393,7 +393,7 @@ module _ (g : Weigher) (s : Station State) (now : ℕ) (p : Planned) where
 -- ---- bytes that come
 
 module _ (g : Weigher) (s : Station State) (now : ℕ) (up : s.node.up ≡ true) where
-  pub takes-plans : (bytes : Bytes) (m : WireMessage) → IsWholeMessage m → Says IsDraftOf bytes m → (result : Result Planned Refusal) → TakesMail g s (mail_of m) result → PlansEvent g s (Deliver bytes) now result
+  pub takes-plans : (bytes : Bytes) (m : WireMessage) → IsWholeMessage m → TextSays IsDraftOf bytes m → (result : Result Planned Refusal) → TakesMail g s (mail_of m) result → PlansEvent g s (Deliver bytes) now result
   takes-plans bytes m whole says (Ok p) x = let come : (saved : Bool) → stepped g s (Deliver bytes) now (Some (mail_of m)) saved ≡ mail_step by_tables g s (mail_of m) saved = λ saved. ap (λ b. refused_if (not b) Down (mail_step by_tables g s (mail_of m) saved)) up in record {
     mail = Some (mail_of m);
     reads = (m, whole, says, refl);

@@ -33,7 +33,7 @@ use Rattle.sup_replica.specs.declared.refusal.Refusal.TheVariants.{CountSpent}
 use Rattle.sup_replica.specs.declared.done.Reply.{Reply}
 use Rattle.sup_replica.specs.declared.done.Reply.TheVariants.{Added, Removed, Replaced, Restarted, Known}
 use Rattle.sup_replica.specs.Checks.{refused_if}
-use Rattle.sup_replica.specs.Nodes.{Node, Outcome, wanted_at}
+use Rattle.sup_replica.specs.Nodes.{Node, ActOutcome, wanted_at}
 use Rattle.sup_replica.specs.Steps.{passes_greatest, only, issues, command, exit_step, wanted}
 use Rattle.sup_replica.specs.Acts.{absorbs}
 use Rattle.sup_replica.specs.ByTables.{by_tables}
@@ -56,14 +56,14 @@ pub given_passes : (n : Node State) → MAX + 1 ≤ n.supervisor.given → passe
 given_passes n a = (λ i. nat_lt MAX n.count || (lt-true MAX n.supervisor.given a i || nat_lt MAX n.supervisor.boot)) ∙ or-true (nat_lt MAX n.count)
 
 -- an outcome whose numbers are in their limits is told, and another isn't
-pub is_told : (o : Outcome State) → passes_greatest o.node ≡ false → checked (Ok o) ≡ Ok o
+pub is_told : (o : ActOutcome State) → passes_greatest o.node ≡ false → checked (Ok o) ≡ Ok o
 is_told o e = ap (λ b. refused_if b CountSpent (Ok o)) e
 
-pub is_untold : (o : Outcome State) → passes_greatest o.node ≡ true → checked (Ok o) ≡ Err CountSpent
+pub is_untold : (o : ActOutcome State) → passes_greatest o.node ≡ true → checked (Ok o) ≡ Err CountSpent
 is_untold o e = ap (λ b. refused_if b CountSpent (Ok o)) e
 
 -- the same step makes the same ready
-pub ready_same : (g : Weigher) (step other : Result (Outcome State) Refusal) (n : Node State) (r : Result Ready Refusal) → step ≡ other → ReadiesOutcome g other n r → ReadiesOutcome g step n r
+pub ready_same : (g : Weigher) (step other : Result (ActOutcome State) Refusal) (n : Node State) (r : Result Ready Refusal) → step ≡ other → ReadiesOutcome g other n r → ReadiesOutcome g step n r
 ready_same g step other n (Ok p) e h = (ap checked e ∙ h.0, h.1)
 ready_same g step other n (Err refusal) e (inl f) = inl (ap checked e ∙ f)
 ready_same g step other n (Err refusal) e (inr f) = inr (f.0, ap is_ok e ∙ f.1)
@@ -89,7 +89,7 @@ module _ (g : Weigher) (n : Node State) (leaving : Leaving) (delta tables : Stat
 
 -- a delta that is taken in
 module _ (g : Weigher) (n : Node State) (own : Option State) (reply : Reply) (leaving : Leaving) (delta : State) where
-  abbrev made : Supervisor → List Effect → Outcome State
+  abbrev made : Supervisor → List Effect → ActOutcome State
   made s effects = record {
     done = record { reply = reply; effects = effects };
     letter = None;
@@ -128,7 +128,7 @@ pub begun_ready : (g : Weigher) (n : Node State) (id again : Bytes) (now : ℕ) 
     → passes_greatest (record n { supervisor = restarted n.supervisor id now }) ≡ false → keeps_placed g n ≡ true
     → ReadiesOutcome g (exit_step by_tables g n id now Restart) n (Ok (record { reply = Restarted; effects = effects; change = Begins again now }))
 begun_ready g n id again now effects same told passes keeps =
-    let o : List Effect → Outcome State = λ es. record { done = record { reply = Restarted; effects = es }; node = record n { supervisor = restarted n.supervisor id now }; letter = None; saves = false } in
+    let o : List Effect → ActOutcome State = λ es. record { done = record { reply = Restarted; effects = es }; node = record n { supervisor = restarted n.supervisor id now }; letter = None; saves = false } in
     subst (λ x. ReadiesOutcome g (exit_step by_tables g n id now Restart) n (Ok (record { reply = Restarted; effects = effects; change = Begins x now }))) (sym same)
     (ap (λ es. checked (Ok (o es))) (sym told) ∙ is_told (o effects) passes, (tt, keeps_again g n id now keeps))
 

@@ -30,7 +30,7 @@ use Rattle.sup_local_sup.specs.declared.wanted.Wanted.{Wanted}
 use Rattle.sup_local_sup.specs.declared.change.Change.{Change}
 use Rattle.sup_local_sup.specs.declared.leaving.Leaving.{Leaving}
 use Rattle.sup_local_sup.specs.declared.leaving.Leaving.TheVariants.{Nobody, Finished, GaveUp}
-use Rattle.sup_local_sup.specs.Keeping.{Kept, is_for, is_wanted, is_kept}
+use Rattle.sup_local_sup.specs.Keeping.{KeptChild, is_for, is_wanted, is_kept}
 use Rattle.sup_local_sup.proofs.KeepingLaws.{exact_from_eq}
 use Rattle.sup_local_sup.specs.Changing.{now_list, news, is_named, by_id, IsOwn, AreChanges, IsReplaced, left_of, leaving_of}
 use Rattle.sup_replica.specs.Nodes.{is_placed_on, wanted_of, wanted_row, wanted_at}
@@ -314,8 +314,8 @@ module _ (g : Weigher) (me : Bytes) (old new : State) (ids : List Bytes) (rise :
       ∙ sym (valued g me hosts new.rows ids)
       ∙ sym (news_listed g me hosts new.rows ids)
 
-  module _ (kept : List Kept) (keeps_old : keeps kept (wanted_at g me old.rows) ≡ true) where
-    stays_one : (k : Kept) → is_wanted (wanted_at g me old.rows) k ≡ true → is_named changes k.0 ≡ false → is_wanted (wanted_at g me new.rows) k ≡ true
+  module _ (kept : List KeptChild) (keeps_old : keeps kept (wanted_at g me old.rows) ≡ true) where
+    stays_one : (k : KeptChild) → is_wanted (wanted_at g me old.rows) k ≡ true → is_named changes k.0 ≡ false → is_wanted (wanted_at g me new.rows) k ≡ true
     stays_one k e n =
         pick (λ (w : Wanted). wanted_under g me (eligible old.rows) old.rows w.id ≡ Some w) (λ w. is_for w k.0 k.1.dot) (listed g me (eligible old.rows) old.rows (keys old.rows children))
         (each g me (eligible old.rows) old.rows (keys old.rows children))
@@ -325,7 +325,7 @@ module _ (g : Weigher) (me : Bytes) (old new : State) (ids : List Bytes) (rise :
         untouched w.id (ap (among text_cmp ids) (sym id) ∙ unnamed k.0 n) (is_wanted (wanted_at g me new.rows) k)
         (λ same_winner. is_there w.id w (later w.id w same_winner u) (λ v. is_for v k.0 k.1.dot) f))
 
-    all_kept : AllByRecursion (λ (k : Kept). is_wanted (wanted_at g me old.rows) k ≡ true) kept
+    all_kept : AllByRecursion (λ (k : KeptChild). is_wanted (wanted_at g me old.rows) k ≡ true) kept
     all_kept = all_from (is_wanted (wanted_at g me old.rows)) kept (and-first _ _ keeps_old)
 
     was_kept : (w : Wanted) → wanted_under g me (eligible old.rows) old.rows w.id ≡ Some w → is_kept kept w ≡ true
@@ -343,14 +343,14 @@ module _ (g : Weigher) (me : Bytes) (old new : State) (ids : List Bytes) (rise :
         kept_any (λ k. bytes_eq w.id k.0 && dot_eq w.dot k.1.dot) (λ k. not (bytes_eq id k.0))
         (λ k f. at k (exact_from_eq w.id k.0 (and-first (bytes_eq w.id k.0) _ f)) (bytes_eq id k.0) refl) kept e
       where
-        at : (k : Kept) → w.id ≡ k.0 → (b : Bool) → bytes_eq id k.0 ≡ b → not (bytes_eq id k.0) ≡ true
+        at : (k : KeptChild) → w.id ≡ k.0 → (b : Bool) → bytes_eq id k.0 ≡ b → not (bytes_eq id k.0) ≡ true
         at k same_id true h = absurd (true≢false (sym a ∙ ap (among text_cmp ids) (exact_from_eq id k.0 h ∙ sym same_id) ∙ unnamed w.id n))
         at k same_id false h = ap not h
 
     only_one : (ended : Option Bytes) → IsAmong ids ended → (w : Wanted) → wanted_under g me (eligible new.rows) new.rows w.id ≡ Some w → is_named changes w.id ≡ false → is_kept (left_of kept ended) w ≡ true
     only_one ended a w u n = untouched w.id (unnamed w.id n) (is_kept (left_of kept ended) w) (λ e. is_left ended a w n (was_kept w (earlier w.id w e u)))
 
-    stays : (ended : Option Bytes) → AllByRecursion (λ (k : Kept). is_named changes k.0 ≡ false → is_wanted (wanted_at g me new.rows) k ≡ true) (left_of kept ended)
+    stays : (ended : Option Bytes) → AllByRecursion (λ (k : KeptChild). is_named changes k.0 ≡ false → is_wanted (wanted_at g me new.rows) k ≡ true) (left_of kept ended)
     stays None = all_with _ _ stays_one kept all_kept
     stays (Some id) = all_filtered _ (λ k. not (bytes_eq id k.0)) kept (all_with _ _ stays_one kept all_kept)
 

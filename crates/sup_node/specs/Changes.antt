@@ -19,7 +19,7 @@ use Rattle.sup_replica.specs.declared.done.Reply.TheVariants.{Boot}
 use Rattle.sup_replica.specs.declared.refusal.Refusal.{Refusal}
 use Rattle.sup_replica.specs.declared.refusal.Refusal.TheVariants.{OutOfMemory, CountSpent}
 use Rattle.sup_replica.specs.Checks.{refused_if, then_do}
-use Rattle.sup_replica.specs.Nodes.{Node, Outcome, wanted_at}
+use Rattle.sup_replica.specs.Nodes.{Node, ActOutcome, wanted_at}
 use Rattle.sup_replica.specs.ByTables.{by_tables}
 use Rattle.sup_replica.specs.Steps.{passes_greatest, wanted}
 use Rattle.sup_replica.specs.Stations.{Station, acknowledged}
@@ -120,15 +120,15 @@ IsOf delta n (Learns l) = (l.own ≡ None) × (l.delta ≡ delta)
 IsOf delta n (Acknowledges from number) = ⊥
 
 -- what is told and becomes, where no number passes the greatest
-abbrev pub checked : Result (Outcome State) Refusal → Result (Outcome State) Refusal
+abbrev pub checked : Result (ActOutcome State) Refusal → Result (ActOutcome State) Refusal
 checked step = then_do step (λ o. refused_if (passes_greatest o.node) CountSpent (Ok o))
 
-abbrev pub outcome_of : Node State → Ready → Outcome State
+abbrev pub outcome_of : Node State → Ready → ActOutcome State
 outcome_of n p = record { done = record { reply = p.reply; effects = p.effects }; letter = None; node = changed n p.change; saves = saves p.change }
 
 -- what is ready is the step's outcome, or it is refused as the step says; or for memory, and that only where the step says no refusal but of
 -- numbers
-abbrev pub ReadiesOutcome : Weigher → Result (Outcome State) Refusal → Node State → Result Ready Refusal → Type 0
+abbrev pub ReadiesOutcome : Weigher → Result (ActOutcome State) Refusal → Node State → Result Ready Refusal → Type 0
 ReadiesOutcome g step n (Ok p) = (checked step ≡ Ok (outcome_of n p)) × IsMadeFor g n p.change
 ReadiesOutcome g step n (Err r) = (checked step ≡ Err r) ⊎ ((r ≡ OutOfMemory) × IsOk step)
 
@@ -144,7 +144,7 @@ stopped_node intensity period i = record {
 }
 
 -- a restart's node and effects, or why it is refused
-abbrev pub RestartsAs : Result (Outcome State) Refusal → Result (Node State × List Effect) Refusal → Type 0
+abbrev pub RestartsAs : Result (ActOutcome State) Refusal → Result (Node State × List Effect) Refusal → Type 0
 RestartsAs step (Ok r) = checked step ≡ Ok (record { done = record { reply = Boot r.0.supervisor.boot; effects = r.1 }; letter = None; node = r.0; saves = true })
 RestartsAs step (Err r) = (checked step ≡ Err r) ⊎ ((r ≡ OutOfMemory) × IsOk step)
 
@@ -168,7 +168,7 @@ abbrev pub IsNoIntake : Weigher → Node State → Leaving → State → Refusal
 IsNoIntake g n leaving delta r = (r ≡ OutOfMemory) ⊎ ((r ≡ CountSpent) × (MAX < (leaving_after n.supervisor leaving (wanted_with g n delta)).given))
 
 -- and then keeps what is wanted, without those that leave
-abbrev pub learns : Weigher → Node State → Option State → Reply → Leaving → State → Outcome State
+abbrev pub learns : Weigher → Node State → Option State → Reply → Leaving → State → ActOutcome State
 learns g n own reply leaving delta = record {
   done = record { reply = reply; effects = leaving_effects n.supervisor leaving (wanted by_tables g (with_delta n own delta)) };
   letter = None;

@@ -18,7 +18,7 @@ use Rattle.sup_replica.specs.Nodes.{fresh}
 use Rattle.sup_replica.specs.ByTables.{by_tables}
 use Rattle.sup_replica.specs.Steps.{passes_greatest}
 use Rattle.sup_replica.specs.declared.done.Reply.TheVariants.{Boot}
-use Rattle.sup_replica.specs.Stations.{Station, Mail, Move, station_step}
+use Rattle.sup_replica.specs.Stations.{Station, Mail, StationMove, station_step}
 use Rattle.sup_node.specs.declared.change.Change.{Change}
 use Rattle.sup_node.specs.declared.change.Change.TheVariants.{Nothing, Begins, Learns, Acknowledges}
 use Rattle.sup_node.specs.declared.planned.Planned.{Planned}
@@ -42,7 +42,7 @@ ReadsMail (Push to) mail = Unit {0}
 ReadsMail (Deliver bytes) mail = IsReadAs bytes mail
 
 -- the step, where these bytes are read so; `saved` says whether a save holds
-abbrev pub stepped : Weigher → Station State → Event → ℕ → Option (Mail State) → Bool → Result (Move State) Refusal
+abbrev pub stepped : Weigher → Station State → Event → ℕ → Option (Mail State) → Bool → Result (StationMove State) Refusal
 stepped g s event now mail saved = station_step by_tables (reads_as mail) g s (Of event) now saved
 
 -- want of memory may be told: of a delivery always, of another event where it is refused for no reason but numbers
@@ -67,8 +67,8 @@ abbrev pub FitsNode : Weigher → Station State → Change → Type 0
 FitsNode g s change = MayChange s change × (keeps_placed g (changed s.node change) ≡ true)
 
 -- what is made ready is the step's move, and what the node becomes; where its save fails, it is refused
-pub record IsReady (g : Weigher) (step : Bool → Result (Move State) Refusal) (s : Station State) (p : Planned) : Type 0 where
-  pub move : Move State
+pub record IsReady (g : Weigher) (step : Bool → Result (StationMove State) Refusal) (s : Station State) (p : Planned) : Type 0 where
+  pub move : StationMove State
   pub moves : step true ≡ Ok move
   pub unsaved : step false ≡ (if saves p.change then Err KeepFailed else Ok move)
   pub done : IsDoneOf move p.done
@@ -88,7 +88,7 @@ PlansEvent g s event now (Err r) = IsRefused g s event now r
 pub record CarriesOutEvent (g : Weigher) (s : Station State) (event : Event) (now : ℕ) (done : Done) (t : Station State) : Type 0 where
   pub mail : Option (Mail State)
   pub reads : ReadsMail event mail
-  pub move : Move State
+  pub move : StationMove State
   pub moves : stepped g s event now mail true ≡ Ok move
   pub told : IsDoneOf move done
   pub after : t ≡ move.station
@@ -106,11 +106,11 @@ abbrev pub stopped_by : Config → Image → Station State
 stopped_by c i = record { node = stopped_node c.intensity c.period i; held = []; room = c.buffer; acked = λ q. 0 }
 
 -- a restart from an image of the node, before the image is saved
-abbrev pub restart_of : Weigher → Config → Image → Bool → Result (Move State) Refusal
+abbrev pub restart_of : Weigher → Config → Image → Bool → Result (StationMove State) Refusal
 restart_of g c image saved = station_step by_tables (reads_as None) g (stopped_by c image) Restart 0 saved
 
 pub record IsRestart (g : Weigher) (c : Config) (image : Image) (effects : List Effect) (t : Station State) : Type 0 where
-  pub move : Move State
+  pub move : StationMove State
   pub moves : restart_of g c image true ≡ Ok move
   pub unsaved : restart_of g c image false ≡ Err KeepFailed
   pub told : effects ≡ move.done.effects

@@ -12,13 +12,13 @@ use Rattle.sup_local_sup.specs.declared.wanted.Wanted.{Wanted}
 use Rattle.sup_local_sup.specs.declared.change.Change.{Change}
 use Rattle.sup_local_sup.specs.declared.leaving.Leaving.{Leaving}
 use Rattle.sup_local_sup.specs.declared.leaving.Leaving.TheVariants.{Nobody, Finished, GaveUp}
-use Rattle.sup_local_sup.specs.Keeping.{Kept, is_wanted, is_kept}
+use Rattle.sup_local_sup.specs.Keeping.{KeptChild, is_wanted, is_kept}
 use Rattle.sup_replica.specs.Nodes.{Node, is_placed_on, wanted_of}
 use Rattle.sup_replica.specs.ByTables.{by_tables}
 use Rattle.sup_replica.specs.Steps.{wanted}
 
 -- what is kept is wanted, and what is wanted is kept
-abbrev pub keeps : List Kept → List Wanted → Bool
+abbrev pub keeps : List KeptChild → List Wanted → Bool
 keeps kept wanted = list_all (is_wanted wanted) kept && list_all (is_kept kept) wanted
 
 abbrev pub keeps_placed : Weigher → Node State → Bool

@@ -7,12 +7,12 @@ use Rattle.sup_wire.specs.declared.message.Message.{Message}
 use Rattle.sup_wire.specs.declared.message.Message.TheVariants.{Ack, Push, Delta}
 use Rattle.sup_wire.specs.declared.image.Image.{Image}
 use Rattle.sup_wire.specs.Drafts.{IsDraftOf, IsDraftOfImage, IsWholeMessage, IsWholeImage}
-use Rattle.sup_wire.specs.Faults.{Says, IsTextOf, IsInRange, IsImageInRange}
+use Rattle.sup_wire.specs.Faults.{TextSays, IsTextOf, IsInRange, IsImageInRange}
 use Rattle.sup_image_text.specs.declared.next_image.NextImage.{NextImage}
 use Rattle.sup_image_text.specs.Next.{IsNext}
 use Rattle.sup_replica.specs.declared.letter.Letter.{Letter}
 use Rattle.sup_replica.specs.declared.done.Done.{Done}
-use Rattle.sup_replica.specs.Stations.{Mail, a_delta, a_push, an_ack, Codec, Move, receiver_of, kind_of}
+use Rattle.sup_replica.specs.Stations.{Mail, a_delta, a_push, an_ack, MailCodec, StationMove, receiver_of, kind_of}
 
 -- the message that mail is written as: whether a delta is all that its sender knows isn't written
 abbrev pub message_of : Mail State → Message
@@ -29,12 +29,12 @@ mail_of (Ack from to n) = an_ack from to n
 -- the text is the one that is written of the message, and is read as the message
 pub record IsMessageText (text : Bytes) (m : Message) : Type 0 where
   pub form : IsTextOf IsDraftOf IsInRange text m
-  pub says : Says IsDraftOf text m
+  pub says : TextSays IsDraftOf text m
   pub whole : IsWholeMessage m
 
 pub record IsImageText (text : Bytes) (i : Image) : Type 0 where
   pub form : IsTextOf IsDraftOfImage IsImageInRange text i
-  pub says : Says IsDraftOfImage text i
+  pub says : TextSays IsDraftOfImage text i
   pub whole : IsWholeImage i
 
 -- where there is a next image, this is how it comes of one with these rows
@@ -46,16 +46,16 @@ IsNextOf rows (Some image) (Some next) = IsNext rows image next
 
 -- the mail that bytes are read as; none where no message has these bytes
 abbrev pub IsReadAs : Bytes → Option (Mail State) → Type 0
-IsReadAs bytes None = (m : Message) → IsWholeMessage m → ¬ Says IsDraftOf bytes m
-IsReadAs bytes (Some mail) = (m : Message) × IsWholeMessage m × Says IsDraftOf bytes m × (mail ≡ mail_of m)
+IsReadAs bytes None = (m : Message) → IsWholeMessage m → ¬ TextSays IsDraftOf bytes m
+IsReadAs bytes (Some mail) = (m : Message) × IsWholeMessage m × TextSays IsDraftOf bytes m × (mail ≡ mail_of m)
 
 -- the same of an image
 abbrev pub IsImageReadAs : Bytes → Option Image → Type 0
-IsImageReadAs bytes None = (i : Image) → IsWholeImage i → ¬ Says IsDraftOfImage bytes i
-IsImageReadAs bytes (Some image) = IsWholeImage image × Says IsDraftOfImage bytes image
+IsImageReadAs bytes None = (i : Image) → IsWholeImage i → ¬ TextSays IsDraftOfImage bytes i
+IsImageReadAs bytes (Some image) = IsWholeImage image × TextSays IsDraftOfImage bytes image
 
 -- a codec that reads this; what is written is said of the letter alone
-abbrev pub reads_as : Option (Mail State) → Codec State
+abbrev pub reads_as : Option (Mail State) → MailCodec State
 reads_as mail = record { write = λ _. []; read = λ _. mail }
 
 -- the letter is this mail's
@@ -71,7 +71,7 @@ IsLetterOf (Some mail) None = ⊥
 IsLetterOf (Some mail) (Some letter) = IsLetter mail letter
 
 -- the answer is this move's
-pub record IsDoneOf (move : Move State) (done : Done) : Type 0 where
+pub record IsDoneOf (move : StationMove State) (done : Done) : Type 0 where
   pub reply : done.reply ≡ move.done.reply
   pub effects : done.effects ≡ move.done.effects
   pub letter : IsLetterOf move.letter done.out

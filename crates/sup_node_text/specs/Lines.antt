@@ -7,7 +7,7 @@ use Rattle.sup_specs.specs.declared.child.Status.{Status}
 use Rattle.sup_specs.specs.declared.child.Status.TheVariants.{Open, Draining}
 use Rattle.sup_causal.specs.declared.dot.Dot.{Dot}
 use Rattle.sup_tables.specs.Rows.{Table, members, children, names}
-use Rattle.sup_local_sup.specs.Keeping.{Kept}
+use Rattle.sup_local_sup.specs.Keeping.{KeptChild}
 use Rattle.sup_node.specs.Whereabouts.{Where, unknown, gone, unplaced, on}
 use Rattle.sup_text.specs.Words.{text, dot_text, spec_text, incarnation_text}
 
@@ -51,5 +51,5 @@ abbrev pub loser_line : List ℕ → Bytes → Dot → List ℕ
 loser_line table key dot = text (codes "loser " ∷ table ∷ codes " " ∷ key ∷ codes " " ∷ dot_text dot ∷ codes "\n" ∷ [])
 
 -- kept ID B.K
-abbrev pub kept_line : Kept → List ℕ
+abbrev pub kept_line : KeptChild → List ℕ
 kept_line k = text (codes "kept " ∷ k.0 ∷ codes " " ∷ incarnation_text k.1.inc ∷ codes "\n" ∷ [])

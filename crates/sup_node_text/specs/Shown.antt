@@ -9,7 +9,7 @@ use Rattle.sup_tables.specs.Rows.{Table, members, children, names, key_of, info_
 use Rattle.sup_tables.specs.Readers.{winners, losers, eligible}
 use Rattle.sup_tables.specs.States.{State}
 use Rattle.sup_placement.specs.Place.{Weigher, place}
-use Rattle.sup_local_sup.specs.Keeping.{Kept}
+use Rattle.sup_local_sup.specs.Keeping.{KeptChild}
 use Rattle.sup_replica.specs.Stations.{Station}
 use Rattle.sup_node.specs.declared.node.Node.{Node}
 use Rattle.sup_node.specs.Contents.{station_of}
@@ -47,7 +47,7 @@ tables_text weigher rows = text (
 pub record Shown : Type 0 where
   pub boot : ℕ
   pub rows : List Row  -- live
-  pub kept : List Kept
+  pub kept : List KeptChild
 
 abbrev pub shown_of : Station State → Shown
 shown_of s = record { boot = s.node.supervisor.boot; rows = s.node.known.rows; kept = s.node.supervisor.kept }

@@ -28,9 +28,9 @@ impl<W: Weigh> Model for Assignment<W> {
     ghost use Rattle.std.specs.Str.{bytes_eq};
     ghost use Rattle.std.specs.Map.{keys_of, lookup};
     ghost use Rattle.sup_specs.specs.Values.{Bytes};
-    ghost use Rattle.sup_placement.specs.Assigned.{Assigned, IsPlaced};
+    ghost use Rattle.sup_placement.specs.Assigned.{AssignedChildren, IsPlaced};
 
-    ghost Value = { Assigned };
+    ghost Value = { AssignedChildren };
 
     ghost view = { λ a. record { members = a.members.items; ids = keys_of a.places.entries } };
 

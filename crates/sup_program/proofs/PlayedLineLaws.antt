@@ -12,7 +12,7 @@ use Rattle.sup_jobs.specs.declared.fault.Fault.{Fault}
 use Rattle.sup_jobs.specs.declared.fault.Fault.TheVariants.{BadLine, BadInput, BadImage, Device, OutOfMemory}
 use Rattle.sup_jobs.specs.Tells.{IsCutShort}
 use Rattle.sup_jobs.proofs.Fronts.{cut_in_second}
-use Rattle.sup_model.specs.Worlds.{World}
+use Rattle.sup_model.specs.Worlds.{ModelWorld}
 use Rattle.sup_world.specs.FollowedSteps.{StandsFor}
 use Rattle.sup_world.specs.SeenNodes.{SeenNode}
 use Rattle.sup_lines.specs.declared.line.Line.{Line}
@@ -25,14 +25,14 @@ use Rattle.sup_model.proofs.Messages.{run_same}
 -- lines that were played and written, and the model world that they reach
 pub record PlaysTo (weigher : Weigher) (peers : List Bytes) (old : Scene) (lines : List Line) (sites : List SeenNode) (before written : KnownBytes) : Type 0 where
   pub printed : List ℕ
-  pub reached : World
+  pub reached : ModelWorld
   pub plays : PlaysLines weigher peers old lines printed (record { model = reached; sites = sites })
   pub stands : StandsFor weigher sites reached
   pub tells : TellsMessages reached.is_message
   pub writes : Appends before written printed
 
 -- before the first line
-pub begins : (weigher : Weigher) (peers : List Bytes) (old : World) (sites : List SeenNode) (a : KnownBytes) → StandsFor weigher sites old → TellsMessages old.is_message → PlaysTo weigher peers (record { model = old; sites = sites }) [] sites a a
+pub begins : (weigher : Weigher) (peers : List Bytes) (old : ModelWorld) (sites : List SeenNode) (a : KnownBytes) → StandsFor weigher sites old → TellsMessages old.is_message → PlaysTo weigher peers (record { model = old; sites = sites }) [] sites a a
 begins weigher peers old sites a h tells = record {
   printed = [];
   reached = old;

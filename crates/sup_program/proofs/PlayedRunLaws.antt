@@ -3,7 +3,7 @@ use Rattle.std.specs.Prelude.{ℕ, List, [], ◌∷◌, Result, Ok, Err, refl}
 use Rattle.std.proofs.Common.{ap}
 use Rattle.sup_specs.specs.Values.{Bytes}
 use Rattle.sup_placement.specs.Place.{Weigher}
-use Rattle.sup_model.specs.Worlds.{World, new}
+use Rattle.sup_model.specs.Worlds.{ModelWorld, new}
 use Rattle.sup_model.proofs.MainLaws.{main}
 use Rattle.sup_replica.specs.declared.refusal.Refusal.{Refusal}
 use Rattle.sup_world.specs.declared.settled.Settled.{Settled}
@@ -14,7 +14,7 @@ use Rattle.sup_program.specs.Prints.{Scene, PrintsLine}
 use Rattle.sup_program.specs.Plays.{PlaysLines, PlayedWorldsKeep}
 use Rattle.sup_program.proofs.SettleRunLaws.{RunTo, run_then, settling_run, cut_short_run}
 
-settled_run : (w : World) (result : Result Settled Refusal) (after : World) → EndsSettling w result after → RunTo w after
+settled_run : (w : ModelWorld) (result : Result Settled Refusal) (after : ModelWorld) → EndsSettling w result after → RunTo w after
 settled_run w (Ok settled) after h = settling_run w h.0 after h.1
 settled_run w (Err r) after h = cut_short_run w r after h
 

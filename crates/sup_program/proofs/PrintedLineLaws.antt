@@ -11,8 +11,8 @@ use Rattle.sup_replica.specs.declared.refusal.Refusal.TheVariants.{UnknownNode, 
 use Rattle.sup_replica.specs.declared.letter.Letter.{Letter}
 use Rattle.sup_model.specs.declared.step.Step.{Step}
 use Rattle.sup_model.specs.declared.step.Step.TheVariants.{Node as AtNode, Deliver as Delivery, Raw}
-use Rattle.sup_model.specs.Posts.{Real, reads}
-use Rattle.sup_model.specs.Worlds.{World}
+use Rattle.sup_model.specs.Posts.{RealWorld, reads}
+use Rattle.sup_model.specs.Worlds.{ModelWorld}
 use Rattle.sup_station.specs.KeptStations.{KeptStation}
 use Rattle.sup_world.specs.declared.answer.Answer.{Answer}
 use Rattle.sup_world.specs.declared.settled.Settled.{Settled}
@@ -36,8 +36,8 @@ knows is_message (Delivery from k at drop now saves) tells = tt
 knows is_message (Raw at bytes) tells = λ mail read. tells bytes mail read
 
 -- a step does as it is told, whatever its save is to do
-pub step_speaks : (weigher : Weigher) (peers : List Bytes) (model : World) (step : Step) (sites new : List SeenNode) (result : Result Answer Refusal) → CanFail sites → FollowsModel weigher model (carried sites step) result new
-    → ((real : Real State) → ShowsReal weigher sites real → KnowsBytes (reads real.codec) step → MakesRealStep weigher real (carried sites step) result new)
+pub step_speaks : (weigher : Weigher) (peers : List Bytes) (model : ModelWorld) (step : Step) (sites new : List SeenNode) (result : Result Answer Refusal) → CanFail sites → FollowsModel weigher model (carried sites step) result new
+    → ((real : RealWorld State) → ShowsReal weigher sites real → KnowsBytes (reads real.codec) step → MakesRealStep weigher real (carried sites step) result new)
     → (speaks : SaysLine weigher peers (record { model = model; sites = sites }) (line.Step step) new) × (speaks.said ≡ said_of result)
 step_speaks weigher peers model step sites new result can f steps =
     let g : FollowsModel weigher model step result new = subst (λ s. FollowsModel weigher model s result new) (carried_same sites step can) f in (
@@ -60,7 +60,7 @@ step_speaks weigher peers model step sites new result can f steps =
     )
 
 -- settling says what is printed of its answer
-pub settle_speaks : (weigher : Weigher) (peers : List Bytes) (model : World) (sites new : List SeenNode) (result : Result Settled Refusal) → SettlesTo weigher model result new → SettlesBy weigher sites result new
+pub settle_speaks : (weigher : Weigher) (peers : List Bytes) (model : ModelWorld) (sites new : List SeenNode) (result : Result Settled Refusal) → SettlesTo weigher model result new → SettlesBy weigher sites result new
     → (speaks : SaysLine weigher peers (record { model = model; sites = sites }) line.Settle new) × (speaks.said ≡ said_settled result)
 settle_speaks weigher peers model sites new result s by = (
   record {
@@ -85,7 +85,7 @@ said_as view (Ok x) text said e h = h ∙ e
 said_as view (Err error) text said e h = h
 
 -- to look is no step
-pub looks : {X E : Type 0} (view : X → List ℕ) (result : Result X E) (weigher : Weigher) (peers : List Bytes) (model : World) (sites : List SeenNode) (line : Line) (Told : List ℕ → Type 0) → StandsFor weigher sites model → ((said : List ℕ) → Told said → DoesLine weigher peers (record { model = model; sites = sites }) line said (record { model = model; sites = sites })) → IfOk result (λ x. Told (view x)) → MaySpeak view weigher peers (record { model = model; sites = sites }) line sites result
+pub looks : {X E : Type 0} (view : X → List ℕ) (result : Result X E) (weigher : Weigher) (peers : List Bytes) (model : ModelWorld) (sites : List SeenNode) (line : Line) (Told : List ℕ → Type 0) → StandsFor weigher sites model → ((said : List ℕ) → Told said → DoesLine weigher peers (record { model = model; sites = sites }) line said (record { model = model; sites = sites })) → IfOk result (λ x. Told (view x)) → MaySpeak view weigher peers (record { model = model; sites = sites }) line sites result
 looks view (Ok x) weigher peers model sites line Told h does told = (record { said = view x; after = model; prints = record { does = does (view x) told; stands = h } }, refl)
 looks view (Err error) weigher peers model sites line Told h does told = inr refl
 

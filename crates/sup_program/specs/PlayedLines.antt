@@ -7,7 +7,7 @@ use Rattle.sup_jobs.specs.Ends.{KnownBytes}
 use Rattle.sup_jobs.specs.Tells.{IsCutShort}
 use Rattle.sup_jobs.specs.declared.fault.Fault.{Fault}
 use Rattle.sup_jobs.specs.declared.fault.Fault.TheVariants.{BadLine, BadInput, BadImage, Device, OutOfMemory}
-use Rattle.sup_model.specs.Worlds.{World}
+use Rattle.sup_model.specs.Worlds.{ModelWorld}
 use Rattle.sup_world.specs.CarriedSteps.{has_bytes}
 use Rattle.sup_world.specs.SeenNodes.{SeenNode}
 use Rattle.sup_lines.specs.declared.line.Line.{Line}
@@ -27,7 +27,7 @@ BringsNoBytes (line.Message name k) = Unit {0}
 -- what the line prints, and the model world that the code's then stands for
 pub record SaysLine (weigher : Weigher) (peers : List Name) (s : Scene) (line : Line) (new : List SeenNode) : Type 0 where
   pub said : List ℕ
-  pub after : World
+  pub after : ModelWorld
   pub prints : PrintsLine weigher peers s line said (record { model = after; sites = new })
 
 -- this text is what the line prints; where there is no memory for a text, the line was played, or nothing changed

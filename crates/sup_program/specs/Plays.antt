@@ -6,16 +6,16 @@ use Rattle.sup_tables.specs.States.{State}
 use Rattle.sup_placement.specs.Place.{Weigher}
 use Rattle.sup_replica.specs.ByTables.{by_tables}
 use Rattle.sup_replica.specs.Configs.{Config}
-use Rattle.sup_replica.specs.Stations.{Codec}
+use Rattle.sup_replica.specs.Stations.{MailCodec}
 use Rattle.sup_jobs.specs.Ends.{KnownBytes}
 use Rattle.sup_jobs.specs.Tells.{IsCutShort}
 use Rattle.sup_jobs.specs.declared.fault.Fault.{Fault}
 use Rattle.sup_jobs.specs.declared.fault.Fault.TheVariants.{BadLine, BadInput, BadImage, Device, OutOfMemory}
 use Rattle.sup_model.specs.Posts.{real_new}
-use Rattle.sup_model.specs.Worlds.{Setting, World, Answer, new}
+use Rattle.sup_model.specs.Worlds.{WorldSetting, ModelWorld, ModelAnswer, new}
 use Rattle.sup_model.specs.declared.step.Step.{Step}
 use Rattle.sup_model.specs.Headline.{Headline}
-use Rattle.sup_model.specs.Runs.{Run, all_issued}
+use Rattle.sup_model.specs.Runs.{ModelRun, all_issued}
 use Rattle.sup_replica.specs.declared.refusal.Refusal.{Refusal}
 use Rattle.sup_world.specs.Newness.{setting_in}
 use Rattle.sup_world.specs.SeenNodes.{SeenNode}
@@ -63,16 +63,16 @@ module _ (weigher : Weigher) (peers : List Bytes) where
   PrintsUntil s lines before written OutOfMemory = PrintsBeforeFrom s lines before written
 
 -- some steps of the model lead from one world to the other, and the headline holds of that
-pub record LedTo (start after : World) : Type 0 where
+pub record LedTo (start after : ModelWorld) : Type 0 where
   pub steps : List Step
-  pub answers : List (Result Answer Refusal)
-  pub is_run : Run start steps answers after
+  pub answers : List (Result ModelAnswer Refusal)
+  pub is_run : ModelRun start steps answers after
   pub headline : Headline steps answers after (all_issued start steps answers after is_run)
 
 -- whatever is played from a new world, so after any lines, it is a run of the model, and the headline holds of the world after it
 abbrev pub PlayedWorldsKeep : Type 0
 PlayedWorldsKeep =
-    (weigher : Weigher) (peers : List Bytes) (setting : Setting) (is_message : Bytes → Bool) (names : List Bytes) (sites : List SeenNode) (lines : List Line) (printed : List ℕ)
+    (weigher : Weigher) (peers : List Bytes) (setting : WorldSetting) (is_message : Bytes → Bool) (names : List Bytes) (sites : List SeenNode) (lines : List Line) (printed : List ℕ)
     (after : Scene) → PlaysLines weigher peers (record { model = new setting is_message names; sites = sites }) lines printed after → LedTo (new setting is_message names) after.model
 
 -- names in their order
@@ -83,7 +83,7 @@ pub record AreInOrder (names ordered : List Bytes) : Type 0 where
 -- nodes of these names: a new world of the definitions
 abbrev pub IsOpening : Weigher → Config → List Bytes → List SeenNode → Type 0
 IsOpening weigher config names sites =
-    (codec : Codec State) → ShowsReal weigher sites (real_new by_tables (setting_in weigher config) config.buffer codec names)
+    (codec : MailCodec State) → ShowsReal weigher sites (real_new by_tables (setting_in weigher config) config.buffer codec names)
 
 -- the new world of these nodes, whichever way the bytes that are a message are told
 abbrev pub opening : Weigher → Config → List Bytes → (Bytes → Bool) → List SeenNode → Scene

@@ -10,9 +10,9 @@ use Rattle.sup_replica.specs.declared.letter.Letter.{Letter}
 use Rattle.sup_placement.specs.Place.{Weigher}
 use Rattle.sup_node.specs.Texts.{IsReadAs}
 use Rattle.sup_model.specs.declared.step.Step.{Step}
-use Rattle.sup_model.specs.Worlds.{World, Site, Answer as Expected, site_of}
-use Rattle.sup_model.specs.Runs.{Allows}
-use Rattle.sup_model.specs.Posts.{Real, reads}
+use Rattle.sup_model.specs.Worlds.{ModelWorld, ModelSite, ModelAnswer as Expected, site_of}
+use Rattle.sup_model.specs.Runs.{ModelAllows}
+use Rattle.sup_model.specs.Posts.{RealWorld, reads}
 use Rattle.sup_world.specs.declared.answer.Answer.{Answer}
 use Rattle.sup_world.specs.CarriedSteps.{seen_at, letter_of}
 use Rattle.sup_world.specs.FollowedSteps.{IsAsOf, StandsFor, MakesRealStep}
@@ -38,16 +38,16 @@ said_of (Err refusal) = refusal_text refusal
 
 -- the world in which lines are played: the model's, and the code's that stands for it, as a contract sees it
 pub record Scene : Type 0 where
-  pub model : World
+  pub model : ModelWorld
   pub sites : List SeenNode
 
 -- a step that is answered as the model allows; and answer, letter and world are those of the code's step of the definitions
 pub record PrintsStep (weigher : Weigher) (s : Scene) (step : Step) (said : List ℕ) (after : Scene) : Type 0 where
   pub expected : Result Expected Refusal
   pub answer : Result Answer Refusal
-  pub allows : Allows s.model step expected after.model
+  pub allows : ModelAllows s.model step expected after.model
   pub told : IsAsOf expected answer
-  pub steps : (real : Real State) → ShowsReal weigher s.sites real → TellsMessages (reads real.codec) → MakesRealStep weigher real step answer after.sites
+  pub steps : (real : RealWorld State) → ShowsReal weigher s.sites real → TellsMessages (reads real.codec) → MakesRealStep weigher real step answer after.sites
   pub says : said ≡ said_of answer
 
 -- what is printed of settling
@@ -63,20 +63,20 @@ pub record PrintsSettled (weigher : Weigher) (s : Scene) (said : List ℕ) (afte
   pub says : said ≡ said_settled result
 
 -- what a node shows, nothing while it is down
-abbrev pub shown_by : Site → Option Shown
+abbrev pub shown_by : ModelSite → Option Shown
 shown_by site = if site.node.up
     then Some (record { boot = site.node.supervisor.boot; rows = live site.node.known; kept = site.node.supervisor.kept })
     else None
 
 -- what is printed of what a node shows; or that there is no such node
-abbrev pub text_at : (Option Shown → List ℕ) → Option Site → List ℕ
+abbrev pub text_at : (Option Shown → List ℕ) → Option ModelSite → List ℕ
 text_at text None = refusal_text UnknownNode
 text_at text (Some site) = text (shown_by site)
 
-abbrev pub node_text : World → Bytes → List ℕ
+abbrev pub node_text : ModelWorld → Bytes → List ℕ
 node_text w name = text_at (show_text w.weigher name) (site_of w name)
 
-abbrev pub lead_text : World → Bytes → Bytes → List ℕ
+abbrev pub lead_text : ModelWorld → Bytes → Bytes → List ℕ
 lead_text w name sought = text_at (λ shown. where_text w.weigher name shown sought) (site_of w name)
 
 -- what is told of a node with these peers: of its station

@@ -3,7 +3,7 @@
 ghost use Rattle.std.specs.Prelude.{◌≡◌, ◌++◌, ℕ, List, false, codes, IfOk, string_bytes, vec_items};
 ghost use Rattle.std.specs.List.{AllZip};
 ghost use Rattle.sup_specs.specs.Values.{Bytes};
-ghost use Rattle.sup_model.specs.Worlds.{World as Model};
+ghost use Rattle.sup_model.specs.Worlds.{ModelWorld as Model};
 ghost use Rattle.sup_world.specs.CarriedSteps.{has_bytes, seen_at};
 ghost use Rattle.sup_world.specs.FollowedSteps.{StandsFor};
 ghost use Rattle.sup_world.specs.SeenNodes.{sites_of, CanFail, FailedOnceAtMost};

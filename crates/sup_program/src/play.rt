@@ -3,7 +3,7 @@
 ghost use Rattle.std.specs.Prelude.{◌≡◌, All, OnOk, IfErr};
 ghost use Rattle.std.specs.List.{AllZip};
 ghost use Rattle.sup_jobs.specs.Faults.{IsOutside};
-ghost use Rattle.sup_model.specs.Worlds.{World as Model};
+ghost use Rattle.sup_model.specs.Worlds.{ModelWorld as Model};
 ghost use Rattle.sup_world.specs.FollowedSteps.{StandsFor};
 ghost use Rattle.sup_world.specs.SeenNodes.{sites_of, CanFail, FailedOnceAtMost};
 ghost use Rattle.sup_program.specs.Plays.{PrintsAllFrom, PrintsUntil};

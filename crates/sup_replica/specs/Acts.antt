@@ -11,7 +11,7 @@ use Rattle.sup_replica.specs.declared.done.Reply.TheVariants.{Absorbed, Known, A
 use Rattle.sup_replica.specs.declared.refusal.Refusal.{Refusal}
 use Rattle.sup_replica.specs.declared.refusal.Refusal.TheVariants.{Down, AlreadyUp, KeepFailed, BadMessage, WrongReceiver, CountSpent}
 use Rattle.sup_replica.specs.Checks.{refused_if, then_do}
-use Rattle.sup_replica.specs.Nodes.{Knowledge, Node, Kind, delta, push, ack, Message, Outcome, is_named}
+use Rattle.sup_replica.specs.Nodes.{Knowledge, Node, Kind, delta, push, ack, Message, ActOutcome, is_named}
 use Rattle.sup_replica.specs.Steps.{only, wanted, event_step, passes_greatest}
 
 module _ {K : Type 0} where
@@ -27,7 +27,7 @@ module _ {K : Type 0} where
   }
 
   -- the last two checks: no number passes the greatest, and then the save
-  abbrev pub kept_by : Bool → Result (Outcome K) Refusal → Result (Outcome K) Refusal
+  abbrev pub kept_by : Bool → Result (ActOutcome K) Refusal → Result (ActOutcome K) Refusal
   kept_by saves step = then_do step (λ o. refused_if (passes_greatest o.node) CountSpent (refused_if (o.saves && not saves) KeepFailed (Ok o)))
 
 module _ {K : Type 0} (k : Knowledge K) where
@@ -46,26 +46,26 @@ module _ {K : Type 0} (k : Knowledge K) (weigher : Weigher) where
   changes n = wanted_effects n.supervisor (wanted k weigher n)
 
   -- a changed node, which keeps what is wanted now
-  abbrev pub keeps : Node K → Reply → Option (Message K) → Outcome K
+  abbrev pub keeps : Node K → Reply → Option (Message K) → ActOutcome K
   keeps n reply letter = record { done = record { reply = reply; effects = changes n }; letter = letter; node = reconciled n; saves = true }
 
-  abbrev pub act_step : Node K → Act → ℕ → Result (Outcome K) Refusal
+  abbrev pub act_step : Node K → Act → ℕ → Result (ActOutcome K) Refusal
   act_step n (Of event) now = event_step k weigher n event now
   act_step n Stop now = refused_if (not n.up) Down (Ok (only (stopped n) Stopped [] None))
   act_step n Restart now = refused_if n.up AlreadyUp (Ok (keeps (booted n) (Boot (n.supervisor.boot + 1)) None))
 
   -- the operations come in. Where they are covered nothing changes, else the change is counted and saved
-  abbrev pub absorbs : Node K → K → Option (Message K) → Bool → Outcome K
+  abbrev pub absorbs : Node K → K → Option (Message K) → Bool → ActOutcome K
   absorbs n more letter true = only (record n { known = k.with_more n.known more }) Known [] letter
   absorbs n more letter false = keeps (record n { known = k.with_more n.known more; count = n.count + 1 }) Absorbed letter
 
-  abbrev pub takes : Node K → Bytes → Kind → K → Outcome K
+  abbrev pub takes : Node K → Bytes → Kind → K → ActOutcome K
   takes n from ack more = only n Acked [] None
   takes n from delta more = absorbs n more (answer_to k from delta) (k.covers n.known more)
   takes n from push more = absorbs n more None (k.covers n.known more)
 
   -- a message comes, whole or cut short
-  abbrev pub deliver : Node K → Bytes → Message K → Bool → Result (Outcome K) Refusal
+  abbrev pub deliver : Node K → Bytes → Message K → Bool → Result (ActOutcome K) Refusal
   deliver n from m whole =
       refused_if (not n.up) Down
       (refused_if (not whole) BadMessage

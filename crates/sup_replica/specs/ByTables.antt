@@ -8,7 +8,7 @@ use Rattle.sup_local_sup.specs.Supervising.{with_restart}
 use Rattle.sup_replica.specs.Nodes.{Knowledge}
 
 -- tables that stand for operations
-pub record Stands (state : State) (ops : List Operation) : Type 0 where
+pub record TablesStandFor (state : State) (ops : List Operation) : Type 0 where
   pub stands : StandsFor state ops
   pub tables : IsTables state
 

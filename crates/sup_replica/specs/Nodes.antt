@@ -47,13 +47,13 @@ pub record Message (K : Type 0) : Type 0 where
   pub content : K
 
 -- what is told: the reply, and what is to be done with children
-pub record Told : Type 0 where
+pub record ToldOutcome : Type 0 where
   pub reply : Reply
   pub effects : List Effect
 
 -- an act's answer, its letter, the node after it, and whether it changes the image, and so saves it first
-pub record Outcome (K : Type 0) : Type 0 where
-  pub done : Told
+pub record ActOutcome (K : Type 0) : Type 0 where
+  pub done : ToldOutcome
   pub letter : Option (Message K)
   pub node : Node K
   pub saves : Bool

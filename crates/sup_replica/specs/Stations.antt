@@ -17,7 +17,7 @@ use Rattle.sup_replica.specs.declared.letter.LetterKind.TheVariants.{Part, Whole
 use Rattle.sup_replica.specs.declared.refusal.Refusal.{Refusal}
 use Rattle.sup_replica.specs.declared.refusal.Refusal.TheVariants.{Down, UnknownNode, UpToDate, BadMessage, WrongReceiver}
 use Rattle.sup_replica.specs.Checks.{refused_if, then_do}
-use Rattle.sup_replica.specs.Nodes.{Knowledge, Node, Kind, delta, push, Message, Told, Outcome, is_named}
+use Rattle.sup_replica.specs.Nodes.{Knowledge, Node, Kind, delta, push, Message, ToldOutcome, ActOutcome, is_named}
 use Rattle.sup_replica.specs.Acts.{act_step, deliver, kept_by}
 
 pub record Station (K : Type 0) : Type 0 where
@@ -33,13 +33,13 @@ pub data Mail (K : Type 0) : Type 0 where
   an_ack : (from to : Bytes) (n : ℕ) → Mail K
 
 -- the texts of mail: what each is written as, and what bytes are read as, if they are mail at all
-pub record Codec (K : Type 0) : Type 0 where
+pub record MailCodec (K : Type 0) : Type 0 where
   pub write : Mail K → Bytes
   pub read : Bytes → Option (Mail K)
 
 -- a station's answer, its letter, and the station after it
-pub record Move (K : Type 0) : Type 0 where
-  pub done : Told
+pub record StationMove (K : Type 0) : Type 0 where
+  pub done : ToldOutcome
   pub letter : Option (Mail K)
   pub station : Station K
 
@@ -54,11 +54,11 @@ module _ {K : Type 0} where
   kind_of (a_push from to content) = Pushed
   kind_of (an_ack from to n) = Ack n
 
-  abbrev pub letter_of : Codec K → Mail K → Letter
+  abbrev pub letter_of : MailCodec K → Mail K → Letter
   letter_of codec mail = record { to = receiver_of mail; kind = kind_of mail; bytes = codec.write mail }
 
   -- what is answered, with the letter's bytes
-  abbrev pub done_of : Codec K → Move K → Done
+  abbrev pub done_of : MailCodec K → StationMove K → Done
   done_of codec move = record { reply = move.done.reply; effects = move.done.effects; out = option_map (letter_of codec) move.letter }
 
   -- a shipment as mail
@@ -84,24 +84,24 @@ module _ {K : Type 0} (k : Knowledge K) where
   pushed from (Some m) = Some (a_push from m.to m.content)
 
   -- the answer of an act at a station, over the node's
-  abbrev pub moved : Outcome K → Station K → Option (Mail K) → Move K
+  abbrev pub moved : ActOutcome K → Station K → Option (Mail K) → StationMove K
   moved o s letter = record { done = o.done; letter = letter; station = s }
 
-  abbrev pub ship_step : Station K → Option (Mail K) → Result (Move K) Refusal
+  abbrev pub ship_step : Station K → Option (Mail K) → Result (StationMove K) Refusal
   ship_step s None = Err UpToDate
   ship_step s (Some mail) = Ok (record { done = record { reply = Sent; effects = [] }; letter = Some mail; station = s })
 
-  abbrev pub own_step : Weigher → Station K → Act → ℕ → Bool → Result (Move K) Refusal
+  abbrev pub own_step : Weigher → Station K → Act → ℕ → Bool → Result (StationMove K) Refusal
   own_step g s a now saves =
       then_do (kept_by saves (act_step k g s.node a now)) (λ o. Ok (moved o (notes s o.node (unwrap_or o.node.newest k.nothing)) (pushed s.node.name o.letter)))
 
-  abbrev pub volatile_step : Weigher → Station K → Act → ℕ → Bool → Result (Move K) Refusal
+  abbrev pub volatile_step : Weigher → Station K → Act → ℕ → Bool → Result (StationMove K) Refusal
   volatile_step g s a now saves = then_do (kept_by saves (act_step k g s.node a now)) (λ o. Ok (moved o (volatile s o.node) None))
 
   abbrev pub as_message : Bytes → Kind → K → Message K
   as_message to kind content = record { to = to; kind = kind; content = content }
 
-  abbrev pub taken_with : Weigher → Station K → Bytes → Message K → Bool → Option (Mail K) → Result (Move K) Refusal
+  abbrev pub taken_with : Weigher → Station K → Bytes → Message K → Bool → Option (Mail K) → Result (StationMove K) Refusal
   taken_with g s from m saves letter =
       then_do (kept_by saves (deliver k g s.node from m true)) (λ o. Ok (moved o (notes s o.node m.content) letter))
 
@@ -110,7 +110,7 @@ module _ {K : Type 0} (k : Knowledge K) where
   acknowledged s from n = record s { acked = acknowledged_by is_named s.acked from n }
 
   -- a letter is taken; a delta is answered by an acknowledgement of its number
-  abbrev pub mail_step : Weigher → Station K → Mail K → Bool → Result (Move K) Refusal
+  abbrev pub mail_step : Weigher → Station K → Mail K → Bool → Result (StationMove K) Refusal
   mail_step g s (a_delta from to n whole content) saves = taken_with g s from (as_message to delta content) saves (Some (an_ack s.node.name from n))
   mail_step g s (a_push from to content) saves = taken_with g s from (as_message to push content) saves None
   mail_step g s (an_ack from to n) saves =
@@ -120,12 +120,12 @@ module _ {K : Type 0} (k : Knowledge K) where
       (Ok (record { done = record { reply = Acked; effects = [] }; letter = None; station = acknowledged s from n }))))
 
   -- bytes that come, as what they are read as
-  abbrev pub read_step : Weigher → Station K → Option (Mail K) → Bool → Result (Move K) Refusal
+  abbrev pub read_step : Weigher → Station K → Option (Mail K) → Bool → Result (StationMove K) Refusal
   read_step g s None saves = Err BadMessage
   read_step g s (Some mail) saves = mail_step g s mail saves
 
   -- one act of a station, where `saves` says whether a save would hold
-  abbrev pub station_step : Codec K → Weigher → Station K → Act → ℕ → Bool → Result (Move K) Refusal
+  abbrev pub station_step : MailCodec K → Weigher → Station K → Act → ℕ → Bool → Result (StationMove K) Refusal
   station_step codec g s (Of (Ship to)) now saves =
       refused_if (not s.node.up) Down (refused_if (is_named to s.node.name) UnknownNode (ship_step s (shipped s to)))
   station_step codec g s (Of (Deliver bytes)) now saves = refused_if (not s.node.up) Down (read_step g s (codec.read bytes) saves)

@@ -22,20 +22,20 @@ use Rattle.sup_replica.specs.declared.done.Reply.TheVariants.{Added, Replaced, R
 use Rattle.sup_replica.specs.declared.refusal.Refusal.{Refusal}
 use Rattle.sup_replica.specs.declared.refusal.Refusal.TheVariants.{Down, UnknownNode, StaleExit, BadMessage, OutOfMemory, CountSpent, NothingToPush}
 use Rattle.sup_replica.specs.Checks.{refused_if, then_do}
-use Rattle.sup_replica.specs.Nodes.{Knowledge, Node, delta, push, Message, Told, Outcome, is_named, wanted_at}
-use Rattle.sup_replica.specs.Commands.{Reading, next, join, leave, drain, start, replace, delete, register, unregister}
+use Rattle.sup_replica.specs.Nodes.{Knowledge, Node, delta, push, Message, ToldOutcome, ActOutcome, is_named, wanted_at}
+use Rattle.sup_replica.specs.Commands.{CommandReading, next, join, leave, drain, start, replace, delete, register, unregister}
 
 module _ {K : Type 0} where
   -- no operation, no change of the tables
-  abbrev pub only : Node K → Reply → List Effect → Option (Message K) → Outcome K
+  abbrev pub only : Node K → Reply → List Effect → Option (Message K) → ActOutcome K
   only n reply effects letter = record { done = record { reply = reply; effects = effects }; letter = letter; node = n; saves = false }
 
-  abbrev pub push_step : Node K → Bytes → Option K → Result (Outcome K) Refusal
+  abbrev pub push_step : Node K → Bytes → Option K → Result (ActOutcome K) Refusal
   push_step n to None = Err NothingToPush
   push_step n to (Some own) = Ok (only n Sent [] (Some (record { to = to; kind = push; content = own })))
 
 module _ {K : Type 0} (k : Knowledge K) where
-  abbrev pub reading : Node K → Reading
+  abbrev pub reading : Node K → CommandReading
   reading n = record { me = n.name; rows = k.rows n.known; counter = k.counter n.known n.name }
 
   -- an own operation: added to what it knows, counted, and its newest
@@ -47,7 +47,7 @@ module _ {K : Type 0} (k : Knowledge K) (weigher : Weigher) where
   wanted n = wanted_at weigher n.name (k.rows n.known)
 
   -- and then it keeps what is wanted now, without those that leave
-  abbrev pub issues : Node K → Reply → Leaving → K → Outcome K
+  abbrev pub issues : Node K → Reply → Leaving → K → ActOutcome K
   issues n reply leaving own = record {
     done = record { reply = reply; effects = leaving_effects n.supervisor leaving (wanted (with_own k n own)) };
     node = record (with_own k n own) { supervisor = leaving_after n.supervisor leaving (wanted (with_own k n own)) };
@@ -55,11 +55,11 @@ module _ {K : Type 0} (k : Knowledge K) (weigher : Weigher) where
     saves = true;
   }
 
-  abbrev pub command : Node K → Result Operation Refusal → (Operation → Reply) → Result (Outcome K) Refusal
+  abbrev pub command : Node K → Result Operation Refusal → (Operation → Reply) → Result (ActOutcome K) Refusal
   command n issued reply = then_do issued (λ op. Ok (issues n (reply op) Nobody (k.of_one op)))
 
   -- what comes of an exit; a restart changes no tables
-  abbrev pub exit_step : Node K → Bytes → ℕ → Ruling → Result (Outcome K) Refusal
+  abbrev pub exit_step : Node K → Bytes → ℕ → Ruling → Result (ActOutcome K) Refusal
   exit_step n id now Stale = Err StaleExit
   exit_step n id now Restart = Ok (record {
     done = record { reply = Restarted; effects = restart_effects n.supervisor id (lookup (bytes_eq id) n.supervisor.kept) };
@@ -72,7 +72,7 @@ module _ {K : Type 0} (k : Knowledge K) (weigher : Weigher) where
       let op = drop_member (k.rows n.known) n.name in Ok (issues n (GaveUp op.removes) (gave_up id) (k.of_one op))
 
   -- an event at a node that is up
-  abbrev pub up_step : Node K → Event → ℕ → Result (Outcome K) Refusal
+  abbrev pub up_step : Node K → Event → ℕ → Result (ActOutcome K) Refusal
   up_step n (Join label) now = command n (join (reading k n) label) (λ op. Added (next (reading k n)))
   up_step n (Leave m) now = command n (leave (reading k n) m) (λ op. Removed op.removes)
   up_step n (Drain m) now = command n (drain (reading k n) m) (λ op. Replaced (next (reading k n)) op.removes)
@@ -86,7 +86,7 @@ module _ {K : Type 0} (k : Knowledge K) (weigher : Weigher) where
   up_step n (Push to) now = refused_if (is_named to n.name) UnknownNode (push_step n to n.newest)
   up_step n (Deliver bytes) now = Err BadMessage  -- bytes that bring no operations; what a message brings, `deliver` takes
 
-  abbrev pub event_step : Node K → Event → ℕ → Result (Outcome K) Refusal
+  abbrev pub event_step : Node K → Event → ℕ → Result (ActOutcome K) Refusal
   event_step n event now = refused_if (not n.up) Down (up_step n event now)
 
 -- the last check before the save: no number passes the greatest
@@ -94,14 +94,14 @@ abbrev pub passes_greatest : {K : Type 0} → Node K → Bool
 passes_greatest n = nat_lt MAX n.count || (nat_lt MAX n.supervisor.given || nat_lt MAX n.supervisor.boot)
 
 -- what is told, and the node then
-abbrev pub told : {K : Type 0} → Result (Outcome K) Refusal → Result (Told × Node K) Refusal
+abbrev pub told : {K : Type 0} → Result (ActOutcome K) Refusal → Result (ToldOutcome × Node K) Refusal
 told step = then_do step (λ o. refused_if (passes_greatest o.node) CountSpent (Ok (o.done, o.node)))
 
 -- why a step is refused: as it says, or for memory, and that only where it says no refusal but of numbers
-abbrev pub Refuses : {K : Type 0} → Result (Outcome K) Refusal → Refusal → Type 0
-Refuses step r = (told step ≡ Err r) ⊎ ((r ≡ OutOfMemory) × IsOk step)
+abbrev pub StepRefuses : {K : Type 0} → Result (ActOutcome K) Refusal → Refusal → Type 0
+StepRefuses step r = (told step ≡ Err r) ⊎ ((r ≡ OutOfMemory) × IsOk step)
 
 -- result and node are the step's; a refused step changes nothing
-abbrev pub Gives : {K : Type 0} → Result (Outcome K) Refusal → Node K → Result Told Refusal → Node K → Type 0
-Gives step old (Ok done) new = told step ≡ Ok (done, new)
-Gives step old (Err r) new = (new ≡ old) × Refuses step r
+abbrev pub StepGives : {K : Type 0} → Result (ActOutcome K) Refusal → Node K → Result ToldOutcome Refusal → Node K → Type 0
+StepGives step old (Ok done) new = told step ≡ Ok (done, new)
+StepGives step old (Err r) new = (new ≡ old) × StepRefuses step r

@@ -15,7 +15,7 @@ use Rattle.sup_replica.specs.declared.done.Done.{Done}
 use Rattle.sup_replica.specs.declared.done.Reply.TheVariants.{Stopped, Boot}
 use Rattle.sup_replica.specs.declared.refusal.Refusal.{Refusal}
 use Rattle.sup_replica.specs.declared.refusal.Refusal.TheVariants.{Down, AlreadyUp, KeepFailed, BadMessage, OutOfMemory}
-use Rattle.sup_replica.specs.Stations.{Station, Mail, Move}
+use Rattle.sup_replica.specs.Stations.{Station, Mail, StationMove}
 use Rattle.sup_node.specs.Changes.{image_of}
 use Rattle.sup_node.specs.Contents.{station_of}
 use Rattle.sup_node.specs.NodeSteps.{ReadsMail, IsRefused, IsRestart, restart_of, fresh_station, stepped}
@@ -63,7 +63,7 @@ abbrev pub IsNoOwnImage : Bytes → Bytes → Refusal → Type 0
 IsNoOwnImage name bytes r = ((r ≡ BadMessage) × IsForeign name bytes) ⊎ (r ≡ OutOfMemory)
 
 -- what is kept after a step: the new image's text where the step came to a save, which is where it's refused if that fails; else the old bytes
-abbrev pub KeepsImage : Result (Move State) Refusal → Bytes → Bytes → Image → Type 0
+abbrev pub KeepsImage : Result (StationMove State) Refusal → Bytes → Bytes → Image → Type 0
 KeepsImage (Ok move) old new image = new ≡ old
 KeepsImage (Err r) old new image = IsImageText new image
 
@@ -71,7 +71,7 @@ KeepsImage (Err r) old new image = IsImageText new image
 pub record RunningNodeAnswers (g : Weigher) (n : Station State) (kept : Bytes) (event : Event) (now : ℕ) (done : Done) (node : Option (Station State)) (new : Bytes) : Type 0 where
   pub mail : Option (Mail State)
   pub reads : ReadsMail event mail
-  pub move : Move State
+  pub move : StationMove State
   pub moves : stepped g n event now mail true ≡ Ok move
   pub told : IsDoneOf move done
   pub becomes : node ≡ Some move.station

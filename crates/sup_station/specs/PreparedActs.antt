@@ -4,7 +4,7 @@ use mathlib.Core.Logic.{◌⊎◌}
 use Rattle.sup_specs.specs.Values.{Bytes}
 use Rattle.sup_tables.specs.declared.row.Row.{Row}
 use Rattle.sup_tables.specs.States.{State}
-use Rattle.sup_array_text.specs.Arrays.{Shown}
+use Rattle.sup_array_text.specs.Arrays.{ArrayShown}
 use Rattle.sup_wire.specs.declared.image.Image.{Image}
 use Rattle.sup_wire.specs.Drafts.{IsWholeImage}
 use Rattle.sup_wire.specs.RowTexts.{AreTextsOf}
@@ -63,24 +63,24 @@ node_after (Some n) (Changes p) = Some (station_after n p.change)
 node_after n (Stops done) = None
 node_after n (Runs state done) = Some (station_in state)
 
-abbrev pub kept_after : Bytes → Option Shown → Bytes
+abbrev pub kept_after : Bytes → Option ArrayShown → Bytes
 kept_after kept None = kept
 kept_after kept (Some text) = text.text
 
 -- a text that is kept of an image, with the texts of its rows
-pub record IsKept (text : Shown) (image : Image) : Type 0 where
+pub record IsKept (text : ArrayShown) (image : Image) : Type 0 where
   pub is : IsTextFor image text
   pub whole : IsWholeImage image
 
 -- the same where there is an image
-abbrev pub IsKeptOf : Option Image → Option Shown → Type 0
+abbrev pub IsKeptOf : Option Image → Option ArrayShown → Type 0
 IsKeptOf None None = Unit {0}
 IsKeptOf None (Some text) = ⊥
 IsKeptOf (Some image) None = ⊥
 IsKeptOf (Some image) (Some text) = IsKept text image
 
 -- a text that is saved has the texts of these rows
-abbrev pub SavesRows : Option (List Row) → Option Shown → Type 0
+abbrev pub SavesRows : Option (List Row) → Option ArrayShown → Type 0
 SavesRows rows None = Unit {0}
 SavesRows rows (Some text) = AreTextsOf rows (Some text)
 

@@ -2,7 +2,7 @@
 ghost use Rattle.std.specs.Prelude.{◌≡◌, IfOk, IfErr};
 ghost use Rattle.sup_wire.specs.declared.image.Image.{Image};
 ghost use Rattle.sup_wire.specs.Drafts.{IsDraftOfImage, IsWholeImage, SaysImage};
-ghost use Rattle.sup_wire.specs.Faults.{IsFault, IsOrMemory, Says};
+ghost use Rattle.sup_wire.specs.Faults.{IsFault, IsOrMemory, TextSays};
 
 use std::alloc::Global;
 use std::marker::Model;
@@ -33,10 +33,10 @@ impl Still {
     /// The first that applies, as [`WireFault`] orders them; `OutOfMemory` where a growth was refused.
     pub fn read(alloc: Global, text: &[u8]) -> Result<Still, WireFault>
         // What is read is what the text says.
-        ensures ok { IfOk result (λ s. Says IsDraftOfImage text.now s) }
+        ensures ok { IfOk result (λ s. TextSays IsDraftOfImage text.now s) }
         ensures whole { IfOk result IsWholeImage }
         // What a text says of an image is read, unless memory runs out.
-        ensures only { (i : Image) → IsWholeImage i → Says IsDraftOfImage text.now i → IsOrMemory i result }
+        ensures only { (i : Image) → IsWholeImage i → TextSays IsDraftOfImage text.now i → IsOrMemory i result }
         // Which fault it is.
         ensures fault { IfErr result (IsFault SaysImage text.now) }
     {

@@ -24,7 +24,7 @@ use Rattle.sup_tables.specs.declared.row.Row.{Row}
 use Rattle.sup_tables.specs.Rows.{place_cmp, AreInOrder}
 use Rattle.sup_tables.specs.RowLaws.{place_total}
 use Rattle.sup_tables.specs.States.{State}
-use Rattle.sup_tables.specs.Stored.{Values, Stored, member_row, child_row, name_row, stored_rows, state_of}
+use Rattle.sup_tables.specs.Stored.{KeyedValues, StoredTables, member_row, child_row, name_row, stored_rows, state_of}
 use Rattle.sup_tables.specs.Planned.{IsPlanFor}
 use Rattle.sup_tables.specs.Edits.{table_edits}
 use Rattle.sup_tables.proofs.AfterLaws.{rows_after}
@@ -32,19 +32,19 @@ use Rattle.sup_tables.proofs.OrderedRows.{stored_rise}
 use Rattle.sup_tables.proofs.StoredLaws.{IsOrderedStored}
 use Rattle.sup_tables.proofs.TableSteps.{entries_after, entries_rise, found_after, steps_after, edits_of, old_are, new_are, items_by, are_ordered, all_true}
 
-module _ (p : PlannedTables) (a : Stored) (o : IsOrderedStored a) (om : IsStrictlySortedBy text_cmp (keys_of (functions_planned p.members).entries)) (oc : IsStrictlySortedBy text_cmp (keys_of (functions_planned p.children).entries))
+module _ (p : PlannedTables) (a : StoredTables) (o : IsOrderedStored a) (om : IsStrictlySortedBy text_cmp (keys_of (functions_planned p.members).entries)) (oc : IsStrictlySortedBy text_cmp (keys_of (functions_planned p.children).entries))
     (on : IsStrictlySortedBy text_cmp (keys_of (functions_planned p.names).entries)) where
-  abbrev ms : Values MemberInfo
+  abbrev ms : KeyedValues MemberInfo
   ms = (functions_planned p.members).entries
 
-  abbrev cs : Values ChildSpec
+  abbrev cs : KeyedValues ChildSpec
   cs = (functions_planned p.children).entries
 
-  abbrev ns : Values Bytes
+  abbrev ns : KeyedValues Bytes
   ns = (functions_planned p.names).entries
 
   -- what stands under each key once the plan is carried out
-  abbrev made : Stored
+  abbrev made : StoredTables
   made = record {
     member_values = entries_after text_cmp text_total exact_bytes ms a.member_values;
     child_values = entries_after text_cmp text_total exact_bytes cs a.child_values;

@@ -9,7 +9,7 @@ use Rattle.sup_causal.specs.Dots.{Context}
 use Rattle.sup_tables.specs.Rows.{row_cmp}
 use Rattle.sup_tables.specs.States.{State}
 use Rattle.sup_tables.specs.Joined.{join_states, rows_of_both, stays}
-use Rattle.sup_tables.specs.Stored.{Stored, count_stored, state_of}
+use Rattle.sup_tables.specs.Stored.{StoredTables, count_stored, state_of}
 use Rattle.sup_tables.proofs.CountLaws.{stored_count}
 use Rattle.sup_tables.proofs.OrderedRows.{stored_is}
 use Rattle.sup_tables.proofs.StoredLaws.{IsOrderedStored}
@@ -48,5 +48,5 @@ both_length a b =
     omega (arith, risen, left, all)
 
 -- a state has as many rows as its stores have values
-pub state_count : (context : Context) (s : Stored) → IsOrderedStored s → length (state_of context s).rows ≡ count_stored s
+pub state_count : (context : Context) (s : StoredTables) → IsOrderedStored s → length (state_of context s).rows ≡ count_stored s
 state_count context s o = ap length (stored_is s o) ∙ stored_count s

@@ -35,7 +35,7 @@ use Rattle.sup_tables.specs.Rows.{Table, members, children, table_of, key_of, sp
 use Rattle.sup_tables.specs.RowLaws.{row_total, row_tie}
 use Rattle.sup_tables.specs.Readers.{entries, winner, is_open}
 use Rattle.sup_tables.specs.States.{State, IsKept, is_point, row_at}
-use Rattle.sup_tables.specs.Stored.{Stored, value_in, member_row, child_row, state_of}
+use Rattle.sup_tables.specs.Stored.{StoredTables, value_in, member_row, child_row, state_of}
 use Rattle.sup_tables.specs.Planned.{planned_row, IsPlanFor, AreTouched, MembersDiffer}
 use Rattle.sup_tables.proofs.AddLaws.{same_row, and-first, and-second}
 use Rattle.sup_tables.proofs.EligibleLaws.{opens, eligible_told, eligible_same}
@@ -126,7 +126,7 @@ changed_held (Some f) old d = refl
 less_of_key : (k : Bytes) (o v : Ordering) → o ≡ Less → ordering_then (ordering_then (text_cmp k k) o) v ≡ Less
 less_of_key k o v e = ap (λ q. ordering_then (ordering_then q o) v) (tied_itself text_total k) ∙ ap (λ q. ordering_then q v) e
 
-module _ (p : PlannedTables) (context : Context) (a : Stored) (o : IsOrderedStored a) (kept : IsKept (state_of context a)) (u : State) (is : IsPlanFor p (state_of context a) u) where
+module _ (p : PlannedTables) (context : Context) (a : StoredTables) (o : IsOrderedStored a) (kept : IsKept (state_of context a)) (u : State) (is : IsPlanFor p (state_of context a) u) where
   abbrev old : State
   old = state_of context a
 

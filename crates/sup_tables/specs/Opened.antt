@@ -13,16 +13,16 @@ use Rattle.sup_tables.specs.Rows.{Table, members, children, names}
 use Rattle.sup_tables.specs.States.{State, row_at}
 use Rattle.sup_tables.specs.Joined.{IsTables}
 use Rattle.sup_tables.specs.Planned.{most_rows}
-use Rattle.sup_tables.specs.Stored.{Stored, value_in, member_row, child_row, name_row}
+use Rattle.sup_tables.specs.Stored.{StoredTables, value_in, member_row, child_row, name_row}
 
 -- the row of a dot under a table and a key
-abbrev pub held_row : Stored → Dot → Table → Bytes → Option Row
+abbrev pub held_row : StoredTables → Dot → Table → Bytes → Option Row
 held_row s d members k = option_map (member_row k d) (value_in s.member_values d k)
 held_row s d children k = option_map (child_row k d) (value_in s.child_values d k)
 held_row s d names k = option_map (name_row k d) (value_in s.name_values d k)
 
 -- a context and stores are those of a state
-pub record Holds (u : State) (context : Context) (s : Stored) : Type 0 where
+pub record HoldsState (u : State) (context : Context) (s : StoredTables) : Type 0 where
   pub dots : (d : Dot) → has u.context d ≡ has context d
   pub rows : (d : Dot) (t : Table) (k : Bytes) → row_at u.rows d t k ≡ held_row s d t k
   pub tables : IsTables u

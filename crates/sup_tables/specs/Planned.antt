@@ -21,7 +21,7 @@ use Rattle.sup_tables.specs.Rows.{Table, members, children, names}
 use Rattle.sup_tables.specs.Readers.{winner, eligible}
 use Rattle.sup_tables.specs.States.{State, row_at}
 use Rattle.sup_tables.specs.Joined.{IsTables}
-use Rattle.sup_tables.specs.Stored.{Values, Stored, value_in, member_row, child_row, name_row}
+use Rattle.sup_tables.specs.Stored.{KeyedValues, StoredTables, value_in, member_row, child_row, name_row}
 use Rattle.sup_tables.specs.declared.planning.PlannedTables.{PlannedTables}
 
 -- the row at a point of a key, once its function is changed
@@ -47,10 +47,10 @@ pub record IsPlanFor (p : PlannedTables) (old new : State) : Type 0 where
   pub room : length new.rows ≤ most_rows
 
 -- what is planned for a table are the higher values
-abbrev pub IsPlanned : {V : Type 0} → (V → V → Ordering) → (Bytes → Option (DotFun V)) → Context → Values V → Context → Values V → Type 0
+abbrev pub IsPlanned : {V : Type 0} → (V → V → Ordering) → (Bytes → Option (DotFun V)) → Context → KeyedValues V → Context → KeyedValues V → Type 0
 IsPlanned cmp changed ca a cb b = (d : Dot) (k : Bytes) → changed_at (changed k) (value_in a d k) d ≡ value_at (higher (lesser cmp) (standing (has ca d) (value_in a d k)) (standing (has cb d) (value_in b d k)))
 
-pub record ArePlanned (p : PlannedTables) (ca : Context) (a : Stored) (cb : Context) (b : Stored) : Type 0 where
+pub record ArePlanned (p : PlannedTables) (ca : Context) (a : StoredTables) (cb : Context) (b : StoredTables) : Type 0 where
   pub at_members : IsPlanned (member_info_ord.ghosts).cmp (get text_cmp (functions_planned p.members)) ca a.member_values cb b.member_values
   pub at_children : IsPlanned (child_spec_ord.ghosts).cmp (get text_cmp (functions_planned p.children)) ca a.child_values cb b.child_values
   pub at_names : IsPlanned text_cmp (get text_cmp (functions_planned p.names)) ca a.name_values cb b.name_values

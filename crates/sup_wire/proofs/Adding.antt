@@ -14,29 +14,29 @@ use Rattle.json.specs.Json as json
 use Rattle.json.proofs.Printed.Trees.{value-json_tokens}
 use Rattle.std.proofs.Common.{append-nil}
 use Rattle.serde_json.proofs.Numbers.{number_of-decimal}
-use Rattle.sup_wire.specs.Writing.{Adds, WritesDraft, tokens_of, field_tokens}
-use Rattle.sup_wire.specs.Faults.{Says, IsTextOf, IsTextAfter}
+use Rattle.sup_wire.specs.Writing.{AddsTokens, WritesDraft, tokens_of, field_tokens}
+use Rattle.sup_wire.specs.Faults.{TextSays, IsTextOf, IsTextAfter}
 use Rattle.sup_wire.specs.Drafts.{Draft}
 use Rattle.sup_wire.specs.Forms.{value_of}
 use Rattle.sup_wire.specs.declared.version.Version.TheVariants.{Two}
 use Rattle.sup_specs.specs.Values.{Bytes}
 
-pub adds_field : (a b c : Written) (name : List ℕ) (d : Data) → b.before ≡ a.before → b.tokens ≡ a.tokens ++ key name ∷ [] → Adds b c (tokens_of d) → Adds a c (field_tokens name d)
+pub adds_field : (a b c : Written) (name : List ℕ) (d : Data) → b.before ≡ a.before → b.tokens ≡ a.tokens ++ key name ∷ [] → AddsTokens b c (tokens_of d) → AddsTokens a c (field_tokens name d)
 adds_field a b c name d before tokens after = record {
   before = after.before ∙ before;
   tokens = after.tokens ∙ ap (λ ts. ts ++ tokens_of d) tokens ∙ append_assoc a.tokens (key name ∷ []) (tokens_of d);
 }
 
-pub adds_one : (a b : Written) (t : Token) → b.before ≡ a.before → b.tokens ≡ a.tokens ++ t ∷ [] → Adds a b (t ∷ [])
+pub adds_one : (a b : Written) (t : Token) → b.before ≡ a.before → b.tokens ≡ a.tokens ++ t ∷ [] → AddsTokens a b (t ∷ [])
 adds_one a b t before tokens = record { before = before; tokens = tokens }
 
-pub adds_then : (a b c : Written) (ts us : List Token) → Adds a b ts → Adds b c us → Adds a c (ts ++ us)
+pub adds_then : (a b c : Written) (ts us : List Token) → AddsTokens a b ts → AddsTokens b c us → AddsTokens a c (ts ++ us)
 adds_then a b c ts us x y = record {
   before = y.before ∙ x.before;
   tokens = y.tokens ∙ ap (λ w. w ++ us) x.tokens ∙ append_assoc a.tokens ts us;
 }
 
-pub adds_four : (a b c d e : Written) (t : Token) (ts us vs : List Token) → b.before ≡ a.before → b.tokens ≡ a.tokens ++ t ∷ [] → Adds b c ts → Adds c d us → Adds d e vs → Adds a e (t ∷ (ts ++ (us ++ vs)))
+pub adds_four : (a b c d e : Written) (t : Token) (ts us vs : List Token) → b.before ≡ a.before → b.tokens ≡ a.tokens ++ t ∷ [] → AddsTokens b c ts → AddsTokens c d us → AddsTokens d e vs → AddsTokens a e (t ∷ (ts ++ (us ++ vs)))
 adds_four a b c d e t ts us vs before tokens x y z = record {
   before = z.before ∙ y.before ∙ x.before ∙ before;
   tokens = z.tokens ∙ ap (λ w. w ++ vs) (y.tokens ∙ ap (λ w. w ++ us) (x.tokens ∙ ap (λ w. w ++ ts) tokens)) ∙ simp append_assoc;
@@ -74,5 +74,5 @@ pub text_alone : {M : Type 0} (IsDraft : M → Draft → Type 0) (InRange : M �
 text_alone IsDraft InRange x front all none after =
     subst (λ t. IsTextOf IsDraft InRange t x) (sym (after.parts ∙ ap (λ f. f ++ after.text) none)) after.is
 
-pub says_text : {M : Type 0} (IsDraft : M → Draft → Type 0) (InRange : M → Type 0) (x : M) (text : Bytes) → IsTextOf IsDraft InRange text x → InRange x → Says IsDraft text x
+pub says_text : {M : Type 0} (IsDraft : M → Draft → Type 0) (InRange : M → Type 0) (x : M) (text : Bytes) → IsTextOf IsDraft InRange text x → InRange x → TextSays IsDraft text x
 says_text IsDraft InRange x text is range = record { version = Two; draft = is.draft; same = is.same; formed = is.formed range; json = is.json }

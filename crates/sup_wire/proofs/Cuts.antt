@@ -14,7 +14,7 @@ use Rattle.sup_tables.specs.Rows.{AreInOrder}
 use Rattle.sup_tables.specs.States.{State}
 use Rattle.sup_tables.proofs.OperationLaws.{both_ways}
 use Rattle.sup_tables.proofs.OneForm.{same_parts, same_state}
-use Rattle.sup_wire.specs.Drafts.{Parts, IsCut, IsWhole, AreCanonical}
+use Rattle.sup_wire.specs.Drafts.{TableParts, IsCut, IsWhole, AreCanonical}
 
 module _ (holds : Dot → Bool) (counted : (d : Dot) → holds d ≡ true → IsCounted d) (vector : List (Bytes × ℕ)) (cloud : List Dot) (is_vector : IsVector holds vector) (is_cloud : IsCloud holds cloud) where
   in_cut : (d : Dot) → holds d ≡ true → in_parts vector cloud d ≡ true
@@ -37,7 +37,7 @@ module _ (holds : Dot → Bool) (counted : (d : Dot) → holds d ≡ true → Is
   has_cut d = both_ways _ _ (in_cut d) (from_cut d)
 
 -- the parts of a whole state are canonical
-pub cut_sound : (s : State) (p : Parts) → IsWhole s → IsCut s p → AreCanonical p
+pub cut_sound : (s : State) (p : TableParts) → IsWhole s → IsCut s p → AreCanonical p
 cut_sound s p whole cut = record {
   context = cut_canonical (has s.context) whole.counted p.vector p.cloud cut.vector cut.cloud;
   in_order = subst AreInOrder (sym cut.rows) whole.in_order;
@@ -46,7 +46,7 @@ cut_sound s p whole cut = record {
 }
 
 -- a state is told by its parts
-pub one_state : (s t : State) (p : Parts) → IsWhole s → IsCut s p → IsWhole t → IsCut t p → s ≡ t
+pub one_state : (s t : State) (p : TableParts) → IsWhole s → IsCut s p → IsWhole t → IsCut t p → s ≡ t
 one_state s t p ws cs wt ct =
     same_state s t ws.tables wt.tables (same_parts s t
     (λ d. has_cut (has s.context) ws.counted p.vector p.cloud cs.vector cs.cloud d ∙ sym (has_cut (has t.context) wt.counted p.vector p.cloud ct.vector ct.cloud d))

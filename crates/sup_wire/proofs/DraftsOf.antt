@@ -5,7 +5,7 @@ use Rattle.sup_tables.specs.States.{State}
 use Rattle.sup_wire.specs.declared.message.Message.{Message}
 use Rattle.sup_wire.specs.declared.message.Message.TheVariants.{Ack, Push, Delta}
 use Rattle.sup_wire.specs.declared.image.Image.{Image}
-use Rattle.sup_wire.specs.Drafts.{Parts, Draft, ack, push, delta, image, IsCut, IsDraftOf, IsDraftOfImage, SaysMessage, SaysImage, IsSound, IsWhole, IsWholeMessage, IsWholeImage}
+use Rattle.sup_wire.specs.Drafts.{TableParts, Draft, ack, push, delta, image, IsCut, IsDraftOf, IsDraftOfImage, SaysMessage, SaysImage, IsSound, IsWhole, IsWholeMessage, IsWholeImage}
 use Rattle.sup_wire.proofs.Cuts.{cut_sound, one_state}
 
 pub message_kind : (m : Message) (x : Draft) → IsDraftOf m x → SaysMessage x
@@ -49,14 +49,14 @@ second (push from to p) = 0
 second (delta from to n p) = 0
 second (image node boot count p) = count
 
-abbrev parts_in : Draft → Parts → Parts
+abbrev parts_in : Draft → TableParts → TableParts
 parts_in (ack from to n) p = p
 parts_in (push from to q) p = q
 parts_in (delta from to n q) p = q
 parts_in (image node boot count q) p = q
 
 -- two states of the parts of one draft
-same_state : (s t : State) (p q : Parts) (x y : Draft) → x ≡ y → parts_in x p ≡ p → parts_in y p ≡ q → IsWhole s → IsCut s p → IsWhole t → IsCut t q → t ≡ s
+same_state : (s t : State) (p q : TableParts) (x y : Draft) → x ≡ y → parts_in x p ≡ p → parts_in y p ≡ q → IsWhole s → IsCut s p → IsWhole t → IsCut t q → t ≡ s
 same_state s t p q x y same is other ws cs wt ct =
     let one : q ≡ p = sym other ∙ ap (λ z. parts_in z p) (sym same) ∙ is in
     one_state t s p wt (subst (IsCut t) one ct) ws cs

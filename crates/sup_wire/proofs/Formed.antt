@@ -15,7 +15,7 @@ use Rattle.sup_tables.specs.declared.row.Entry.TheVariants.{Member, Child, Name}
 use Rattle.sup_tables.specs.declared.row.Row.{Row}
 use Rattle.sup_tables.specs.States.{State, HasDotsOf}
 use Rattle.sup_wire.specs.declared.version.Version.TheVariants.{Two}
-use Rattle.sup_wire.specs.Drafts.{Parts, ack, push, delta, image, IsCut}
+use Rattle.sup_wire.specs.Drafts.{TableParts, ack, push, delta, image, IsCut}
 use Rattle.sup_wire.specs.Forms.{IsName, IsCount, IsDot, IsNote, IsShutdown, IsEntry, IsRow, IsWritten, AreWritten, AreParts, value_of}
 use Rattle.sup_wire.specs.Writing.{ReadsBack}
 use Rattle.sup_wire.proofs.ReadBack.{readable_back}
@@ -35,7 +35,7 @@ rows holds (r ∷ rs) counted written there =
     let c = counted r.dot there.0 in
     ((written.0.0, record { node = written.0.1; counter = record { least = c.0; most = c.1 } }), rows holds rs counted written.1 there.1)
 
-pub parts_formed : (s : State) (p : Parts) → ((d : Dot) → has s.context d ≡ true → IsCounted d) → HasDotsOf s.context s.rows → IsCut s p → AreWritten p → AreParts Two p
+pub parts_formed : (s : State) (p : TableParts) → ((d : Dot) → has s.context d ≡ true → IsCounted d) → HasDotsOf s.context s.rows → IsCut s p → AreWritten p → AreParts Two p
 parts_formed s p counted covered cut written =
     let canonical = cut_canonical (has s.context) counted p.vector p.cloud cut.vector cut.cloud in
     record {
@@ -71,26 +71,26 @@ row_fits : (rs : List Row) → AllByRecursion (IsRow Two) rs → AllByRecursion 
 row_fits [] all = tt
 row_fits (r ∷ rs) all = ((let m = all.0.1.counter.most in omega (arith, m), entry_fits r.entry all.0.0), row_fits rs all.1)
 
-pub parts_fit : (s : State) (p : Parts) → IsCut s p → AreParts Two p → PartsFit p
+pub parts_fit : (s : State) (p : TableParts) → IsCut s p → AreParts Two p → PartsFit p
 parts_fit s p cut are = record { by_name = cut.vector.by_name; vector = note_fits p.vector are.vector; cloud = dot_fits p.cloud are.cloud; rows = row_fits p.rows are.rows }
 
 -- ---- whole values
 pub ack_back : (from to : Bytes) (n : ℕ) → Fits n → ReadsBack (value_of (ack from to n))
 ack_back from to n fits = readable_back (value_of (ack from to n)) (tt, (refl, (refl, (refl, (refl, tt)))), (tt, (refl, (refl, (refl, tt))), (fits, (refl, (refl, tt)), (tt, (refl, tt), (lit< tt, tt, tt))))) (lit≤ tt)
 
-pub push_back : (from to : Bytes) (p : Parts) → PartsFit p → ReadsBack (value_of (push from to p))
+pub push_back : (from to : Bytes) (p : TableParts) → PartsFit p → ReadsBack (value_of (push from to p))
 push_back from to p fit =
     let c = context_low p in
     let r = rows_low p.rows in
     readable_back (value_of (push from to p)) (context_readable p fit, (refl, (refl, (refl, (refl, (refl, tt))))), (tt, (refl, (refl, (refl, (refl, tt)))), (tt, (refl, (refl, (refl, tt))), (rows_are_readable p.rows fit.rows, (refl, (refl, tt)), (tt, (refl, tt), (lit< tt, tt, tt)))))) (omega (arith, c, r))
 
-pub delta_back : (from to : Bytes) (n : ℕ) (p : Parts) → Fits n → PartsFit p → ReadsBack (value_of (delta from to n p))
+pub delta_back : (from to : Bytes) (n : ℕ) (p : TableParts) → Fits n → PartsFit p → ReadsBack (value_of (delta from to n p))
 delta_back from to n p fits fit =
     let c = context_low p in
     let r = rows_low p.rows in
     readable_back (value_of (delta from to n p)) (context_readable p fit, (refl, (refl, (refl, (refl, (refl, (refl, tt)))))), (tt, (refl, (refl, (refl, (refl, (refl, tt))))), (tt, (refl, (refl, (refl, (refl, tt)))), (fits, (refl, (refl, (refl, tt))), (rows_are_readable p.rows fit.rows, (refl, (refl, tt)), (tt, (refl, tt), (lit< tt, tt, tt))))))) (omega (arith, c, r))
 
-pub image_back : (node : Bytes) (boot count : ℕ) (p : Parts) → Fits boot → Fits count → PartsFit p → ReadsBack (value_of (image node boot count p))
+pub image_back : (node : Bytes) (boot count : ℕ) (p : TableParts) → Fits boot → Fits count → PartsFit p → ReadsBack (value_of (image node boot count p))
 image_back node boot count p fb fc fit =
     let c = context_low p in
     let r = rows_low p.rows in

@@ -8,7 +8,7 @@ use Rattle.serde_json.specs.Data.{Data}
 use Rattle.serde_json.specs.Written.{compact_text}
 use Rattle.serde_json.proofs.Texts.{print-outline}
 use Rattle.sup_specs.specs.Values.{Bytes}
-use Rattle.sup_wire.specs.Writing.{Adds, tokens_of, field_tokens}
+use Rattle.sup_wire.specs.Writing.{AddsTokens, tokens_of, field_tokens}
 use Rattle.sup_wire.specs.ImageTexts.{field_text, image_back}
 
 print_key : (name : Bytes) (ts : List Token) → print (key name ∷ ts) ≡ quoted name ++ 58 ∷ print ts
@@ -16,7 +16,7 @@ unfolding print_from
 print_key name ts = append_assoc (quoted name) (58 ∷ []) (print ts)
 
 -- a field and a comma
-pub field_written : (a b : Written) (front mid all name : Bytes) (d : Data) → a.before ≡ front → a.tokens ≡ [] → Adds a b (field_tokens name d) → mid ≡ b.before ++ print b.tokens → all ≡ mid ++ 44 ∷ [] → all ≡ front ++ field_text name (compact_text d)
+pub field_written : (a b : Written) (front mid all name : Bytes) (d : Data) → a.before ≡ front → a.tokens ≡ [] → AddsTokens a b (field_tokens name d) → mid ≡ b.before ++ print b.tokens → all ≡ mid ++ 44 ∷ [] → all ≡ front ++ field_text name (compact_text d)
 field_written a b front mid all name d before none adds inner comma =
     comma ∙ ap (λ t. t ++ 44 ∷ []) (inner ∙ ap₂ (λ f ts. f ++ print ts) (adds.before ∙ before) (adds.tokens ∙ ap (λ ts. ts ++ field_tokens name d) none)
     ∙ ap (λ t. front ++ t) (print_key name (tokens_of d) ∙ ap (λ t. quoted name ++ 58 ∷ t) (print-outline d)))

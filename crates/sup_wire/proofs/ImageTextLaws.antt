@@ -29,7 +29,7 @@ use Rattle.sup_tables.specs.States.{HasDotsOf}
 use Rattle.sup_array_text.specs.Arrays.{joined, whole}
 use Rattle.sup_wire.specs.declared.image.Image.{Image}
 use Rattle.sup_wire.specs.declared.version.Version.TheVariants.{Two}
-use Rattle.sup_wire.specs.Drafts.{Parts, image, IsCut, IsDraftOfImage}
+use Rattle.sup_wire.specs.Drafts.{TableParts, image, IsCut, IsDraftOfImage}
 use Rattle.sup_wire.specs.Faults.{IsJson, IsTextOf, IsImageInRange}
 use Rattle.sup_wire.specs.Forms.{IsName, IsShutdown, IsEntry, IsWritten, AreWritten, IsRow, dot_value, vector_members, restart_value, shutdown_value, status_value, row_value, rows_value, value_of, context_value}
 use Rattle.sup_wire.specs.RowTexts.{row_text}
@@ -53,7 +53,7 @@ parts : (a b c d e f g x1 x2 x3 x4 x5 j x7 : Bytes)
 parts a b c d e f g x1 x2 x3 x4 x5 j x7 = simp append_assoc
 
 -- an image's text is what stands before its rows, their array, and what stands behind
-pub image_text : (node : Bytes) (boot count : ℕ) (p : Parts) → compact_text (value_of (image node boot count p)) ≡ whole (image_front node boot count p) (map row_text p.rows) image_back
+pub image_text : (node : Bytes) (boot count : ℕ) (p : TableParts) → compact_text (value_of (image node boot count p)) ≡ whole (image_front node boot count p) (map row_text p.rows) image_back
 image_text node boot count p =
     ap (λ t. 123 ∷ (quoted (codes "boot") ++ 58 ∷ (decimal boot ++ 44 ∷ (quoted (codes "count") ++ 58 ∷ (decimal count ++ 44 ∷ (quoted (codes "ctx") ++ 58 ∷ (compact_text (context_value p) ++ 44 ∷ (quoted (codes "kind") ++ 58 ∷ (quoted (codes "image")
     ++ 44 ∷ (quoted (codes "node") ++ 58 ∷ (quoted node ++ 44 ∷ (quoted (codes "rows") ++ 58 ∷ (t ++ 44 ∷ (quoted (codes "v") ++ 58 ∷ (decimal 2 ++ 125 ∷ [])))))))))))))))
@@ -119,7 +119,7 @@ rows_texts : (rows : List Row) → AllByRecursion IsWritten rows → AllByRecurs
 rows_texts [] written fits = tt
 rows_texts (r ∷ rs) written fits = (row_texts r.dot r.entry written.0.0 written.0.1 fits.0.0, rows_texts rs written.1 fits.1)
 
-image_texts : (node : Bytes) (boot count : ℕ) (p : Parts) → IsName node → Fits boot → Fits count → AreWritten p → PartsFit p → AreTexts (value_of (image node boot count p))
+image_texts : (node : Bytes) (boot count : ℕ) (p : TableParts) → IsName node → Fits boot → Fits count → AreWritten p → PartsFit p → AreTexts (value_of (image node boot count p))
 image_texts node boot count p name fb fc written fit = (
   IsUtf8-are_ascii _ refl,
   (
@@ -141,7 +141,7 @@ image_texts node boot count p name fb fc written fit = (
 )
 
 -- the text that is put together is the image's one text
-pub text_is : (i : Image) (p : Parts) (text : Bytes) → ((d : Dot) → has i.state.context d ≡ true → IsCounted d) → HasDotsOf i.state.context i.state.rows → IsCut i.state p → AreWritten p → IsName i.node → i.boot < 2 ^ 64 → i.count < 2 ^ 64
+pub text_is : (i : Image) (p : TableParts) (text : Bytes) → ((d : Dot) → has i.state.context d ≡ true → IsCounted d) → HasDotsOf i.state.context i.state.rows → IsCut i.state p → AreWritten p → IsName i.node → i.boot < 2 ^ 64 → i.count < 2 ^ 64
     → text ≡ whole (image_front i.node i.boot i.count p) (map row_text p.rows) image_back → IsTextOf IsDraftOfImage IsImageInRange text i
 text_is i p text counted covered cut written name fb fc same =
     let formed = parts_formed i.state p counted covered cut written in

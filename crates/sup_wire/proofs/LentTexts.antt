@@ -8,11 +8,11 @@ use Rattle.sup_tables.specs.declared.row.Row.{Row}
 use Rattle.sup_tables.specs.Lent.{rows_lent}
 use Rattle.sup_tables.specs.declared.lent.LentRow.{LentRow}
 use Rattle.sup_tables.specs.States.{State, HasDotsOf, with_rows}
-use Rattle.sup_array_text.specs.Arrays.{Shown, shown, whole}
+use Rattle.sup_array_text.specs.Arrays.{ArrayShown, shown, whole}
 use Rattle.sup_wire.specs.declared.heading.Heading.{Heading}
 use Rattle.sup_wire.specs.declared.image.Image.{Image}
 use Rattle.sup_wire.specs.declared.lent_image.LentImage.{LentImage}
-use Rattle.sup_wire.specs.Drafts.{Parts, IsCut, IsDraftOfImage, IsWholeImage}
+use Rattle.sup_wire.specs.Drafts.{TableParts, IsCut, IsDraftOfImage, IsWholeImage}
 use Rattle.sup_wire.specs.Faults.{IsTextOf, IsTextAfter, IsImageInRange}
 use Rattle.sup_wire.specs.Forms.{IsName, IsWritten, AreWritten}
 use Rattle.sup_wire.specs.Lent.{IsLentOf}
@@ -31,7 +31,7 @@ lent_is l i lent = ap₂ (λ n b. image_with n b l.count (with_rows l.context.no
 pub headed_is : (h : Heading) (rows : List LentRow) (i : Image) → IsHeaded i h → rows_lent rows ≡ i.state.rows → image_with h.node h.boot h.count (with_rows h.context.now (rows_lent rows)) ≡ i
 headed_is h rows i headed same = ap₂ (λ n b. image_with n b h.count (with_rows h.context.now (rows_lent rows))) (sym headed.node) (sym headed.boot) ∙ ap₂ (image_with i.node i.boot) (sym headed.count) (ap₂ with_rows (sym headed.context) same)
 
-module _ (node : Bytes) (boot count : ℕ) (s : State) (p : Parts) (counted : (d : Dot) → has s.context d ≡ true → IsCounted d) (cut : IsCut s p) (written : AreWritten p) (fb : boot < 2 ^ 64) (fc : count < 2 ^ 64) (name : IsName node) (front : Bytes) (t : Shown)
+module _ (node : Bytes) (boot count : ℕ) (s : State) (p : TableParts) (counted : (d : Dot) → has s.context d ≡ true → IsCounted d) (cut : IsCut s p) (written : AreWritten p) (fb : boot < 2 ^ 64) (fc : count < 2 ^ 64) (name : IsName node) (front : Bytes) (t : ArrayShown)
     (shape : t ≡ shown (front ++ whole (image_front node boot count p) (map row_text p.rows) image_back) (map row_text p.rows)) where
   covered_here : (i : Image) → image_with node boot count s ≡ i → HasDotsOf i.state.context i.state.rows → HasDotsOf s.context s.rows
   covered_here i same covered = subst (λ (j : Image). HasDotsOf j.state.context j.state.rows) (sym same) covered

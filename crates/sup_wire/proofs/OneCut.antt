@@ -22,7 +22,7 @@ use Rattle.serde_json.specs.Written.{compact_text}
 use Rattle.sup_wire.specs.declared.message.Message.{Message}
 use Rattle.sup_wire.specs.declared.message.Message.TheVariants.{Ack, Push, Delta}
 use Rattle.sup_wire.specs.declared.image.Image.{Image}
-use Rattle.sup_wire.specs.Drafts.{Parts, Draft, push, delta, image, IsCut, IsDraftOf, IsDraftOfImage}
+use Rattle.sup_wire.specs.Drafts.{TableParts, Draft, push, delta, image, IsCut, IsDraftOf, IsDraftOfImage}
 use Rattle.sup_wire.specs.Faults.{IsTextOf}
 use Rattle.sup_wire.specs.Forms.{value_of}
 
@@ -76,7 +76,7 @@ one_vector (a ∷ xs) (b ∷ ys) ra rb la lb same = at (text_cmp a.0 b.0) refl (
         let rest : (k : Bytes) → entry xs k ≡ entry ys k = λ k. rest_of a xs ra.0 k ∙ ap₂ (λ n e. cond (is_eq (text_cmp k n)) 0 e) name (same k) ∙ sym (rest_of b ys rb.0 k) in
         ap₂ (λ e es. e ∷ es) (λ i. (name i, count i)) (later rest)
 
-pub one_cut : (s : State) (p q : Parts) → IsCut s p → IsCut s q → p ≡ q
+pub one_cut : (s : State) (p q : TableParts) → IsCut s p → IsCut s q → p ≡ q
 one_cut s p q cp cq =
     let vector : p.vector ≡ q.vector = one_vector p.vector q.vector cp.vector.by_name cq.vector.by_name cp.vector.left_out cq.vector.left_out (λ k. run_is_one (has s.context) k _ _ (cp.vector.runs k) (cq.vector.runs k)) in
     let cloud : p.cloud ≡ q.cloud = one_cloud (has s.context) p.cloud q.cloud cp.cloud cq.cloud in

@@ -9,7 +9,7 @@ use Rattle.std.specs.List.{AllByRecursion}
 use Rattle.serde_json.specs.Find.{as_object}
 use Rattle.sup_causal.specs.declared.dot.Dot.{Dot}
 use Rattle.sup_wire.specs.declared.version.Version.{Version}
-use Rattle.sup_wire.specs.Drafts.{Parts}
+use Rattle.sup_wire.specs.Drafts.{TableParts}
 use Rattle.sup_wire.specs.Forms.{vector_members, context_value, rows_value, IsDot, IsNote, AreParts}
 use Rattle.sup_wire.specs.FieldReads.{has_just}
 use Rattle.sup_wire.specs.RowReads.{rows_at}
@@ -44,11 +44,11 @@ context_takes d c e =
     let whole : d ≡ pair_value (vector, cloud) = is ∙ ap₂ (λ u v. object (member (codes "cloud") u (member (codes "vector") v no_members))) p.0 q.0 in
     (whole ∙ ap pair_value made, subst (λ (z : List (Bytes × ℕ) × List Dot). AllByRecursion IsNote z.0 × AllByRecursion IsDot z.1) made (q.1, p.1))))
 
-context_again : (t : Parts) → AllByRecursion IsNote t.vector → AllByRecursion IsDot t.cloud → context_at (context_value t) ≡ Some (t.vector, t.cloud)
+context_again : (t : TableParts) → AllByRecursion IsNote t.vector → AllByRecursion IsDot t.cloud → context_at (context_value t) ≡ Some (t.vector, t.cloud)
 unfolding context_at context_fields has_just cloud_in vector_in vector_at
 context_again t notes dots = rw (dots_again t.cloud dots, notes_again t.vector notes)
 
-pub parts_takes : (v : Version) (d x y : Data) (t : Parts) → get (codes "ctx") d ≡ Some x → get (codes "rows") d ≡ Some y → parts_at v d ≡ Some t → (x ≡ context_value t) × (y ≡ rows_value v t.rows) × AreParts v t
+pub parts_takes : (v : Version) (d x y : Data) (t : TableParts) → get (codes "ctx") d ≡ Some x → get (codes "rows") d ≡ Some y → parts_at v d ≡ Some t → (x ≡ context_value t) × (y ≡ rows_value v t.rows) × AreParts v t
 unfolding parts_at context_in rows_in
 parts_takes v d x y t context_there rows_there e =
     option_and_then_some _ (option_and_then context_at (get (codes "ctx") d)) t e (λ c c_is rest.
@@ -56,8 +56,8 @@ parts_takes v d x y t context_there rows_there e =
     let p = context_takes x c (sym (ap (λ o. option_and_then context_at o) context_there) ∙ c_is) in
     let q = rows_takes v y rows (sym (ap (λ o. option_and_then (rows_at v) o) rows_there) ∙ rows_is) in
     let made : record { vector = c.0; cloud = c.1; rows = rows } ≡ t = same_Some _ t last in
-    (p.0 ∙ ap context_value made, q.0 ∙ ap (λ (z : Parts). rows_value v z.rows) made, subst (AreParts v) made (record { vector = p.1.0; cloud = p.1.1; rows = q.1 }))))
+    (p.0 ∙ ap context_value made, q.0 ∙ ap (λ (z : TableParts). rows_value v z.rows) made, subst (AreParts v) made (record { vector = p.1.0; cloud = p.1.1; rows = q.1 }))))
 
-pub parts_again : (v : Version) (d : Data) (t : Parts) → get (codes "ctx") d ≡ Some (context_value t) → get (codes "rows") d ≡ Some (rows_value v t.rows) → AreParts v t → parts_at v d ≡ Some t
+pub parts_again : (v : Version) (d : Data) (t : TableParts) → get (codes "ctx") d ≡ Some (context_value t) → get (codes "rows") d ≡ Some (rows_value v t.rows) → AreParts v t → parts_at v d ≡ Some t
 unfolding parts_at context_in rows_in
 parts_again v d t context_there rows_there are = rw (context_there, rows_there, context_again t are.vector are.cloud, rows_again v t.rows are.rows)

@@ -10,8 +10,8 @@ use Rattle.sup_wire.specs.declared.version.Version.{Version}
 use Rattle.sup_wire.specs.declared.version.Version.TheVariants.{One, Two}
 use Rattle.sup_wire.specs.Drafts.{Draft, IsSound}
 use Rattle.sup_wire.specs.Forms.{version_number, value_in, IsFormed}
-use Rattle.sup_wire.specs.Faults.{version_at, IsJson, Says, IsMisformed, IsFault, IsOrMemory}
-use Rattle.sup_wire.specs.DraftReads.{Decodes}
+use Rattle.sup_wire.specs.Faults.{version_at, IsJson, TextSays, IsMisformed, IsFault, IsOrMemory}
+use Rattle.sup_wire.specs.DraftReads.{DecodesTo}
 
 one_value : (text : Bytes) (d e : Data) → IsJson text d → IsJson text e → d ≡ e
 one_value text d e p q = same_Some d e (sym p.value ∙ q.value)
@@ -34,7 +34,7 @@ read_so at w v d o says says_too read = subst (λ u. at u d ≡ o) (version_tie 
 
 module _ {M : Type 0} (IsDraft : M → Draft → Type 0) (Whole : M → Type 0) (Kind : Draft → Type 0) (at : Version → Data → Option Draft)
     (takes : (v : Version) (d : Data) (x : Draft) → version_at d ≡ Some (version_number v) → at v d ≡ Some x → (d ≡ value_in v x) × IsFormed v x × Kind x) where
-  pub decode_ok : (text : Bytes) (d : Data) (r : Result M WireFault) → IsJson text d → Decodes IsDraft Whole r (version_at d) (λ v. at v d) → IfOk r (λ m. Says IsDraft text m)
+  pub decode_ok : (text : Bytes) (d : Data) (r : Result M WireFault) → IsJson text d → DecodesTo IsDraft Whole r (version_at d) (λ v. at v d) → IfOk r (λ m. TextSays IsDraft text m)
   decode_ok text d (Ok m) is decodes =
       let t = takes decodes.0 d decodes.2.0 decodes.1 decodes.2.1 in
       record { version = decodes.0; draft = decodes.2.0; same = decodes.2.2; formed = t.1; json = subst (IsJson text) t.0 is }
@@ -45,7 +45,7 @@ module _ {M : Type 0} (IsDraft : M → Draft → Type 0) (Whole : M → Type 0) 
     misformed d (inl none) = inl none
     misformed d (inr p) = inr (p.0, p.1, λ x kind formed e. none-some x (sym p.2 ∙ ap (at p.0) e ∙ again p.0 x kind formed))
 
-    pub decode_fault : (text : Bytes) (d : Data) (r : Result M WireFault) → IsJson text d → Decodes IsDraft Whole r (version_at d) (λ v. at v d) → IfErr r (IsFault Kind text)
+    pub decode_fault : (text : Bytes) (d : Data) (r : Result M WireFault) → IsJson text d → DecodesTo IsDraft Whole r (version_at d) (λ v. at v d) → IfErr r (IsFault Kind text)
     decode_fault text d (Ok m) is decodes = tt
     decode_fault text d (Err NotJson) is decodes = absurd decodes
     decode_fault text d (Err NotMessage) is decodes = (d, is, misformed d decodes)
@@ -57,7 +57,7 @@ module _ {M : Type 0} (IsDraft : M → Draft → Type 0) (Whole : M → Type 0) 
 
     module _ (kind : (m : M) (x : Draft) → IsDraft m x → Kind x) (sound : (m : M) (x : Draft) → IsDraft m x → Whole m → IsSound x) (one : (m n : M) (x : Draft) → IsDraft m x → Whole m → IsDraft n x → Whole n → n ≡ m)
         (versioned : (v : Version) (x : Draft) → version_at (value_in v x) ≡ Some (version_number v)) where
-      only_this : (w : Version) (d : Data) (x : Draft) → version_at d ≡ Some (version_number w) → at w d ≡ Some x → (r : Result M WireFault) → Decodes IsDraft Whole r (version_at d) (λ v. at v d) → (m : M) → Whole m → IsDraft m x → IsOrMemory m r
+      only_this : (w : Version) (d : Data) (x : Draft) → version_at d ≡ Some (version_number w) → at w d ≡ Some x → (r : Result M WireFault) → DecodesTo IsDraft Whole r (version_at d) (λ v. at v d) → (m : M) → Whole m → IsDraft m x → IsOrMemory m r
       only_this w d x version is (Ok n) decodes m whole same =
           let read = read_so at w decodes.0 d (Some decodes.2.0) version decodes.1 decodes.2.1 in
           one m n x same whole (subst (IsDraft n) (same_Some decodes.2.0 x (sym read ∙ is)) decodes.2.2) decodes.2.3
@@ -73,7 +73,7 @@ module _ {M : Type 0} (IsDraft : M → Draft → Type 0) (Whole : M → Type 0) 
           absurd (decodes.2.2 (subst IsSound (same_Some x decodes.2.0 (sym is ∙ read)) (sound m x same whole)))
       only_this w d x version is (Err OutOfMemory) decodes m whole same = refl
 
-      pub decode_only : (text : Bytes) (d : Data) (r : Result M WireFault) → IsJson text d → Decodes IsDraft Whole r (version_at d) (λ v. at v d) → (m : M) → Whole m → Says IsDraft text m → IsOrMemory m r
+      pub decode_only : (text : Bytes) (d : Data) (r : Result M WireFault) → IsJson text d → DecodesTo IsDraft Whole r (version_at d) (λ v. at v d) → (m : M) → Whole m → TextSays IsDraft text m → IsOrMemory m r
       decode_only text d r is decodes m whole says =
           let v = says.version in
           let value : d ≡ value_in v says.draft = one_value text d (value_in v says.draft) is says.json in
@@ -83,7 +83,7 @@ module _ {M : Type 0} (IsDraft : M → Draft → Type 0) (Whole : M → Type 0) 
 -- a text is of one version, and says one of what it is read as there
 pub says_one : {M : Type 0} (IsDraft : M → Draft → Type 0) (Whole : M → Type 0) (Kind : Draft → Type 0) (at : Version → Data → Option Draft) → ((v : Version) (x : Draft) → Kind x → IsFormed v x → at v (value_in v x) ≡ Some x)
     → ((v : Version) (x : Draft) → version_at (value_in v x) ≡ Some (version_number v)) → ((m : M) (x : Draft) → IsDraft m x → Kind x)
-    → ((m n : M) (x : Draft) → IsDraft m x → Whole m → IsDraft n x → Whole n → n ≡ m) → (text : Bytes) (m n : M) → Whole m → Whole n → Says IsDraft text m → Says IsDraft text n → n ≡ m
+    → ((m n : M) (x : Draft) → IsDraft m x → Whole m → IsDraft n x → Whole n → n ≡ m) → (text : Bytes) (m n : M) → Whole m → Whole n → TextSays IsDraft text m → TextSays IsDraft text n → n ≡ m
 says_one IsDraft Whole Kind at again versioned kind one text m n wm wn sm sn =
     let value : value_in sm.version sm.draft ≡ value_in sn.version sn.draft = one_value text _ _ sm.json sn.json in
     let number = same_Some _ _ (sym (versioned sm.version sm.draft) ∙ ap version_at value ∙ versioned sn.version sn.draft) in

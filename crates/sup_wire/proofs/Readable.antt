@@ -18,7 +18,7 @@ use Rattle.sup_tables.specs.declared.row.Row.{Row}
 use Rattle.serde_json.specs.Data.{Data, depth, items_depth, members_depth}
 use Rattle.serde_json.specs.View.{items_of}
 use Rattle.sup_wire.specs.declared.version.Version.TheVariants.{Two}
-use Rattle.sup_wire.specs.Drafts.{Parts}
+use Rattle.sup_wire.specs.Drafts.{TableParts}
 use Rattle.sup_wire.specs.Forms.{dot_value, vector_members, context_value, restart_value, shutdown_value, spec_value, status_value, entry_value, row_value, rows_value}
 use Rattle.sup_wire.proofs.ReadBack.{AllAbove, IsReadable, AreReadable, AreMembers}
 
@@ -40,7 +40,7 @@ abbrev pub RowFits : Row → Type 0
 RowFits r = Fits r.dot.counter × EntryFits r.entry
 
 -- what parts need so that their value reads back
-pub record PartsFit (p : Parts) : Type 0 where
+pub record PartsFit (p : TableParts) : Type 0 where
   pub by_name : IsStrictlySortedBy text_cmp (keys_of p.vector)
   pub vector : AllByRecursion (λ e. Fits e.1) p.vector
   pub cloud : AllByRecursion (λ d. Fits d.counter) p.cloud
@@ -120,10 +120,10 @@ row_low (Member m info) d = let s = status_low info.status in omega arith
 row_low (Child id spec) d = let r = restart_low spec.restart in let s = shutdown_low spec.shutdown in omega arith
 row_low (Name name id) d = lit≤ tt
 
-pub context_readable : (p : Parts) → PartsFit p → IsReadable (context_value p)
+pub context_readable : (p : TableParts) → PartsFit p → IsReadable (context_value p)
 context_readable p fit = (each_readable dot_value p.cloud (dots_readable p.cloud fit.cloud), (refl, tt), (vector_readable p.vector fit.by_name fit.vector, tt, tt))
 
-pub context_low : (p : Parts) → depth (context_value p) ≤ 3
+pub context_low : (p : TableParts) → depth (context_value p) ≤ 3
 context_low p =
     let c = each_low dot_value 1 p.cloud (λ d. lit≤ tt) in
     let n = vector_low p.vector in

@@ -13,20 +13,20 @@ use Rattle.serde_json.specs.Find.{as_array}
 use Rattle.sup_wire.specs.declared.version.Version.{Version}
 use Rattle.sup_wire.specs.Forms.{dot_value, spec_value, info_value, entry_value, IsEntry, row_value, IsRow, rows_value}
 use Rattle.sup_wire.specs.FieldReads.{name_at, text_at}
-use Rattle.sup_wire.specs.RowReads.{Four, four_in, four_at, dot_at, spec_at, info_at, member_at, child_at, registered_at, entry_at, row_at, rows_at}
+use Rattle.sup_wire.specs.RowReads.{FourItems, four_in, four_at, dot_at, spec_at, info_at, member_at, child_at, registered_at, entry_at, row_at, rows_at}
 use Rattle.sup_wire.proofs.FieldLaws.{as_str-string, name_takes, name_again, text_takes, text_again, chosen, when, same}
 use Rattle.sup_wire.proofs.ListLaws.{as_array-array, dot_takes, dot_again, each_takes, each_again}
 use Rattle.sup_wire.proofs.ChildLaws.{spec_takes, spec_again, info_takes, info_again}
 
-four_in_takes : (ds : Items) (p : Four) → four_in ds ≡ Some p → ds ≡ item p.table (item p.key (item p.dot (item p.value no_items)))
+four_in_takes : (ds : Items) (p : FourItems) → four_in ds ≡ Some p → ds ≡ item p.table (item p.key (item p.dot (item p.value no_items)))
 four_in_takes no_items p e = absurd (none-some p e)
 four_in_takes (item a no_items) p e = absurd (none-some p e)
 four_in_takes (item a (item b no_items)) p e = absurd (none-some p e)
 four_in_takes (item a (item b (item c no_items))) p e = absurd (none-some p e)
-four_in_takes (item a (item b (item c (item d no_items)))) p e = ap (λ (q : Four). item q.table (item q.key (item q.dot (item q.value no_items)))) (same_Some (record { table = a; key = b; dot = c; value = d }) p e)
+four_in_takes (item a (item b (item c (item d no_items)))) p e = ap (λ (q : FourItems). item q.table (item q.key (item q.dot (item q.value no_items)))) (same_Some (record { table = a; key = b; dot = c; value = d }) p e)
 four_in_takes (item a (item b (item c (item d (item f ds))))) p e = absurd (none-some p e)
 
-four_takes : (d : Data) (p : Four) → four_at d ≡ Some p → d ≡ array (item p.table (item p.key (item p.dot (item p.value no_items))))
+four_takes : (d : Data) (p : FourItems) → four_at d ≡ Some p → d ≡ array (item p.table (item p.key (item p.dot (item p.value no_items))))
 unfolding four_at
 four_takes d p e = option_and_then_some four_in (as_array d) p e (λ ds is rest. as_array-array d ds is ∙ ap array (four_in_takes ds p rest))
 
@@ -86,7 +86,7 @@ row_takes v d x e =
     let whole : d ≡ row_value v y = four_takes d p p_is ∙ ap₂ (λ u v. array (item u (item p.key (item v (item p.value no_items))))) a b.0 ∙ c.0 (dot_value dot) in
     (whole ∙ ap (row_value v) made, subst (IsRow v) made (c.1, b.1))))))
 
-entry_again : (v : Version) (x : Entry) (dot : Data) → IsEntry v x → (p : Four) × (four_at (entry_value v x dot) ≡ Some p) × (p.dot ≡ dot) × ((table : Bytes) × (as_str p.table ≡ Some table) × (entry_at v table p.key p.value ≡ Some x))
+entry_again : (v : Version) (x : Entry) (dot : Data) → IsEntry v x → (p : FourItems) × (four_at (entry_value v x dot) ≡ Some p) × (p.dot ≡ dot) × ((table : Bytes) × (as_str p.table ≡ Some table) × (entry_at v table p.key p.value ≡ Some x))
 unfolding four_at entry_at member_at child_at registered_at
 entry_again v (Member m info) dot is = (record { table = string (codes "member"); key = string m; dot = dot; value = info_value v info }, refl, refl, (codes "member", refl, rw (name_again m is.0, info_again v info is.1 is.2)))
 entry_again v (Child id spec) dot is = (record { table = string (codes "child"); key = string id; dot = dot; value = spec_value spec }, refl, refl, (codes "child", refl, rw (text_again 1 128 id is.0, spec_again spec is.1)))

@@ -6,7 +6,7 @@ use Rattle.sup_specs.specs.Values.{Bytes}
 use Rattle.sup_specs.specs.declared.child.Shutdown.{Shutdown}
 use Rattle.sup_specs.specs.declared.child.Shutdown.TheVariants.{Brutal, Millis, Infinity}
 use Rattle.sup_specs.specs.declared.child.ChildSpec.{ChildSpec}
-use Rattle.sup_array_text.specs.Arrays.{Shown}
+use Rattle.sup_array_text.specs.Arrays.{ArrayShown}
 use Rattle.sup_tables.specs.declared.row.Entry.{Entry}
 use Rattle.sup_tables.specs.declared.row.Entry.TheVariants.{Member, Child, Name}
 use Rattle.sup_tables.specs.declared.row.Row.{Row}
@@ -33,7 +33,7 @@ row-prop r = hlevel (props, entry-prop)
 pub are_rows-prop : (rows : List Row) (texts : List Bytes) → IsProp (AreRows rows texts)
 are_rows-prop rows texts = let all = AllByRecursion-prop (λ r. IsWritten r × (r.dot.counter < 2 ^ 64)) row-prop rows in hlevel (props, all)
 
-pub are_texts_of-prop : (rows : Option (List Row)) (t : Option Shown) → IsProp (AreTextsOf rows t)
+pub are_texts_of-prop : (rows : Option (List Row)) (t : Option ArrayShown) → IsProp (AreTextsOf rows t)
 are_texts_of-prop None t = hlevel props
 are_texts_of-prop (Some rows) None = hlevel props
 are_texts_of-prop (Some rows) (Some t) = are_rows-prop rows t.items

@@ -9,16 +9,16 @@ use Rattle.sup_tables.specs.declared.row.Row.{Row}
 use Rattle.sup_tables.specs.States.{State, HasDotsOf, with_rows}
 use Rattle.sup_wire.specs.declared.message.Message.TheVariants.{Ack, Push, Delta}
 use Rattle.sup_wire.specs.declared.version.Version.TheVariants.{Two}
-use Rattle.sup_wire.specs.Drafts.{Parts, ack, push, delta, IsCut, IsDraftOf}
+use Rattle.sup_wire.specs.Drafts.{TableParts, ack, push, delta, IsCut, IsDraftOf}
 use Rattle.sup_wire.specs.Faults.{IsInRange}
 use Rattle.sup_wire.specs.Forms.{IsName, AreWritten, AreParts, AreEnds, value_of}
-use Rattle.sup_wire.specs.Writing.{Adds, WritesDraft, tokens_of}
+use Rattle.sup_wire.specs.Writing.{AddsTokens, WritesDraft, tokens_of}
 use Rattle.sup_wire.proofs.Formed.{parts_formed, parts_fit, ack_back, push_back, delta_back}
 
 ends : (from to : Bytes) → IsName from → IsName to → from ≢ to → AreEnds from to
 ends from to a b other = record { sender = a; receiver = b; differ = other }
 
-pub writes_ack : (old new : Written) (from to : Bytes) (n : ℕ) → n < 2 ^ 64 → IsName from → IsName to → Adds old new (tokens_of (value_of (ack from to n)))
+pub writes_ack : (old new : Written) (from to : Bytes) (n : ℕ) → n < 2 ^ 64 → IsName from → IsName to → AddsTokens old new (tokens_of (value_of (ack from to n)))
     → WritesDraft IsDraftOf IsInRange old new (Ack from to n)
 writes_ack old new from to n fits a b adds = record {
   draft = ack from to n;
@@ -28,11 +28,11 @@ writes_ack old new from to n fits a b adds = record {
   formed = λ range. (ends from to a b range.0, range.1);
 }
 
-module _ (old new : Written) (s : State) (p : Parts) (counted : (d : Dot) → has s.context d ≡ true → IsCounted d) (covered : HasDotsOf s.context s.rows) (cut : IsCut s p) (written : AreWritten p) where
+module _ (old new : Written) (s : State) (p : TableParts) (counted : (d : Dot) → has s.context d ≡ true → IsCounted d) (covered : HasDotsOf s.context s.rows) (cut : IsCut s p) (written : AreWritten p) where
   are_formed : AreParts Two p
   are_formed = parts_formed s p counted covered cut written
 
-  pub writes_push : (from to : Bytes) → IsName from → IsName to → Adds old new (tokens_of (value_of (push from to p))) → WritesDraft IsDraftOf IsInRange old new (Push from to s)
+  pub writes_push : (from to : Bytes) → IsName from → IsName to → AddsTokens old new (tokens_of (value_of (push from to p))) → WritesDraft IsDraftOf IsInRange old new (Push from to s)
   writes_push from to a b adds = record {
     draft = push from to p;
     same = (p, cut, refl);
@@ -41,7 +41,7 @@ module _ (old new : Written) (s : State) (p : Parts) (counted : (d : Dot) → ha
     formed = λ range. (ends from to a b range, are_formed);
   }
 
-  pub writes_delta : (from to : Bytes) (n : ℕ) → n < 2 ^ 64 → IsName from → IsName to → Adds old new (tokens_of (value_of (delta from to n p))) → WritesDraft IsDraftOf IsInRange old new (Delta from to n s)
+  pub writes_delta : (from to : Bytes) (n : ℕ) → n < 2 ^ 64 → IsName from → IsName to → AddsTokens old new (tokens_of (value_of (delta from to n p))) → WritesDraft IsDraftOf IsInRange old new (Delta from to n s)
   writes_delta from to n fits a b adds = record {
     draft = delta from to n p;
     same = (p, cut, refl);
@@ -51,7 +51,7 @@ module _ (old new : Written) (s : State) (p : Parts) (counted : (d : Dot) → ha
   }
 
 -- the parts of one state are those of another that is the same
-pub cut_of : (s : State) (context : Context) (rows : List Row) (p : Parts) → context ≡ s.context → rows ≡ s.rows → IsCut (with_rows context rows) p → IsCut s p
+pub cut_of : (s : State) (context : Context) (rows : List Row) (p : TableParts) → context ≡ s.context → rows ≡ s.rows → IsCut (with_rows context rows) p → IsCut s p
 cut_of s context rows p a b = subst (λ (t : State). IsCut t p) (ap₂ with_rows a b)
 
 pub on_ok_three : {T E : Type 0} (r : Result T E) {A B C X : Type 0} → (A → B → C → X) → OnOk r A → OnOk r B → OnOk r C → OnOk r X

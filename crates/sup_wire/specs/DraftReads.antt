@@ -17,7 +17,7 @@ use Rattle.sup_wire.specs.Faults.{IsJson}
 use Rattle.sup_wire.specs.Forms.{version_number}
 use Rattle.sup_wire.specs.FieldReads.{◌>>=◌, has_just, name_in, within_in, count_at, unfaulted, ends_at, kind_at}
 use Rattle.sup_wire.specs.RowReads.{each_in, dot_at, rows_at}
-use Rattle.sup_wire.specs.Drafts.{Parts, Draft, ack, push, delta, image, IsCut, IsWhole, IsSound, AreCanonical}
+use Rattle.sup_wire.specs.Drafts.{TableParts, Draft, ack, push, delta, image, IsCut, IsWhole, IsSound, AreCanonical}
 
 unfoldable pub dots_at : Data → Option (List Dot)
 dots_at d = as_array d >>= each_in dot_at
@@ -59,14 +59,14 @@ context_in d = get (codes "ctx") d >>= context_at
 unfoldable pub rows_in : Version → Data → Option (List Row)
 rows_in v d = get (codes "rows") d >>= rows_at v
 
-unfoldable pub parts_at : Version → Data → Option Parts
+unfoldable pub parts_at : Version → Data → Option TableParts
 parts_at v d = do
   context ← context_in d
   rows ← rows_in v d
   Some (record { vector = context.0; cloud = context.1; rows = rows })
 
 -- the parts that a reader holds
-abbrev pub parts_read : ReadParts → Parts
+abbrev pub parts_read : ReadParts → TableParts
 parts_read p = record { vector = p.vector.items; cloud = p.cloud.items; rows = p.rows.items }
 
 unfoldable pub ack_fields : List Bytes
@@ -140,28 +140,28 @@ NoJson text NotCanonical = ⊥
 NoJson text OutOfMemory = Unit {0}
 
 -- Tables of these parts, or why there are none: no memory may stand in place of any answer.
-abbrev pub RefusesParts : WireFault → Parts → Type 0
+abbrev pub RefusesParts : WireFault → TableParts → Type 0
 RefusesParts NotJson p = ⊥
 RefusesParts NotMessage p = ⊥
 RefusesParts BadVersion p = ⊥
 RefusesParts NotCanonical p = ¬ AreCanonical p
 RefusesParts OutOfMemory p = Unit {0}
 
-abbrev pub SealsParts : Result State WireFault → Parts → Type 0
+abbrev pub SealsParts : Result State WireFault → TableParts → Type 0
 SealsParts (Ok t) p = IsCut t p × IsWhole t
 SealsParts (Err e) p = RefusesParts e p
 
 -- A message or an image of a draft that was read, or why there is none.
-abbrev pub Refuses : WireFault → Option Draft → Type 0
-Refuses NotJson read = ⊥
-Refuses NotMessage read = read ≡ None
-Refuses BadVersion read = ⊥
-Refuses NotCanonical read = (d : Draft) × (read ≡ Some d) × ¬ IsSound d
-Refuses OutOfMemory read = Unit {0}
+abbrev pub RefusesDraft : WireFault → Option Draft → Type 0
+RefusesDraft NotJson read = ⊥
+RefusesDraft NotMessage read = read ≡ None
+RefusesDraft BadVersion read = ⊥
+RefusesDraft NotCanonical read = (d : Draft) × (read ≡ Some d) × ¬ IsSound d
+RefusesDraft OutOfMemory read = Unit {0}
 
-abbrev pub Seals : {M : Type 0} → (M → Draft → Type 0) → (M → Type 0) → Result M WireFault → Option Draft → Type 0
-Seals IsDraft Whole (Ok m) read = (d : Draft) × (read ≡ Some d) × IsDraft m d × Whole m
-Seals IsDraft Whole (Err e) read = Refuses e read
+abbrev pub SealsDraft : {M : Type 0} → (M → Draft → Type 0) → (M → Type 0) → Result M WireFault → Option Draft → Type 0
+SealsDraft IsDraft Whole (Ok m) read = (d : Draft) × (read ≡ Some d) × IsDraft m d × Whole m
+SealsDraft IsDraft Whole (Err e) read = RefusesDraft e read
 
 -- The same of a value, whose version is judged first, and which is read as that version has it.
 abbrev pub RefusesVersion : WireFault → Option ℕ → (Version → Option Draft) → Type 0
@@ -171,6 +171,6 @@ RefusesVersion BadVersion version read = (n : ℕ) × (version ≡ Some n) × (n
 RefusesVersion NotCanonical version read = (v : Version) × (version ≡ Some (version_number v)) × ((d : Draft) × (read v ≡ Some d) × ¬ IsSound d)
 RefusesVersion OutOfMemory version read = Unit {0}
 
-abbrev pub Decodes : {M : Type 0} → (M → Draft → Type 0) → (M → Type 0) → Result M WireFault → Option ℕ → (Version → Option Draft) → Type 0
-Decodes IsDraft Whole (Ok m) version read = (v : Version) × (version ≡ Some (version_number v)) × ((d : Draft) × (read v ≡ Some d) × IsDraft m d × Whole m)
-Decodes IsDraft Whole (Err e) version read = RefusesVersion e version read
+abbrev pub DecodesTo : {M : Type 0} → (M → Draft → Type 0) → (M → Type 0) → Result M WireFault → Option ℕ → (Version → Option Draft) → Type 0
+DecodesTo IsDraft Whole (Ok m) version read = (v : Version) × (version ≡ Some (version_number v)) × ((d : Draft) × (read v ≡ Some d) × IsDraft m d × Whole m)
+DecodesTo IsDraft Whole (Err e) version read = RefusesVersion e version read

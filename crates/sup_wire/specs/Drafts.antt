@@ -14,7 +14,7 @@ use Rattle.sup_wire.specs.declared.message.Message.TheVariants.{Ack, Push, Delta
 use Rattle.sup_wire.specs.declared.image.Image.{Image}
 
 -- tables as they are written
-pub record Parts : Type 0 where
+pub record TableParts : Type 0 where
   pub vector : List (Bytes × ℕ)
   pub cloud : List Dot
   pub rows : List Row
@@ -23,14 +23,14 @@ pub data Draft : Type 0 where
   -- sender, receiver, number
   ack : Bytes → Bytes → ℕ → Draft
   -- sender, receiver, delta
-  push : Bytes → Bytes → Parts → Draft
+  push : Bytes → Bytes → TableParts → Draft
   -- sender, receiver, number, delta
-  delta : Bytes → Bytes → ℕ → Parts → Draft
+  delta : Bytes → Bytes → ℕ → TableParts → Draft
   -- node, boot, count, state
-  image : Bytes → ℕ → ℕ → Parts → Draft
+  image : Bytes → ℕ → ℕ → TableParts → Draft
 
 -- the parts that a state is written by: the cut of its context, and its rows
-pub record IsCut (state : State) (p : Parts) : Type 0 where
+pub record IsCut (state : State) (p : TableParts) : Type 0 where
   pub vector : IsVector (has state.context) p.vector
   pub cloud : IsCloud (has state.context) p.cloud
   pub rows : p.rows ≡ state.rows
@@ -38,12 +38,12 @@ pub record IsCut (state : State) (p : Parts) : Type 0 where
 -- the draft that a message is written by
 abbrev pub IsDraftOf : Message → Draft → Type 0
 IsDraftOf (Ack from to n) d = d ≡ ack from to n
-IsDraftOf (Push from to state) d = (p : Parts) × IsCut state p × (d ≡ push from to p)
-IsDraftOf (Delta from to n state) d = (p : Parts) × IsCut state p × (d ≡ delta from to n p)
+IsDraftOf (Push from to state) d = (p : TableParts) × IsCut state p × (d ≡ push from to p)
+IsDraftOf (Delta from to n state) d = (p : TableParts) × IsCut state p × (d ≡ delta from to n p)
 
 -- the draft that an image is written by
 abbrev pub IsDraftOfImage : Image → Draft → Type 0
-IsDraftOfImage i d = (p : Parts) × IsCut i.state p × (d ≡ image i.node i.boot i.count p)
+IsDraftOfImage i d = (p : TableParts) × IsCut i.state p × (d ≡ image i.node i.boot i.count p)
 
 -- whether a draft is one of a message
 abbrev pub SaysMessage : Draft → Type 0
@@ -59,7 +59,7 @@ SaysImage (delta from to n p) = ⊥
 SaysImage (image node boot count p) = Unit {0}
 
 -- canonical parts: order and distance of vector and cloud, order of the rows, and a context that has their dots
-pub record AreCanonical (p : Parts) : Type 0 where
+pub record AreCanonical (p : TableParts) : Type 0 where
   pub context : IsCanonical p.vector p.cloud
   pub in_order : AreInOrder p.rows
   pub covered : All (λ r. in_parts p.vector p.cloud r.dot ≡ true) p.rows

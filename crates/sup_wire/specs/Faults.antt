@@ -23,7 +23,7 @@ pub record IsJson (text : Bytes) (d : Data) : Type 0 where
   pub value : read text ≡ Some d
 
 -- the text is the value of x in a version, whose draft this is, and each field is what it may be there
-pub record Says {M : Type 0} (IsDraft : M → Draft → Type 0) (text : Bytes) (x : M) : Type 0 where
+pub record TextSays {M : Type 0} (IsDraft : M → Draft → Type 0) (text : Bytes) (x : M) : Type 0 where
   pub version : Version
   pub draft : Draft
   pub same : IsDraft x draft

@@ -15,21 +15,21 @@ abbrev pub ◌>>=◌ : {A B : Type 0} → Option A → (A → Option B) → Opti
 o >>= f = option_and_then f o
 
 -- What a reader answered, beside what is read there: no memory may stand in place of any answer.
-abbrev pub Fails : {Y : Type 0} → WireFault → Option Y → Type 0
-Fails NotJson read = ⊥
-Fails NotMessage read = read ≡ None
-Fails BadVersion read = ⊥
-Fails NotCanonical read = ⊥
-Fails OutOfMemory read = Unit {0}
+abbrev pub ReadFails : {Y : Type 0} → WireFault → Option Y → Type 0
+ReadFails NotJson read = ⊥
+ReadFails NotMessage read = read ≡ None
+ReadFails BadVersion read = ⊥
+ReadFails NotCanonical read = ⊥
+ReadFails OutOfMemory read = Unit {0}
 
-abbrev pub Gives : {Y : Type 0} → Result Y WireFault → Option Y → Type 0
-Gives (Ok y) read = read ≡ Some y
-Gives (Err e) read = Fails e read
+abbrev pub ReadGives : {Y : Type 0} → Result Y WireFault → Option Y → Type 0
+ReadGives (Ok y) read = read ≡ Some y
+ReadGives (Err e) read = ReadFails e read
 
 -- the same, where view shows what was answered
-abbrev pub GivesBy : {X Y : Type 0} → (X → Y) → Result X WireFault → Option Y → Type 0
-GivesBy view (Ok x) read = read ≡ Some (view x)
-GivesBy view (Err e) read = Fails e read
+abbrev pub ReadGivesBy : {X Y : Type 0} → (X → Y) → Result X WireFault → Option Y → Type 0
+ReadGivesBy view (Ok x) read = read ≡ Some (view x)
+ReadGivesBy view (Err e) read = ReadFails e read
 
 -- whether the members' keys are these
 abbrev pub are_keys : List Bytes → Members → Bool

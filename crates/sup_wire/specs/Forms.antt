@@ -19,7 +19,7 @@ use Rattle.sup_tables.specs.declared.row.Entry.TheVariants.{Member, Child, Name}
 use Rattle.sup_tables.specs.declared.row.Row.{Row}
 use Rattle.serde_json.specs.Data.{Data, number, unsigned, string, array, object, no_items, item, Members, no_members, member}
 use Rattle.serde_json.specs.View.{items_of}
-use Rattle.sup_wire.specs.Drafts.{Parts, Draft, ack, push, delta, image}
+use Rattle.sup_wire.specs.Drafts.{TableParts, Draft, ack, push, delta, image}
 use Rattle.sup_wire.specs.declared.version.Version.{Version}
 use Rattle.sup_wire.specs.declared.version.Version.TheVariants.{One, Two}
 
@@ -34,7 +34,7 @@ abbrev pub vector_members : List (Bytes × ℕ) → Members
 vector_members [] = no_members
 vector_members (e ∷ es) = member e.0 (count_value e.1) (vector_members es)
 
-abbrev pub context_value : Parts → Data
+abbrev pub context_value : TableParts → Data
 context_value p = object (member (codes "cloud") (array (items_of (map dot_value p.cloud))) (member (codes "vector") (object (vector_members p.vector)) no_members))
 
 abbrev pub restart_value : Restart → Data
@@ -140,12 +140,12 @@ IsRow v r = IsEntry v r.entry × IsDot r.dot
 abbrev pub IsWritten : Row → Type 0
 IsWritten r = IsEntry Two r.entry × IsName r.dot.node
 
-pub record AreWritten (p : Parts) : Type 0 where
+pub record AreWritten (p : TableParts) : Type 0 where
   pub vector : AllByRecursion (λ e. IsName e.0) p.vector
   pub cloud : AllByRecursion (λ d. IsName d.node) p.cloud
   pub rows : AllByRecursion IsWritten p.rows
 
-pub record AreParts (v : Version) (p : Parts) : Type 0 where
+pub record AreParts (v : Version) (p : TableParts) : Type 0 where
   pub vector : AllByRecursion IsNote p.vector
   pub cloud : AllByRecursion IsDot p.cloud
   pub rows : AllByRecursion (IsRow v) p.rows

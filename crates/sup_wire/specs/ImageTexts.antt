@@ -7,10 +7,10 @@ use Rattle.sup_specs.specs.Values.{Bytes}
 use Rattle.sup_causal.specs.declared.dot.Dot.{Dot}
 use Rattle.sup_causal.specs.Dots.{Context, has}
 use Rattle.sup_causal.specs.Cut.{IsVector, IsCloud}
-use Rattle.sup_array_text.specs.Arrays.{Shown}
+use Rattle.sup_array_text.specs.Arrays.{ArrayShown}
 use Rattle.sup_wire.specs.declared.image.Image.{Image}
 use Rattle.sup_wire.specs.declared.heading.Heading.{Heading}
-use Rattle.sup_wire.specs.Drafts.{Parts, IsDraftOfImage}
+use Rattle.sup_wire.specs.Drafts.{TableParts, IsDraftOfImage}
 use Rattle.sup_wire.specs.Faults.{IsTextOf, IsImageInRange}
 use Rattle.sup_wire.specs.Forms.{IsName, context_value}
 use Rattle.sup_wire.specs.RowTexts.{AreRows}
@@ -19,7 +19,7 @@ use Rattle.sup_wire.specs.RowTexts.{AreRows}
 abbrev pub field_text : Bytes → Bytes → Bytes
 field_text name text = quoted name ++ 58 ∷ (text ++ 44 ∷ [])
 
-abbrev pub image_front : Bytes → ℕ → ℕ → Parts → Bytes
+abbrev pub image_front : Bytes → ℕ → ℕ → TableParts → Bytes
 image_front node boot count p =
     123 ∷ (field_text (codes "boot") (decimal boot) ++ (field_text (codes "count") (decimal count) ++ (field_text (codes "ctx") (compact_text (context_value p))
     ++ (field_text (codes "kind") (quoted (codes "image")) ++ (field_text (codes "node") (quoted node) ++ (quoted (codes "rows") ++ 58 ∷ []))))))
@@ -29,7 +29,7 @@ image_back = 44 ∷ (quoted (codes "v") ++ 58 ∷ (decimal 2 ++ 125 ∷ []))
 
 -- the text stands before the rows of an image with this heading
 pub record IsFront (h : Heading) (text : Bytes) : Type 0 where
-  pub parts : Parts
+  pub parts : TableParts
   pub is_vector : IsVector (has h.context.now) parts.vector
   pub is_cloud : IsCloud (has h.context.now) parts.cloud
   pub name : IsName h.node
@@ -45,6 +45,6 @@ pub record IsHeaded (i : Image) (h : Heading) : Type 0 where
   pub context : i.state.context ≡ h.context.now
 
 -- the text is the image's one text, and the items are its rows' texts
-pub record IsTextFor (i : Image) (t : Shown) : Type 0 where
+pub record IsTextFor (i : Image) (t : ArrayShown) : Type 0 where
   pub text : IsTextOf IsDraftOfImage IsImageInRange t.text i
   pub rows : AreRows i.state.rows t.items

@@ -29,13 +29,13 @@ two_in (item a (item b (item c ds))) = None
 unfoldable pub two_at : Data → Option (Data × Data)
 two_at d = as_array d >>= two_in
 
-pub record Four : Type 0 where
+pub record FourItems : Type 0 where
   pub table : Data
   pub key : Data
   pub dot : Data
   pub value : Data
 
-abbrev pub four_in : Items → Option Four
+abbrev pub four_in : Items → Option FourItems
 four_in no_items = None
 four_in (item a no_items) = None
 four_in (item a (item b no_items)) = None
@@ -43,7 +43,7 @@ four_in (item a (item b (item c no_items))) = None
 four_in (item a (item b (item c (item d no_items)))) = Some (record { table = a; key = b; dot = c; value = d })
 four_in (item a (item b (item c (item d (item e ds))))) = None
 
-unfoldable pub four_at : Data → Option Four
+unfoldable pub four_at : Data → Option FourItems
 four_at d = as_array d >>= four_in
 
 unfoldable pub dot_at : Data → Option Dot

@@ -3,7 +3,7 @@ use Rattle.std.specs.Prelude.{◌≡◌, ◌<◌, ◌^◌, List, map, Option, So
 use Rattle.std.specs.List.{AllByRecursion}
 use Rattle.serde_json.specs.Written.{compact_text}
 use Rattle.sup_specs.specs.Values.{Bytes}
-use Rattle.sup_array_text.specs.Arrays.{Shown}
+use Rattle.sup_array_text.specs.Arrays.{ArrayShown}
 use Rattle.sup_tables.specs.declared.row.Row.{Row}
 use Rattle.sup_tables.specs.Rows.{AreInOrder}
 use Rattle.sup_wire.specs.Forms.{row_value, IsWritten}
@@ -20,7 +20,7 @@ pub record AreRows (rows : List Row) (texts : List Bytes) : Type 0 where
   pub written : AllByRecursion (λ r. IsWritten r × (r.dot.counter < 2 ^ 64)) rows
 
 -- where there are rows, there is a text with theirs
-abbrev pub AreTextsOf : Option (List Row) → Option Shown → Type 0
+abbrev pub AreTextsOf : Option (List Row) → Option ArrayShown → Type 0
 AreTextsOf None t = Unit {0}
 AreTextsOf (Some rows) None = ⊥
 AreTextsOf (Some rows) (Some t) = AreRows rows t.items

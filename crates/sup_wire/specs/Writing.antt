@@ -12,7 +12,7 @@ use Rattle.serde_json.specs.Read.{of_json, max_depth}
 use Rattle.sup_tables.specs.Lent.{rows_lent}
 use Rattle.sup_wire.specs.declared.writing.lending.LentParts.{LentParts}
 use Rattle.sup_wire.specs.declared.version.Version.TheVariants.{Two}
-use Rattle.sup_wire.specs.Drafts.{Parts, Draft}
+use Rattle.sup_wire.specs.Drafts.{TableParts, Draft}
 use Rattle.sup_wire.specs.Forms.{value_of, IsFormed}
 
 -- an array, an item for each element
@@ -28,12 +28,12 @@ abbrev pub field_tokens : Bytes → Data → List Token
 field_tokens name d = Token.key name ∷ tokens_of d
 
 -- these tokens are appended
-pub record Adds (old new : Written) (ts : List Token) : Type 0 where
+pub record AddsTokens (old new : Written) (ts : List Token) : Type 0 where
   pub before : new.before ≡ old.before
   pub tokens : new.tokens ≡ old.tokens ++ ts
 
 -- what stands behind the references
-abbrev pub parts_lent : LentParts → Parts
+abbrev pub parts_lent : LentParts → TableParts
 parts_lent p = record { vector = p.vector.items; cloud = p.cloud.items; rows = rows_lent p.rows.now }
 
 -- what a value needs so that its text reads back
@@ -47,6 +47,6 @@ pub record ReadsBack (d : Data) : Type 0 where
 pub record WritesDraft {M : Type 0} (IsDraft : M → Draft → Type 0) (InRange : M → Type 0) (old new : Written) (x : M) : Type 0 where
   pub draft : Draft
   pub same : IsDraft x draft
-  pub adds : Adds old new (tokens_of (value_of draft))
+  pub adds : AddsTokens old new (tokens_of (value_of draft))
   pub back : ReadsBack (value_of draft)
   pub formed : InRange x → IsFormed Two draft

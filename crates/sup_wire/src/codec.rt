@@ -7,7 +7,7 @@ ghost use Rattle.sup_wire.specs.declared.message.Message.{Message};
 ghost use Rattle.sup_wire.specs.declared.image.Image.{Image};
 ghost use Rattle.sup_wire.specs.Drafts.{IsDraftOf, IsDraftOfImage, SaysMessage, SaysImage, IsWholeMessage, IsWholeImage};
 ghost use Rattle.sup_wire.specs.DraftReads.{NoJson};
-ghost use Rattle.sup_wire.specs.Faults.{IsJson, Says, IsTextOf, IsTextAfter, IsFault, IsOrMemory, IsInRange, IsImageInRange};
+ghost use Rattle.sup_wire.specs.Faults.{IsJson, TextSays, IsTextOf, IsTextAfter, IsFault, IsOrMemory, IsInRange, IsImageInRange};
 ghost use Rattle.sup_wire.specs.ImageTexts.{IsTextFor};
 ghost use Rattle.sup_wire.specs.Lent.{IsLentOf};
 
@@ -46,10 +46,10 @@ fn json_of(alloc: Global, text: &[u8]) -> Result<Value, WireFault>
 /// The first that applies, as [`WireFault`] orders them; `OutOfMemory` where a growth was refused.
 pub fn decode(alloc: Global, text: &[u8]) -> Result<Message, WireFault>
     // What is read is what the text says.
-    ensures ok { IfOk result (λ m. Says IsDraftOf text.now m) }
+    ensures ok { IfOk result (λ m. TextSays IsDraftOf text.now m) }
     ensures whole { IfOk result IsWholeMessage }
     // What a text says of a message is read, unless memory runs out.
-    ensures only { (m : Message) → IsWholeMessage m → Says IsDraftOf text.now m → IsOrMemory m result }
+    ensures only { (m : Message) → IsWholeMessage m → TextSays IsDraftOf text.now m → IsOrMemory m result }
     // Which fault it is.
     ensures fault { IfErr result (IsFault SaysMessage text.now) }
 {
@@ -64,9 +64,9 @@ pub fn decode(alloc: Global, text: &[u8]) -> Result<Message, WireFault>
 /// The first that applies, as [`WireFault`] orders them; `OutOfMemory` where a growth was refused. A message's text is
 /// `NotMessage`.
 pub fn decode_image(alloc: Global, text: &[u8]) -> Result<Image, WireFault>
-    ensures ok { IfOk result (λ i. Says IsDraftOfImage text.now i) }
+    ensures ok { IfOk result (λ i. TextSays IsDraftOfImage text.now i) }
     ensures whole { IfOk result IsWholeImage }
-    ensures only { (i : Image) → IsWholeImage i → Says IsDraftOfImage text.now i → IsOrMemory i result }
+    ensures only { (i : Image) → IsWholeImage i → TextSays IsDraftOfImage text.now i → IsOrMemory i result }
     ensures fault { IfErr result (IsFault SaysImage text.now) }
 {
     let value = json_of(alloc, text)?;
@@ -77,7 +77,7 @@ pub fn decode_image(alloc: Global, text: &[u8]) -> Result<Image, WireFault>
 pub fn encode(alloc: Global, message: &Message) -> Result<Vec<u8>, AllocError>
     ensures text { IfOk result (λ text. IsTextOf IsDraftOf IsInRange text.items message.now) }
     // What is written is what `decode` reads.
-    ensures says { IfOk result (λ text. IsInRange message.now → Says IsDraftOf text.items message.now) }
+    ensures says { IfOk result (λ text. IsInRange message.now → TextSays IsDraftOf text.items message.now) }
     // No other text is written of the message.
     ensures once { IfOk result (λ text. (other : Bytes) → IsTextOf IsDraftOf IsInRange other message.now → other ≡ text.items) }
     ensures whole { IfOk result (λ _. IsWholeMessage message.now) }
@@ -101,7 +101,7 @@ pub fn encode_after(front: Vec<u8>, message: &Message) -> Result<Vec<u8>, AllocE
 pub fn encode_image(alloc: Global, image: &Image) -> Result<Vec<u8>, AllocError>
     ensures text { IfOk result (λ text. IsTextOf IsDraftOfImage IsImageInRange text.items image.now) }
     // What is written is what `decode_image` reads.
-    ensures says { IfOk result (λ text. IsImageInRange image.now → Says IsDraftOfImage text.items image.now) }
+    ensures says { IfOk result (λ text. IsImageInRange image.now → TextSays IsDraftOfImage text.items image.now) }
     // No other text is written of the image.
     ensures once { IfOk result (λ text. (other : Bytes) → IsTextOf IsDraftOfImage IsImageInRange other image.now → other ≡ text.items) }
     ensures whole { IfOk result (λ _. IsWholeImage image.now) }
@@ -126,7 +126,7 @@ pub fn encode_lent_image(alloc: Global, image: &LentImage<'_>) -> Result<Vec<u8>
     // Of each image that this is lent of, if its context has the dots of its rows.
     ensures text { IfOk result (λ text. (i : Image) → IsLentOf image.now i → HasDotsOf i.state.context i.state.rows → IsTextOf IsDraftOfImage IsImageInRange text.items i) }
     // What is written is what `decode_image` reads.
-    ensures says { IfOk result (λ text. (i : Image) → IsLentOf image.now i → HasDotsOf i.state.context i.state.rows → IsImageInRange i → Says IsDraftOfImage text.items i) }
+    ensures says { IfOk result (λ text. (i : Image) → IsLentOf image.now i → HasDotsOf i.state.context i.state.rows → IsImageInRange i → TextSays IsDraftOfImage text.items i) }
 {
     let text = lent_text_after(Vec::new(alloc), image)?;
     Ok(text.into_text())

@@ -4,7 +4,7 @@ ghost use Rattle.sup_specs.specs.Values.{Bytes};
 ghost use Rattle.sup_wire.specs.declared.message.Message.{Message};
 ghost use Rattle.sup_wire.specs.declared.image.Image.{Image};
 ghost use Rattle.sup_wire.specs.Drafts.{IsDraftOf, IsDraftOfImage, IsWholeMessage, IsWholeImage};
-ghost use Rattle.sup_wire.specs.Faults.{Says, IsOrMemory, IsInRange, IsImageInRange};
+ghost use Rattle.sup_wire.specs.Faults.{TextSays, IsOrMemory, IsInRange, IsImageInRange};
 
 use crate::codec::{decode, decode_image, encode, encode_image};
 use crate::fault::WireFault;
@@ -14,8 +14,8 @@ use std::alloc::Global;
 
 /// A text says one message at most, and one image at most.
 pub fn a_text_says_one()
-    ensures message { (text : Bytes) (m n : Message) → IsWholeMessage m → IsWholeMessage n → Says IsDraftOf text m → Says IsDraftOf text n → n ≡ m }
-    ensures image { (text : Bytes) (i j : Image) → IsWholeImage i → IsWholeImage j → Says IsDraftOfImage text i → Says IsDraftOfImage text j → j ≡ i }
+    ensures message { (text : Bytes) (m n : Message) → IsWholeMessage m → IsWholeMessage n → TextSays IsDraftOf text m → TextSays IsDraftOf text n → n ≡ m }
+    ensures image { (text : Bytes) (i j : Image) → IsWholeImage i → IsWholeImage j → TextSays IsDraftOfImage text i → TextSays IsDraftOfImage text j → j ≡ i }
 {}
 
 /// A message in its range that is written is read back, unless memory runs out.

@@ -14,13 +14,13 @@ use Rattle.sup_replica.specs.declared.letter.Letter.{Letter}
 use Rattle.sup_replica.specs.declared.refusal.Refusal.{Refusal}
 use Rattle.sup_replica.specs.declared.refusal.Refusal.TheVariants.{OutOfMemory}
 use Rattle.sup_replica.specs.ByTables.{by_tables}
-use Rattle.sup_replica.specs.Stations.{Station, Mail, Move, station_step}
+use Rattle.sup_replica.specs.Stations.{Station, Mail, StationMove, station_step}
 use Rattle.sup_node.specs.Texts.{IsDoneOf, IsLetter, IsLetterOf, reads_as}
 use Rattle.sup_station.specs.declared.prepared.Prepared.{Prepared}
 use Rattle.sup_station.specs.KeptStations.{KeptStation, AnswersAct, RefusesAct}
 use Rattle.sup_station.specs.PreparedActs.{IsPreparedFor, done_of, after}
 use Rattle.sup_station.proofs.KeepLaws.{may_lack}
-use Rattle.sup_model.specs.Posts.{Post, mailed, mail_number}
+use Rattle.sup_model.specs.Posts.{StationPost, mailed, mail_number}
 use Rattle.sup_world.specs.declared.answer.Answer.{Answer}
 use Rattle.sup_world.specs.StandingStations.{StationStands}
 use Rattle.sup_world.specs.Moves.{StationActs, MakesMove, ReadsIn}
@@ -77,8 +77,8 @@ number-stands sent letters None (Some x) h l = absurd l
 number-stands sent letters (Some m) None h l = absurd l
 number-stands sent letters (Some m) (Some x) h l = ap Some (more-length letters x ∙ ap (λ n. n + 1) (zip-length sent letters h))
 
-module _ (g : Weigher) (s : SeenNode) (post : Post State) (mail : Option (Mail State)) (act : Act) (now : ℕ) (b : Bool) (h : SiteStands s post) (reads : ReadsIn act mail) where
-  abbrev the_step : Result (Move State) Refusal
+module _ (g : Weigher) (s : SeenNode) (post : StationPost State) (mail : Option (Mail State)) (act : Act) (now : ℕ) (b : Bool) (h : SiteStands s post) (reads : ReadsIn act mail) where
+  abbrev the_step : Result (StationMove State) Refusal
   the_step = station_step by_tables (reads_as mail) g post.station act now b
 
   made : (result : Result Done Refusal) (t : KeptStation) → StationActs g s.kept_station act now b result t → (q : Station State) × MakesMove the_step post.station act result q × StationStands t q

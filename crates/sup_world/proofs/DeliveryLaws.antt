@@ -14,10 +14,10 @@ use Rattle.sup_replica.specs.declared.letter.Letter.{Letter}
 use Rattle.sup_replica.specs.declared.refusal.Refusal.{Refusal}
 use Rattle.sup_replica.specs.declared.refusal.Refusal.TheVariants.{UnknownNode}
 use Rattle.sup_replica.specs.ByTables.{by_tables}
-use Rattle.sup_replica.specs.Stations.{Mail, Move, receiver_of, station_step}
+use Rattle.sup_replica.specs.Stations.{Mail, StationMove, receiver_of, station_step}
 use Rattle.sup_node.specs.Texts.{IsLetter, reads_as}
 use Rattle.sup_model.specs.declared.step.Step.TheVariants.{Deliver as Delivery}
-use Rattle.sup_model.specs.Posts.{Post, Real, real_step, post_of, mail_of as sent_mail}
+use Rattle.sup_model.specs.Posts.{StationPost, RealWorld, real_step, post_of, mail_of as sent_mail}
 use Rattle.sup_world.specs.declared.answer.Answer.{Answer}
 use Rattle.sup_world.specs.Moves.{ReadsIn}
 use Rattle.sup_world.specs.CarriedSteps.{holds, failures_at, letter_of, receiver, seen_at, carried}
@@ -54,7 +54,7 @@ receiver_is sites from k at drop s name act c i is lt elem =
     ap (λ o. unwrap_or at (unwrap_or (option_map (λ (l : Letter). l.to) (option_and_then (λ (t : SeenNode). letter_of t k) o)) [])) there
     ∙ ap (λ o. unwrap_or at (unwrap_or (option_map (λ (l : Letter). l.to) o) [])) c.there ∙ sym c.to
 
-module _ (g : Weigher) (real : Real State) (sites : List SeenNode) (h : ShowsReal g sites real) (from : Bytes) (k : ℕ) (at : Option Bytes) (drop now : ℕ) where
+module _ (g : Weigher) (real : RealWorld State) (sites : List SeenNode) (h : ShowsReal g sites real) (from : Bytes) (k : ℕ) (at : Option Bytes) (drop now : ℕ) where
   -- no such sender
   pub unsent : (saves : Bool) → place sites from ≡ length sites → MakesRealStep g real (Delivery from k at drop now saves) (Err UnknownNode) sites
   unsent saves e = refuses g real (Delivery from k at drop now saves) UnknownNode sites h (inl (no_sender g real from k at drop now saves (absent g real sites h from e)))
@@ -82,13 +82,13 @@ module _ (g : Weigher) (real : Real State) (sites : List SeenNode) (h : ShowsRea
 
       -- it comes
       pub delivered : (saves : Bool) (j : ℕ) (old new : SeenNode) → j ≡ place sites name → j < length sites → old ≡ slice_index_or sites j old → new.name ≡ old.name → (result : Result Answer Refusal)
-          → ((post : Post State) (mail : Option (Mail State)) → SiteStands old post → ReadsIn act mail → NodeAnswers (station_step by_tables (reads_as mail) g post.station act now saves) post act result new)
+          → ((post : StationPost State) (mail : Option (Mail State)) → SiteStands old post → ReadsIn act mail → NodeAnswers (station_step by_tables (reads_as mail) g post.station act now saves) post act result new)
           → MakesRealStep g real (Delivery from k at drop now saves) result (slice_set sites j new)
       delivered saves j old new is lt elem same result answers =
           let q = here g real sites h name j old is lt elem in
           let mail = sent_as.0 in
           let bytes : Bytes = cut_text c.letter.bytes drop in
-          let x : Result (Move State) Refusal = station_step by_tables (reads_as (as_read mail drop)) g q.post.station (Of (Deliver bytes)) now saves in
+          let x : Result (StationMove State) Refusal = station_step by_tables (reads_as (as_read mail drop)) g q.post.station (Of (Deliver bytes)) now saves in
           let found : post_of real (unwrap_or at (receiver_of mail)) ≡ Some q.post = subst (λ to. post_of real to ≡ Some q.post) to_name q.found in
           let e : real_step by_tables real (Delivery from k at drop now saves) ≡ next g real q.post x =
           comes g real from k at drop now saves p.post p.found mail sent_as.1 q.post found bytes
@@ -101,7 +101,7 @@ module _ (g : Weigher) (real : Real State) (sites : List SeenNode) (h : ShowsRea
   -- a delivery, from a node in one place to one in another
   pub deliver_steps : (saves : Bool) (i : ℕ) (s : SeenNode) → i ≡ place sites from → i < length sites → s ≡ slice_index_or sites i s → (name : Bytes) (act : Act) → IsComing s k at drop name act
       → (j : ℕ) (old new : SeenNode) → j ≡ place sites name → j < length sites → old ≡ slice_index_or sites j old → new.name ≡ old.name → (result : Result Answer Refusal)
-      → ((post : Post State) (mail : Option (Mail State)) → SiteStands old post → ReadsIn act mail → NodeAnswers (station_step by_tables (reads_as mail) g post.station act now (holds saves old.failures)) post act result new)
+      → ((post : StationPost State) (mail : Option (Mail State)) → SiteStands old post → ReadsIn act mail → NodeAnswers (station_step by_tables (reads_as mail) g post.station act now (holds saves old.failures)) post act result new)
       → MakesRealStep g real (carried sites (Delivery from k at drop now saves)) result (slice_set sites j new)
   deliver_steps saves i s is lt elem name act c j old new is' lt' elem' same result answers =
       let p = here g real sites h from i s is lt elem in

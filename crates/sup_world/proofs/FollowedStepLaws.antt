@@ -10,15 +10,15 @@ use Rattle.sup_replica.specs.declared.refusal.Refusal.TheVariants.{Down, Unknown
 use Rattle.sup_replica.specs.declared.letter.Letter.{Letter}
 use Rattle.sup_replica.specs.Checks.{refused_if, then_do}
 use Rattle.sup_replica.specs.ByTables.{by_tables}
-use Rattle.sup_replica.specs.Stations.{Mail, Move, receiver_of}
+use Rattle.sup_replica.specs.Stations.{Mail, StationMove, receiver_of}
 use Rattle.sup_node.specs.Texts.{IsLetterOf}
 use Rattle.sup_model.specs.declared.step.Step.{Step}
 use Rattle.sup_model.specs.declared.step.Step.TheVariants.{Node as AtNode, Deliver as Delivery, Raw}
-use Rattle.sup_model.specs.Posts.{Post, Real, RealAnswer, RealStepped, reads, post_of, mail_of, mail_number, target_here, post_step, arrives, real_acted, real_step}
-use Rattle.sup_model.specs.Worlds.{World, Answer as Expected, or_refused}
+use Rattle.sup_model.specs.Posts.{StationPost, RealWorld, RealAnswer, RealStepped, reads, post_of, mail_of, mail_number, target_here, post_step, arrives, real_acted, real_step}
+use Rattle.sup_model.specs.Worlds.{ModelWorld, ModelAnswer as Expected, or_refused}
 use Rattle.sup_model.specs.Refines.{AnswersAlike, real_answer_of}
 use Rattle.sup_model.specs.TableViews.{table_view}
-use Rattle.sup_model.specs.Follows.{Makes, WorldStandsFor, Follows as IsFollowing}
+use Rattle.sup_model.specs.Follows.{StepMakes, WorldStandsFor, StepFollows as IsFollowing}
 use Rattle.sup_model.proofs.FollowLaws.{steps_follow}
 use Rattle.sup_world.specs.declared.answer.Answer.{Answer}
 use Rattle.sup_world.specs.CarriedSteps.{carried, KnowsBytes}
@@ -35,7 +35,7 @@ mail_numbered : (sent : List (Mail State)) (m : Option (Mail State)) → is_some
 mail_numbered sent None = refl
 mail_numbered sent (Some m) = refl
 
-lettered_then : (real : Real State) (post : Post State) (x : Result (Move State) Refusal) → Lettered (then_do x (λ m. Ok (real_acted real post m)))
+lettered_then : (real : RealWorld State) (post : StationPost State) (x : Result (StationMove State) Refusal) → Lettered (then_do x (λ m. Ok (real_acted real post m)))
 lettered_then real post (Ok m) = mail_numbered post.sent m.letter
 lettered_then real post (Err r) = tt
 
@@ -47,7 +47,7 @@ lettered_or : {A : Type 0} (o : Option A) (r : Refusal) (next : A → Result (Re
 lettered_or None r next h = tt
 lettered_or (Some a) r next h = h a
 
-lettered_step : (real : Real State) (step : Step) → Lettered (real_step by_tables real step)
+lettered_step : (real : RealWorld State) (step : Step) → Lettered (real_step by_tables real step)
 lettered_step real (AtNode at act now saves) =
     lettered_or (post_of real at) UnknownNode _ (λ post. lettered_if (not (target_here real act)) UnknownNode _ (lettered_then real post (post_step by_tables real post.station act now saves)))
 lettered_step real (Delivery from k at drop now saves) =
@@ -64,7 +64,7 @@ lettered_answer : (x : Result (RealStepped State) Refusal) → Lettered x → Le
 lettered_answer (Ok s) h = h
 lettered_answer (Err r) h = tt
 
-made_lettered : (real after : Real State) (step : Step) (told : Result (RealAnswer State) Refusal) → Makes real step told after → LetteredAnswer told
+made_lettered : (real after : RealWorld State) (step : Step) (told : Result (RealAnswer State) Refusal) → StepMakes real step told after → LetteredAnswer told
 made_lettered real after step told (inl m) = subst (λ (a : Result (RealAnswer State) Refusal). LetteredAnswer a) (sym m.0) (lettered_answer (real_step by_tables real step) (lettered_step real step))
 made_lettered real after step told (inr m) = subst (λ (a : Result (RealAnswer State) Refusal). LetteredAnswer a) (sym m.0) tt
 
@@ -88,7 +88,7 @@ told_as (Err r) (Ok b) result l h t = absurd h
 told_as (Err r) (Err q) (Ok c) l h t = absurd t
 told_as (Err r) (Err q) (Err x) l h t = t ∙ h
 
-pub follows : (g : Weigher) (real : Real State) (model : World) (step : Step) (result : Result Answer Refusal) (new : List SeenNode) → WorldStandsFor real model → MakesRealStep g real step result new → FollowsModel g model step result new
+pub follows : (g : Weigher) (real : RealWorld State) (model : ModelWorld) (step : Step) (result : Result Answer Refusal) (new : List SeenNode) → WorldStandsFor real model → MakesRealStep g real step result new → FollowsModel g model step result new
 follows g real model step result new stands s =
     let f : IsFollowing model step s.told s.after = steps_follow real s.after step s.told s.makes model stands in
     record {
@@ -100,11 +100,11 @@ follows g real model step result new stands s =
     }
 
 -- what the model's world knows of raw bytes, the code's does
-knows_by : (is_message : Bytes → Bool) (real : Real State) (step : Step) → is_message ≡ reads real.codec → KnowsBytes is_message step → KnowsBytes (reads real.codec) step
+knows_by : (is_message : Bytes → Bool) (real : RealWorld State) (step : Step) → is_message ≡ reads real.codec → KnowsBytes is_message step → KnowsBytes (reads real.codec) step
 knows_by is_message real step e k = subst (λ m. KnowsBytes m step) e k
 
-pub steps_as : (g : Weigher) (sites new : List SeenNode) (model : World) (step : Step) (result : Result Answer Refusal) → ((real : Real State) → ShowsReal g sites real → KnowsBytes (reads real.codec) step → MakesRealStep g real (carried sites step) result new)
+pub steps_as : (g : Weigher) (sites new : List SeenNode) (model : ModelWorld) (step : Step) (result : Result Answer Refusal) → ((real : RealWorld State) → ShowsReal g sites real → KnowsBytes (reads real.codec) step → MakesRealStep g real (carried sites step) result new)
     → StandsFor g sites model → KnowsBytes model.is_message step → FollowsModel g model (carried sites step) result new
 steps_as g sites new model step result steps s knows =
-    let e : model.is_message ≡ reads s.real.codec = ap (λ (m : World). m.is_message) s.stands.model_is ∙ ap (λ (r : Real State). reads r.codec) (sym s.stands.real_is) in
+    let e : model.is_message ≡ reads s.real.codec = ap (λ (m : ModelWorld). m.is_message) s.stands.model_is ∙ ap (λ (r : RealWorld State). reads r.codec) (sym s.stands.real_is) in
     follows g s.real model (carried sites step) result new s.stands (steps s.real s.shows (knows_by model.is_message s.real step e knows))

@@ -14,7 +14,7 @@ use Rattle.sup_tables.specs.States.{State}
 use Rattle.sup_placement.specs.Place.{Weigher}
 use Rattle.sup_wire.specs.declared.message.Message.{Message}
 use Rattle.sup_wire.specs.Drafts.{IsDraftOf}
-use Rattle.sup_wire.specs.Faults.{IsInRange, Says}
+use Rattle.sup_wire.specs.Faults.{IsInRange, TextSays}
 use Rattle.sup_cut_texts.proofs.CutTexts.{cut_says_none}
 use Rattle.sup_replica.specs.declared.event.Event.TheVariants.{Deliver}
 use Rattle.sup_replica.specs.declared.event.Act.TheVariants.{Event as Of}
@@ -27,7 +27,7 @@ use Rattle.sup_replica.specs.Stations.{Station, Mail, a_delta, a_push, an_ack, r
 use Rattle.sup_node.specs.Texts.{IsMessageText, IsReadAs, IsLetter, reads_as, message_of, mail_of}
 use Rattle.sup_model.specs.declared.step.Step.TheVariants.{Deliver as Delivery}
 use Rattle.sup_model.specs.Worlds.{or_refused}
-use Rattle.sup_model.specs.Posts.{Post, Real, RealStepped, post_of, arrives, real_step, mail_of as sent_mail}
+use Rattle.sup_model.specs.Posts.{StationPost, RealWorld, RealStepped, post_of, arrives, real_step, mail_of as sent_mail}
 use Rattle.sup_world.proofs.WorldStepLaws.{next}
 
 abbrev pub cut_text : Bytes → ℕ → Bytes
@@ -53,7 +53,7 @@ reads_as_cut text mail drop h =
       | true ↦ λ e.
           let zero_is : drop ≡ 0 = eqb-true drop 0 e in
           let whole : cut_text text drop ≡ text = take_all (length text - drop) text (omega (arith, zero_is)) in
-          (message_of mail, h.whole, subst (λ t. Says IsDraftOf t (message_of mail)) (sym whole) h.says, refl)
+          (message_of mail, h.whole, subst (λ t. TextSays IsDraftOf t (message_of mail)) (sym whole) h.says, refl)
       | false ↦ λ e.
           let some : (drop ≡ 0 → ⊥) = eqb-false drop 0 e in
           let long : 0 < length text = some_bytes text (message_of mail) h in
@@ -94,20 +94,20 @@ letter_absent (x ∷ xs) (y ∷ ys) (suc i) h e = letter_absent xs ys i h.1 e
 
 -- ---- the step of the world
 
-module _ (g : Weigher) (real : Real State) (from : Bytes) (k : ℕ) (at : Option Bytes) (drop now : ℕ) (saves : Bool) where
-  abbrev arrived : Mail State → Post State → Result (RealStepped State) Refusal
+module _ (g : Weigher) (real : RealWorld State) (from : Bytes) (k : ℕ) (at : Option Bytes) (drop now : ℕ) (saves : Bool) where
+  abbrev arrived : Mail State → StationPost State → Result (RealStepped State) Refusal
   arrived mail receiver = next g real receiver (arrives by_tables real.weigher receiver.station mail drop saves)
 
   abbrev to_receiver : Mail State → Result (RealStepped State) Refusal
   to_receiver mail = or_refused (post_of real (unwrap_or at (receiver_of mail))) UnknownNode (arrived mail)
 
-  abbrev from_sender : Post State → Result (RealStepped State) Refusal
+  abbrev from_sender : StationPost State → Result (RealStepped State) Refusal
   from_sender sender = or_refused (sent_mail sender k) NoSuchMessage to_receiver
 
   pub no_sender : post_of real from ≡ None → real_step by_tables real (Delivery from k at drop now saves) ≡ Err UnknownNode
   no_sender e = ap (λ o. or_refused o UnknownNode from_sender) e
 
-  module _ (sender : Post State) (sends : post_of real from ≡ Some sender) where
+  module _ (sender : StationPost State) (sends : post_of real from ≡ Some sender) where
     pub no_letter : sent_mail sender k ≡ None → real_step by_tables real (Delivery from k at drop now saves) ≡ Err NoSuchMessage
     no_letter e = ap (λ o. or_refused o UnknownNode from_sender) sends ∙ ap (λ o. or_refused o NoSuchMessage to_receiver) e
 
@@ -115,7 +115,7 @@ module _ (g : Weigher) (real : Real State) (from : Bytes) (k : ℕ) (at : Option
       pub no_receiver : post_of real (unwrap_or at (receiver_of mail)) ≡ None → real_step by_tables real (Delivery from k at drop now saves) ≡ Err UnknownNode
       no_receiver e = ap (λ o. or_refused o UnknownNode from_sender) sends ∙ ap (λ o. or_refused o NoSuchMessage to_receiver) sent ∙ ap (λ o. or_refused o UnknownNode (arrived mail)) e
 
-      pub comes : (receiver : Post State) → post_of real (unwrap_or at (receiver_of mail)) ≡ Some receiver → (bytes : Bytes)
+      pub comes : (receiver : StationPost State) → post_of real (unwrap_or at (receiver_of mail)) ≡ Some receiver → (bytes : Bytes)
           → real_step by_tables real (Delivery from k at drop now saves) ≡ next g real receiver (station_step by_tables (reads_as (as_read mail drop)) real.weigher receiver.station (Of (Deliver bytes)) now saves)
       comes receiver e bytes =
           ap (λ o. or_refused o UnknownNode from_sender) sends ∙ ap (λ o. or_refused o NoSuchMessage to_receiver) sent ∙ ap (λ o. or_refused o UnknownNode (arrived mail)) e

@@ -8,9 +8,9 @@ use Rattle.sup_placement.specs.Place.{Weigher}
 use Rattle.sup_replica.specs.declared.refusal.Refusal.{Refusal}
 use Rattle.sup_replica.specs.declared.refusal.Refusal.TheVariants.{OutOfMemory, UpToDate}
 use Rattle.sup_model.specs.declared.step.Step.{Step}
-use Rattle.sup_model.specs.Worlds.{World, Answer as Expected, Stepped, step}
-use Rattle.sup_model.specs.Runs.{Allows, answer_of, world_after}
-use Rattle.sup_model.specs.Settles.{Sent}
+use Rattle.sup_model.specs.Worlds.{ModelWorld, ModelAnswer as Expected, WorldStepped, step}
+use Rattle.sup_model.specs.Runs.{ModelAllows, answer_of, world_after}
+use Rattle.sup_model.specs.Settles.{SentAndAnswered}
 use Rattle.sup_model.proofs.ExchangeLaws.{ship_answered}
 use Rattle.sup_world.specs.declared.tally.Tally.{Tally}
 use Rattle.sup_world.specs.FollowedSteps.{StandsFor}
@@ -22,8 +22,8 @@ use Rattle.sup_world.proofs.TallyLaws.{notes_none, notes_then}
 use Rattle.sup_world.proofs.ExchangeListLaws.{ended_as}
 
 -- a step of the model that is answered well
-pub record Stepping (w : World) (s : Step) (e : Expected) (w' : World) : Type 0 where
-  pub x : Stepped
+pub record Stepping (w : ModelWorld) (s : Step) (e : Expected) (w' : ModelWorld) : Type 0 where
+  pub x : WorldStepped
   pub steps : step w s ≡ Ok x
   pub answer : e ≡ x.answer
   pub world : w' ≡ x.world
@@ -34,42 +34,42 @@ ok_is x y e = cc
 ok_err : (x : Expected) (q : Refusal) → (let r : Result Expected Refusal = Ok x in r) ≡ Err q → ⊥
 ok_err x q e = cc
 
-stepped : (w : World) (s : Step) (e : Expected) (w' : World) (r : Result Stepped Refusal) → step w s ≡ r → Ok e ≡ answer_of r → w' ≡ world_after w r → Stepping w s e w'
+stepped : (w : ModelWorld) (s : Step) (e : Expected) (w' : ModelWorld) (r : Result WorldStepped Refusal) → step w s ≡ r → Ok e ≡ answer_of r → w' ≡ world_after w r → Stepping w s e w'
 stepped w s e w' (Ok x) is a b = record { x = x; steps = is; answer = ok_is e x.answer a; world = b }
 stepped w s e w' (Err q) is a b = absurd (ok_err e q a)
 
-pub stepping : (w : World) (s : Step) (e : Expected) (w' : World) → Allows w s (Ok e) w' → Stepping w s e w'
+pub stepping : (w : ModelWorld) (s : Step) (e : Expected) (w' : ModelWorld) → ModelAllows w s (Ok e) w' → Stepping w s e w'
 stepping w s e w' (inl h) = stepped w s e w' (step w s) refl h.0 h.1
 stepping w s e w' (inr (inl h)) = absurd (ok_err e OutOfMemory h.0)
 stepping w s e w' (inr (inr h)) = absurd (ok_err e UpToDate h.0)
 
 -- a step that was noted
-pub record Noted (w : World) (s : Step) (x : Result Expected Refusal) (w' : World) (old : Tally) (number : Option ℕ) (new : Tally) : Type 0 where
+pub record Noted (w : ModelWorld) (s : Step) (x : Result Expected Refusal) (w' : ModelWorld) (old : Tally) (number : Option ℕ) (new : Tally) : Type 0 where
   pub answer : Expected
   pub is : x ≡ Ok answer
   pub numbered : number ≡ answer.number
   pub notes : NotesAnswers (x ∷ []) old new
   pub makes : Stepping w s answer w'
 
-pub noted : (w : World) (s : Step) (x : Result Expected Refusal) (w' : World) (old : Tally) (number : Option ℕ) (new : Tally) → Allows w s x w' → IsNoted x old (Ok number) new → Noted w s x w' old number new
+pub noted : (w : ModelWorld) (s : Step) (x : Result Expected Refusal) (w' : ModelWorld) (old : Tally) (number : Option ℕ) (new : Tally) → ModelAllows w s x w' → IsNoted x old (Ok number) new → Noted w s x w' old number new
 noted w s (Ok e) w' old number new h n = record { answer = e; is = refl; numbered = n.0; notes = n.1; makes = stepping w s e w' h }
 noted w s (Err q) w' old number new h n = absurd n
 
 -- what it was answered
-told_is : (x : Result Expected Refusal) (e : Expected) (y : Stepped) → x ≡ Ok e → e ≡ y.answer → x ≡ Ok y.answer
+told_is : (x : Result Expected Refusal) (e : Expected) (y : WorldStepped) → x ≡ Ok e → e ≡ y.answer → x ≡ Ok y.answer
 told_is x e y is answer = is ∙ ap (λ (z : Expected). let r : Result Expected Refusal = Ok z in r) answer
 
 three : (x y z p q r : Result Expected Refusal) → x ≡ p → y ≡ q → z ≡ r → x ∷ y ∷ z ∷ [] ≡ p ∷ q ∷ r ∷ []
 three x y z p q r e f g = cc
 
 -- one that wasn't
-fails : (w : World) (s : Step) (x : Result Expected Refusal) (w' : World) (old new : Tally) (r : Refusal) → Allows w s x w' → IsNoted x old (Err r) new → StepFails w s r w'
+fails : (w : ModelWorld) (s : Step) (x : Result Expected Refusal) (w' : ModelWorld) (old new : Tally) (r : Refusal) → ModelAllows w s x w' → IsNoted x old (Err r) new → StepFails w s r w'
 fails w s (Ok e) w' old new r h n =
     let m : Stepping w s e w' = stepping w s e w' h in
     inr (record { made = m.x; steps = m.steps; memory = n; ends = m.world })
-fails w s (Err q) w' old new r h n = inl (subst (λ (p : Refusal). Allows w s (Err p) w') (sym n.0) h)
+fails w s (Err q) w' old new r h n = inl (subst (λ (p : Refusal). ModelAllows w s (Err p) w') (sym n.0) h)
 
-module _ (weigher : Weigher) (model : World) (a b : Bytes) (old : Tally) where
+module _ (weigher : Weigher) (model : ModelWorld) (a b : Bytes) (old : Tally) where
   -- the ship is refused
   pub exchange_unsent : (new : Tally) (sites : List SeenNode) (r : Refusal) (result : Result (Unit {0}) Refusal) → IsErrAnd result (λ q. q ≡ r) → ShipsState weigher model a b old (Err r) new sites → ExchangesPairs weigher model ((a, b) ∷ []) old result new sites
   exchange_unsent new sites r result e h = record {
@@ -87,7 +87,7 @@ module _ (weigher : Weigher) (model : World) (a b : Bytes) (old : Tally) where
   }
 
   module _ (k : ℕ) (sent : Tally) (shipped : List SeenNode) (h : ShipsState weigher model a b old (Ok (Some k)) sent shipped) where
-    pub mid : World
+    pub mid : ModelWorld
     mid = h.after
 
     ship : Noted model (ship_of a b) h.expected h.after old (Some k) sent
@@ -119,7 +119,7 @@ module _ (weigher : Weigher) (model : World) (a b : Bytes) (old : Tally) where
       at_arrival = arrives.makes
 
       comes : step at_ship.x.world (arrival a k) ≡ Ok at_arrival.x
-      comes = subst (λ (w : World). step w (arrival a k) ≡ Ok at_arrival.x) at_ship.world at_arrival.steps
+      comes = subst (λ (w : ModelWorld). step w (arrival a k) ≡ Ok at_arrival.x) at_ship.world at_arrival.steps
 
       arrival_number : at_arrival.x.answer.number ≡ number
       arrival_number = sym (ap (λ (y : Expected). y.number) at_arrival.answer) ∙ sym arrives.numbered
@@ -130,7 +130,7 @@ module _ (weigher : Weigher) (model : World) (a b : Bytes) (old : Tally) where
           none-some n.0 (none ∙ (sym arrival_number ∙ n.1))
 
     module _ (n : ℕ) (brought : Tally) (came : List SeenNode) (d : MessageComes weigher h.after a k sent (Ok (Some n)) brought came) where
-      pub last : World
+      pub last : ModelWorld
       last = d.0.after
 
       told_arrival : Noted h.after (arrival a k) d.0.expected d.0.after sent (Some n) brought
@@ -156,7 +156,7 @@ module _ (weigher : Weigher) (model : World) (a b : Bytes) (old : Tally) where
           let at_told : Stepping d.0.after (arrival b n) third.answer t.0.after = third.makes in
           let came_as = arrives (Some n) brought came d in
           let second = at_arrival (Some n) brought came d in
-          let sending : Sent model a b t.0.after = record {
+          let sending : SentAndAnswered model a b t.0.after = record {
             ship = at_ship.x;
             k = k;
             came = second.x;
@@ -166,7 +166,7 @@ module _ (weigher : Weigher) (model : World) (a b : Bytes) (old : Tally) where
             number = ship_number;
             comes = comes (Some n) brought came d;
             answered = arrival_number (Some n) brought came d;
-            tells = subst (λ (w : World). step w (arrival b n) ≡ Ok at_told.x) second.world at_told.steps;
+            tells = subst (λ (w : ModelWorld). step w (arrival b n) ≡ Ok at_told.x) second.world at_told.steps;
             ends = at_told.world;
           } in
           let answers : List (Result Expected Refusal) = h.expected ∷ d.0.expected ∷ t.0.expected ∷ [] in

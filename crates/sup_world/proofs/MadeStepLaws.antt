@@ -8,8 +8,8 @@ use Rattle.sup_placement.specs.Place.{Weigher}
 use Rattle.sup_replica.specs.declared.refusal.Refusal.{Refusal}
 use Rattle.sup_replica.specs.declared.refusal.Refusal.TheVariants.{OutOfMemory, UpToDate}
 use Rattle.sup_model.specs.declared.step.Step.{Step}
-use Rattle.sup_model.specs.Worlds.{World, Answer as Expected, Stepped, step}
-use Rattle.sup_model.specs.Runs.{Allows, answer_of, MayBeUpToDate}
+use Rattle.sup_model.specs.Worlds.{ModelWorld, ModelAnswer as Expected, WorldStepped, step}
+use Rattle.sup_model.specs.Runs.{ModelAllows, answer_of, MayBeUpToDate}
 use Rattle.sup_model.proofs.ExchangeLaws.{ship_numbered}
 use Rattle.sup_model.proofs.Unlikes.{ship_never_up_to_date, arrival_never_up_to_date}
 use Rattle.sup_world.specs.declared.answer.Answer.{Answer}
@@ -35,7 +35,7 @@ took (Ok e) answer old new (Ok number) h n s f r = (n ∙ h.number, notes_one e 
 took (Ok e) answer old new (Err q) h n s f r = r
 took (Err p) answer old new result h n s f r = absurd h
 
-module _ (weigher : Weigher) (model : World) where
+module _ (weigher : Weigher) (model : ModelWorld) where
   pub makes_err : (s : Step) (t : Tally) (sites : List SeenNode) (q : Refusal) (result : Result (Option ℕ) Refusal) → IsErrAnd result (λ p. p ≡ q) → FollowsModel weigher model s (Err q) sites → MakesStep weigher model s t result t sites
   makes_err s t sites q result f h = record { expected = h.expected; after = h.after; allows = h.allows; noted = untold h.expected t q result f h.told; stands = h.stands }
 
@@ -46,7 +46,7 @@ module _ (weigher : Weigher) (model : World) where
   err_is : (p q : Refusal) → (let x : Result Expected Refusal = Err p in x) ≡ Err q → p ≡ q
   err_is p q e = cc
 
-  answered_err : (x : Result Stepped Refusal) (p : Refusal) → Err p ≡ answer_of x → x ≡ Err p
+  answered_err : (x : Result WorldStepped Refusal) (p : Refusal) → Err p ≡ answer_of x → x ≡ Err p
   answered_err (Ok y) p e = absurd cc
   answered_err (Err q) p e = cc
 
@@ -54,7 +54,7 @@ module _ (weigher : Weigher) (model : World) where
   memory_is_not e = cc
 
   -- an answer that says up to date is none of the model's but for a ship
-  up_to_date : (s : Step) (x : Result Expected Refusal) (after : World) → (step model s ≡ Err UpToDate → ⊥) → Allows model s x after → x ≡ Err UpToDate → MayBeUpToDate model s × (after ≡ model)
+  up_to_date : (s : Step) (x : Result Expected Refusal) (after : ModelWorld) → (step model s ≡ Err UpToDate → ⊥) → ModelAllows model s x after → x ≡ Err UpToDate → MayBeUpToDate model s × (after ≡ model)
   up_to_date s x after never (inl h) e = absurd (never (answered_err (step model s) UpToDate (sym e ∙ h.0)))
   up_to_date s x after never (inr (inl h)) e = absurd (memory_is_not (err_is OutOfMemory UpToDate (sym h.0 ∙ e)))
   up_to_date s x after never (inr (inr h)) e = (h.2, h.3)
@@ -71,7 +71,7 @@ module _ (weigher : Weigher) (model : World) where
       record { expected = h.expected; after = h.after; allows = h.allows; noted = (is.0, may.0, may.1, is.1); stands = h.stands }
 
   -- a ship that is made has a number
-  numbered : (a b : Bytes) (x : Result Expected Refusal) (old new : Tally) (after : World) → Allows model (ship_of a b) x after → IsNoted x old (Ok None) new → ⊥
+  numbered : (a b : Bytes) (x : Result Expected Refusal) (old new : Tally) (after : ModelWorld) → ModelAllows model (ship_of a b) x after → IsNoted x old (Ok None) new → ⊥
   numbered a b (Ok e) old new after h n =
       let s : Stepping model (ship_of a b) e after = stepping model (ship_of a b) e after h in
       let k = ship_numbered model a b s.x s.steps in

@@ -8,25 +8,25 @@ use Rattle.sup_replica.specs.declared.refusal.Refusal.{Refusal}
 use Rattle.sup_replica.specs.declared.refusal.Refusal.TheVariants.{Down, UnknownNode, NoSuchMessage, BadMessage}
 use Rattle.sup_replica.specs.Acts.{act_step, deliver, kept_by}
 use Rattle.sup_replica.specs.Checks.{refused_if, then_do}
-use Rattle.sup_replica.specs.Nodes.{Message, Outcome, by_operations, is_named}
+use Rattle.sup_replica.specs.Nodes.{Message, ActOutcome, by_operations, is_named}
 use Rattle.sup_node.proofs.PlanLaws.{named_itself, named_same}
 use Rattle.sup_model.specs.declared.step.Step.{Step}
 use Rattle.sup_model.specs.declared.step.Step.TheVariants.{Node as AtNode, Deliver as Delivery, Raw}
 use Rattle.sup_model.specs.Runs.{world_after}
-use Rattle.sup_model.specs.Worlds.{Ops, Site, Stepped, World, acted, message_of, or_refused, posted, site_of, step, target_is_here}
+use Rattle.sup_model.specs.Worlds.{Ops, ModelSite, WorldStepped, ModelWorld, acted, message_of, or_refused, posted, site_of, step, target_is_here}
 use Rattle.sup_model.proofs.Afters.{After, after-or_refused, after-refused_if, after-then_do}
 use Rattle.sup_model.proofs.CleanWorld.{find-in}
 use Rattle.sup_world.specs.ModelStays.{message_sent, model_comes_to, ModelNodesStay, ModelMessagesStay}
 use Rattle.sup_world.proofs.LocalityLaws.{still}
 use Rattle.sup_world.proofs.NameLaws.{KeepsName, act_named, deliver_named, kept_after}
 
-abbrev in_sites : List Site → Bytes → Option Site
-in_sites sites name = find (λ (s : Site). is_named name s.node.name) sites
+abbrev in_sites : List ModelSite → Bytes → Option ModelSite
+in_sites sites name = find (λ (s : ModelSite). is_named name s.node.name) sites
 
-abbrev put : List Site → Site → List Site
-put sites new = map (λ (s : Site). if is_named new.node.name s.node.name then new else s) sites
+abbrev put : List ModelSite → ModelSite → List ModelSite
+put sites new = map (λ (s : ModelSite). if is_named new.node.name s.node.name then new else s) sites
 
-found_put : (sites : List Site) (old new : Site) → in_sites sites new.node.name ≡ Some old → in_sites (put sites new) new.node.name ≡ Some new
+found_put : (sites : List ModelSite) (old new : ModelSite) → in_sites sites new.node.name ≡ Some old → in_sites (put sites new) new.node.name ≡ Some new
 found_put [] old new e = absurd (none-some old e)
 found_put (s ∷ ss) old new e =
     elim (is_named new.node.name s.node.name) as (λ b. is_named new.node.name s.node.name ≡ b → cond b (Some s) (in_sites ss new.node.name) ≡ Some old
@@ -35,7 +35,7 @@ found_put (s ∷ ss) old new e =
       | false ↦ λ h f. ap (λ c. cond c (Some s) (in_sites (put ss new) new.node.name)) h ∙ found_put ss old new f
     ] refl e
 
-other_put : (sites : List Site) (new : Site) (name : Bytes) → is_named name new.node.name ≡ false → in_sites (put sites new) name ≡ in_sites sites name
+other_put : (sites : List ModelSite) (new : ModelSite) (name : Bytes) → is_named name new.node.name ≡ false → in_sites (put sites new) name ≡ in_sites sites name
 other_put [] new name n = refl
 other_put (s ∷ ss) new name n =
     elim (is_named new.node.name s.node.name) as (λ b. is_named new.node.name s.node.name ≡ b
@@ -47,36 +47,36 @@ other_put (s ∷ ss) new name n =
     ] refl
 
 -- what a step that isn't refused is: one node's
-record Acts (w : World) (s : Step) (x : Stepped) : Type 0 where
-  pub site : Site
+record Acts (w : ModelWorld) (s : Step) (x : WorldStepped) : Type 0 where
+  pub site : ModelSite
   pub there : site_of w (model_comes_to w s) ≡ Some site
-  pub out : Outcome Ops
+  pub out : ActOutcome Ops
   pub named : out.node.name ≡ site.node.name
   pub is : x ≡ acted w site out
 
-found_message : (o : Option Site) (k : ℕ) (sender : Site) (m : Message Ops) → o ≡ Some sender → message_of sender k ≡ Some m → option_and_then (λ (s : Site). message_of s k) o ≡ Some m
-found_message o k sender m e f = ap (option_and_then (λ (s : Site). message_of s k)) e ∙ f
+found_message : (o : Option ModelSite) (k : ℕ) (sender : ModelSite) (m : Message Ops) → o ≡ Some sender → message_of sender k ≡ Some m → option_and_then (λ (s : ModelSite). message_of s k) o ≡ Some m
+found_message o k sender m e f = ap (option_and_then (λ (s : ModelSite). message_of s k)) e ∙ f
 
-receives : (w : World) (from : Bytes) (k : ℕ) (at : Option Bytes) (drop now : ℕ) (saves : Bool) (m : Message Ops) → message_sent w from k ≡ Some m → unwrap_or at m.to ≡ model_comes_to w (Delivery from k at drop now saves)
+receives : (w : ModelWorld) (from : Bytes) (k : ℕ) (at : Option Bytes) (drop now : ℕ) (saves : Bool) (m : Message Ops) → message_sent w from k ≡ Some m → unwrap_or at m.to ≡ model_comes_to w (Delivery from k at drop now saves)
 receives w from k at drop now saves m e = ap (λ o. unwrap_or at (unwrap_or (option_map (λ (x : Message Ops). x.to) o) [])) (sym e)
 
-step_acts : (w : World) (s : Step) → After (Acts w s) (step w s)
+step_acts : (w : ModelWorld) (s : Step) → After (Acts w s) (step w s)
 step_acts w (AtNode at act now saves) =
     let s = AtNode at act now saves in
-    let next = λ (site : Site) (o : Outcome Ops). let x : Result Stepped Refusal = Ok (acted w site o) in x in
-    let made = λ (site : Site). kept_by saves (act_step by_operations w.weigher site.node act now) in
-    let rest = λ (site : Site). then_do (made site) (next site) in
+    let next = λ (site : ModelSite) (o : ActOutcome Ops). let x : Result WorldStepped Refusal = Ok (acted w site o) in x in
+    let made = λ (site : ModelSite). kept_by saves (act_step by_operations w.weigher site.node act now) in
+    let rest = λ (site : ModelSite). then_do (made site) (next site) in
     after-or_refused (Acts w s) (site_of w at) UnknownNode (λ site. refused_if (not (target_is_here w act)) UnknownNode (rest site)) (λ site e.
     after-refused_if (Acts w s) (not (target_is_here w act)) UnknownNode (rest site)
     (after-then_do (KeepsName site.node) (Acts w s) (made site) (next site) (kept_after (KeepsName site.node) saves (act_step by_operations w.weigher site.node act now) (act_named by_operations w.weigher site.node act now))
     (λ o n. record { site = site; there = e; out = o; named = n; is = refl })))
 step_acts w (Delivery from k at drop now saves) =
     let s = Delivery from k at drop now saves in
-    let next = λ (site : Site) (o : Outcome Ops). let x : Result Stepped Refusal = Ok (acted w site o) in x in
-    let made = λ (m : Message Ops) (site : Site). kept_by saves (deliver by_operations w.weigher site.node from m (drop == 0)) in
-    let at_receiver = λ (m : Message Ops) (site : Site). then_do (made m site) (next site) in
+    let next = λ (site : ModelSite) (o : ActOutcome Ops). let x : Result WorldStepped Refusal = Ok (acted w site o) in x in
+    let made = λ (m : Message Ops) (site : ModelSite). kept_by saves (deliver by_operations w.weigher site.node from m (drop == 0)) in
+    let at_receiver = λ (m : Message Ops) (site : ModelSite). then_do (made m site) (next site) in
     let with_message = λ (m : Message Ops). or_refused (site_of w (unwrap_or at m.to)) UnknownNode (at_receiver m) in
-    let with_sender = λ (sender : Site). or_refused (message_of sender k) NoSuchMessage with_message in
+    let with_sender = λ (sender : ModelSite). or_refused (message_of sender k) NoSuchMessage with_message in
     after-or_refused (Acts w s) (site_of w from) UnknownNode with_sender (λ sender f.
     after-or_refused (Acts w s) (message_of sender k) NoSuchMessage with_message (λ m g.
     after-or_refused (Acts w s) (site_of w (unwrap_or at m.to)) UnknownNode (at_receiver m) (λ site e.
@@ -90,21 +90,21 @@ step_acts w (Delivery from k at drop now saves) =
     }))))
 step_acts w (Raw at bytes) =
     let s = Raw at bytes in
-    let none : Result Stepped Refusal = Err NoSuchMessage in
+    let none : Result WorldStepped Refusal = Err NoSuchMessage in
     let inner = refused_if (not (w.is_message bytes)) BadMessage none in
     after-or_refused (Acts w s) (site_of w at) UnknownNode (λ site. refused_if (not site.node.up) Down inner) (λ site _.
     after-refused_if (Acts w s) (not site.node.up) Down inner (after-refused_if (Acts w s) (not (w.is_message bytes)) BadMessage none tt))
 
-name_is : (w : World) (name : Bytes) (site : Site) → site_of w name ≡ Some site → name ≡ site.node.name
-name_is w name site e = named_same name site.node.name (find-in (λ (s : Site). is_named name s.node.name) w.sites site e).1
+name_is : (w : ModelWorld) (name : Bytes) (site : ModelSite) → site_of w name ≡ Some site → name ≡ site.node.name
+name_is w name site e = named_same name site.node.name (find-in (λ (s : ModelSite). is_named name s.node.name) w.sites site e).1
 
-abbrev new_site : Site → Outcome Ops → Site
+abbrev new_site : ModelSite → ActOutcome Ops → ModelSite
 new_site site o = record { node = o.node; sent = posted site.sent o.letter }
 
-others_in : (w : World) (s : Step) (r : Result Stepped Refusal) → After (Acts w s) r → (name : Bytes) → is_named name (model_comes_to w s) ≡ false → site_of (world_after w r) name ≡ site_of w name
+others_in : (w : ModelWorld) (s : Step) (r : Result WorldStepped Refusal) → After (Acts w s) r → (name : Bytes) → is_named name (model_comes_to w s) ≡ false → site_of (world_after w r) name ≡ site_of w name
 others_in w s (Err refusal) a name other = refl
 others_in w s (Ok x) a name other =
-    ap (λ (y : Stepped). site_of y.world name) a.is
+    ap (λ (y : WorldStepped). site_of y.world name) a.is
     ∙ other_put w.sites (new_site a.site a.out) name (subst (λ n. is_named name n ≡ false) (name_is w (model_comes_to w s) a.site a.there ∙ sym a.named) other)
 
 pub model_nodes_stay : ModelNodesStay
@@ -114,15 +114,15 @@ posted_still : (sent : List (Message Ops)) (letter : Option (Message Ops)) (i : 
 posted_still sent None i m e = e
 posted_still sent (Some l) i m e = still sent l i m e
 
-message_still : (site : Site) (o : Outcome Ops) (k : ℕ) (m : Message Ops) → message_of site k ≡ Some m → message_of (new_site site o) k ≡ Some m
+message_still : (site : ModelSite) (o : ActOutcome Ops) (k : ℕ) (m : Message Ops) → message_of site k ≡ Some m → message_of (new_site site o) k ≡ Some m
 message_still site o k m e =
     elim (k == 0) as (λ b. (if b then None else slice_get site.sent (k - 1)) ≡ Some m → (if b then None else slice_get (posted site.sent o.letter) (k - 1)) ≡ Some m) [ true ↦ λ f. f | false ↦ λ f. posted_still site.sent o.letter (k - 1) m f ] e
 
-message_there : (o : Option Site) (k : ℕ) (m : Message Ops) → option_and_then (λ (s : Site). message_of s k) o ≡ Some m → (site : Site) × (o ≡ Some site) × (message_of site k ≡ Some m)
+message_there : (o : Option ModelSite) (k : ℕ) (m : Message Ops) → option_and_then (λ (s : ModelSite). message_of s k) o ≡ Some m → (site : ModelSite) × (o ≡ Some site) × (message_of site k ≡ Some m)
 message_there None k m e = absurd (none-some m e)
 message_there (Some site) k m e = (site, refl, e)
 
-messages_in : (w : World) (s : Step) (r : Result Stepped Refusal) → After (Acts w s) r → (from : Bytes) (k : ℕ) (m : Message Ops) → message_sent w from k ≡ Some m → message_sent (world_after w r) from k ≡ Some m
+messages_in : (w : ModelWorld) (s : Step) (r : Result WorldStepped Refusal) → After (Acts w s) r → (from : Bytes) (k : ℕ) (m : Message Ops) → message_sent w from k ≡ Some m → message_sent (world_after w r) from k ≡ Some m
 messages_in w s (Err refusal) a from k m e = e
 messages_in w s (Ok x) a from k m e =
     let new = new_site a.site a.out in
@@ -134,10 +134,10 @@ messages_in w s (Ok x) a from k m e =
           let same : from ≡ name = named_same from name n in
           let own : sender.0 ≡ a.site = same_Some sender.0 a.site (sym sender.1 ∙ ap (site_of w) (same ∙ sym is) ∙ a.there) in
           let old : site_of w name ≡ Some a.site = ap (site_of w) (sym is) ∙ a.there in
-          ap (λ (y : Stepped). message_sent y.world from k) a.is
-          ∙ ap (option_and_then (λ (t : Site). message_of t k)) (ap (in_sites (put w.sites new)) same ∙ found_put w.sites a.site new old)
-          ∙ message_still a.site a.out k m (subst (λ (t : Site). message_of t k ≡ Some m) own sender.2)
-      | false ↦ λ n. ap (λ (y : Stepped). message_sent y.world from k) a.is ∙ ap (option_and_then (λ (t : Site). message_of t k)) (other_put w.sites new from n) ∙ e
+          ap (λ (y : WorldStepped). message_sent y.world from k) a.is
+          ∙ ap (option_and_then (λ (t : ModelSite). message_of t k)) (ap (in_sites (put w.sites new)) same ∙ found_put w.sites a.site new old)
+          ∙ message_still a.site a.out k m (subst (λ (t : ModelSite). message_of t k ≡ Some m) own sender.2)
+      | false ↦ λ n. ap (λ (y : WorldStepped). message_sent y.world from k) a.is ∙ ap (option_and_then (λ (t : ModelSite). message_of t k)) (other_put w.sites new from n) ∙ e
     ] refl
 
 pub model_messages_stay : ModelMessagesStay

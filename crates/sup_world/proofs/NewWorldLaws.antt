@@ -8,11 +8,11 @@ use Rattle.sup_tables.specs.States.{State}
 use Rattle.sup_placement.specs.Place.{Weigher}
 use Rattle.sup_replica.specs.Configs.{Config}
 use Rattle.sup_replica.specs.ByTables.{by_tables}
-use Rattle.sup_replica.specs.Stations.{Station, Codec, Mail, an_ack}
+use Rattle.sup_replica.specs.Stations.{Station, MailCodec, Mail, an_ack}
 use Rattle.sup_node.specs.NodeSteps.{fresh_station}
 use Rattle.sup_node.specs.Texts.{IsLetter}
-use Rattle.sup_model.specs.Posts.{Post, reads, real_new}
-use Rattle.sup_model.specs.Follows.{Distinct, WorldStandsFor}
+use Rattle.sup_model.specs.Posts.{StationPost, reads, real_new}
+use Rattle.sup_model.specs.Follows.{NamesAllDiffer, WorldStandsFor}
 use Rattle.sup_model.specs.Worlds.{new}
 use Rattle.sup_model.proofs.FollowLaws.{new_stands}
 use Rattle.sup_world.specs.StandingStations.{IsNodeOf, IsSetAs}
@@ -26,7 +26,7 @@ a_mail : Mail State
 a_mail = an_ack [] [] 0
 
 module _ (config : Config) where
-  abbrev pub new_post : Bytes → Post State
+  abbrev pub new_post : Bytes → StationPost State
   new_post name = record { station = fresh_station name config; sent = [] }
 
   site_stands : (name : Bytes) (s : SeenNode) → IsNew name config s → SiteStands s (new_post name)
@@ -67,23 +67,23 @@ module _ (config : Config) where
   pub unfailed_new : (names : List Bytes) (sites : List SeenNode) → AllZip (λ name s. IsNew name config s) names sites → All (λ (s : SeenNode). s.failures ≡ 0) sites
   unfailed_new names sites h = unfailed names sites h
 
-  pub shows_new : (g : Weigher) (codec : Codec State) (names : List Bytes) (sites : List SeenNode) → Distinct names → AllZip (λ name s. IsNew name config s) names sites
+  pub shows_new : (g : Weigher) (codec : MailCodec State) (names : List Bytes) (sites : List SeenNode) → NamesAllDiffer names → AllZip (λ name s. IsNew name config s) names sites
       → ShowsReal g sites (real_new by_tables (setting_in g config) config.buffer codec names)
-  shows_new g codec names sites d h = record { weigher_is = refl; sites_stand = all_new names sites h; apart = subst (λ ns. Distinct ns) (sym (same_names names sites h)) d }
+  shows_new g codec names sites d h = record { weigher_is = refl; sites_stand = all_new names sites h; apart = subst (λ ns. NamesAllDiffer ns) (sym (same_names names sites h)) d }
 
   -- and for the model's, whichever texts are messages
   mailed : (b : Bool) → is_some (if b then Some a_mail else None) ≡ b
   mailed true = refl
   mailed false = refl
 
-  codec_of : (Bytes → Bool) → Codec State
+  codec_of : (Bytes → Bool) → MailCodec State
   codec_of is_message = record { write = λ _. []; read = λ b. if is_message b then Some a_mail else None }
 
   reads_all : (is_message : Bytes → Bool) → reads (codec_of is_message) ≡ is_message
   unfolding codec_of
   reads_all is_message = λ i b. mailed (is_message b) i
 
-  pub stands_new : (g : Weigher) (is_message : Bytes → Bool) (names : List Bytes) (sites : List SeenNode) → Distinct names → AllZip (λ name s. IsNew name config s) names sites → StandsFor g sites (new (setting_in g config) is_message names)
+  pub stands_new : (g : Weigher) (is_message : Bytes → Bool) (names : List Bytes) (sites : List SeenNode) → NamesAllDiffer names → AllZip (λ name s. IsNew name config s) names sites → StandsFor g sites (new (setting_in g config) is_message names)
   stands_new g is_message names sites d h =
       let codec = codec_of is_message in
       record {

@@ -13,11 +13,11 @@ use Rattle.sup_replica.specs.declared.event.Act.TheVariants.{Event as Of, Stop, 
 use Rattle.sup_replica.specs.declared.refusal.Refusal.{Refusal}
 use Rattle.sup_replica.specs.declared.refusal.Refusal.TheVariants.{UnknownNode}
 use Rattle.sup_replica.specs.ByTables.{by_tables}
-use Rattle.sup_replica.specs.Stations.{Mail, Move, station_step}
+use Rattle.sup_replica.specs.Stations.{Mail, StationMove, station_step}
 use Rattle.sup_node.specs.Texts.{reads_as}
 use Rattle.sup_model.specs.declared.step.Step.{Step}
 use Rattle.sup_model.specs.declared.step.Step.TheVariants.{Node as AtNode}
-use Rattle.sup_model.specs.Posts.{Post, Real, target_here, real_step, post_of}
+use Rattle.sup_model.specs.Posts.{StationPost, RealWorld, target_here, real_step, post_of}
 use Rattle.sup_world.specs.declared.answer.Answer.{Answer}
 use Rattle.sup_model.specs.Runs.{may_want}
 use Rattle.sup_world.specs.Moves.{ReadsIn, wants}
@@ -30,7 +30,7 @@ use Rattle.sup_world.proofs.SeenListLaws.{failures_place, element}
 use Rattle.sup_world.proofs.WorldStepLaws.{next, refuses, steps, acts, act_wants, nowhere, no_target}
 
 -- a refusal that is told on
-pub told_on : (g : Weigher) (real : Real State) (step : Step) (sites : List SeenNode) (result : Result Answer Refusal) (r q : Refusal) → IsErrAnd result (λ x. x ≡ r) → r ≡ q → MakesRealStep g real step (Err q) sites → MakesRealStep g real step result sites
+pub told_on : (g : Weigher) (real : RealWorld State) (step : Step) (sites : List SeenNode) (result : Result Answer Refusal) (r q : Refusal) → IsErrAnd result (λ x. x ≡ r) → r ≡ q → MakesRealStep g real step (Err q) sites → MakesRealStep g real step result sites
 told_on g real step sites (Ok a) r q h e s = absurd h
 told_on g real step sites (Err x) r q h e s = subst (λ (y : Refusal). MakesRealStep g real step (Err y) sites) (sym (h ∙ e)) s
 
@@ -51,13 +51,13 @@ reads_none Stop e = tt
 reads_none Restart e = tt
 
 -- the node in a place, and what it stands for
-pub record Here (real : Real State) (old : SeenNode) (name : Bytes) : Type 0 where
-  pub post : Post State
+pub record Here (real : RealWorld State) (old : SeenNode) (name : Bytes) : Type 0 where
+  pub post : StationPost State
   pub found : post_of real name ≡ Some post
   pub stands : SiteStands old post
   pub named : name ≡ name_of post
 
-module _ (g : Weigher) (real : Real State) (sites : List SeenNode) (h : ShowsReal g sites real) where
+module _ (g : Weigher) (real : RealWorld State) (sites : List SeenNode) (h : ShowsReal g sites real) where
   pub here : (name : Bytes) (i : ℕ) (old : SeenNode) → i ≡ place sites name → i < length sites → old ≡ slice_index_or sites i old → Here real old name
   here name i old is lt at =
       let within : place sites name < length sites = subst (λ j. j < length sites) is lt in
@@ -70,7 +70,7 @@ module _ (g : Weigher) (real : Real State) (sites : List SeenNode) (h : ShowsRea
 
   -- a step that is an act of the node in this place, of which this is the station's step
   pub acted : (name : Bytes) (i : ℕ) (old new : SeenNode) → i ≡ place sites name → i < length sites → (p : Here real old name) → new.name ≡ old.name
-      → (step : Step) (act : Act) (x : Result (Move State) Refusal) → real_step by_tables real step ≡ next g real p.post x → ((late : Bool) → wants act late ≡ may_want step late)
+      → (step : Step) (act : Act) (x : Result (StationMove State) Refusal) → real_step by_tables real step ≡ next g real p.post x → ((late : Bool) → wants act late ≡ may_want step late)
       → (result : Result Answer Refusal) → NodeAnswers x p.post act result new → MakesRealStep g real step result (slice_set sites i new)
   acted name i old new is lt p same step act x e want result a =
       let within : place sites name < length sites = subst (λ j. j < length sites) is lt in
@@ -85,12 +85,12 @@ module _ (g : Weigher) (real : Real State) (sites : List SeenNode) (h : ShowsRea
   -- an act at a node
   pub act_steps : (at : Bytes) (act : Act) (now : ℕ) (saves : Bool) (i : ℕ) (old new : SeenNode) → i ≡ place sites at → i < length sites → old ≡ slice_index_or sites i old → new.name ≡ old.name
       → brings_bytes act ≡ false → target_here real act ≡ true → (result : Result Answer Refusal)
-      → ((post : Post State) (mail : Option (Mail State)) → SiteStands old post → ReadsIn act mail → NodeAnswers (station_step by_tables (reads_as mail) g post.station act now (holds saves old.failures)) post act result new)
+      → ((post : StationPost State) (mail : Option (Mail State)) → SiteStands old post → ReadsIn act mail → NodeAnswers (station_step by_tables (reads_as mail) g post.station act now (holds saves old.failures)) post act result new)
       → MakesRealStep g real (carried sites (AtNode at act now saves)) result (slice_set sites i new)
   act_steps at act now saves i old new is lt elem same plain target result answers =
       let p = here at i old is lt elem in
       let b = holds saves old.failures in
-      let x : Result (Move State) Refusal = station_step by_tables (reads_as None) g p.post.station act now b in
+      let x : Result (StationMove State) Refusal = station_step by_tables (reads_as None) g p.post.station act now b in
       let e : real_step by_tables real (AtNode at act now b) ≡ next g real p.post x =
       acts g real at act now b p.post p.found target plain ∙ ap (λ w. next g real p.post (station_step by_tables (reads_as None) w p.post.station act now b)) h.weigher_is in
       subst (λ n. MakesRealStep g real (AtNode at act now (holds saves n)) result (slice_set sites i new)) (sym (failures_here at i old is lt elem))

@@ -12,7 +12,7 @@ use Rattle.sup_replica.specs.ByTables.{by_tables}
 use Rattle.sup_replica.specs.Stations.{Station}
 use Rattle.sup_model.specs.declared.step.Step.TheVariants.{Raw}
 use Rattle.sup_model.specs.Worlds.{or_refused}
-use Rattle.sup_model.specs.Posts.{Post, Real, RealStepped, reads, real_step}
+use Rattle.sup_model.specs.Posts.{StationPost, RealWorld, RealStepped, reads, real_step}
 use Rattle.sup_world.specs.CarriedSteps.{KnowsBytes}
 use Rattle.sup_world.specs.ComingLetters.{IsRawRefusal}
 use Rattle.sup_world.specs.StandingStations.{IsNodeOf}
@@ -23,11 +23,11 @@ use Rattle.sup_world.proofs.SitePlaceLaws.{place}
 use Rattle.sup_world.proofs.WorldStepLaws.{refuses}
 use Rattle.sup_world.proofs.NodeActLaws.{Here, absent}
 
-module _ (g : Weigher) (real : Real State) (sites : List SeenNode) (h : ShowsReal g sites real) (at bytes : Bytes) where
+module _ (g : Weigher) (real : RealWorld State) (sites : List SeenNode) (h : ShowsReal g sites real) (at bytes : Bytes) where
   abbrev refusing : Bool → Bool → Result (RealStepped State) Refusal
   refusing up is_message = refused_if (not up) Down (refused_if (not is_message) BadMessage (Err NoSuchMessage))
 
-  abbrev at_post : Post State → Result (RealStepped State) Refusal
+  abbrev at_post : StationPost State → Result (RealStepped State) Refusal
   at_post post = refusing post.station.node.up (reads real.codec bytes)
 
   -- no such node

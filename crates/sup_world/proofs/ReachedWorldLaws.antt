@@ -7,20 +7,20 @@ use Rattle.std.proofs.lemmas.List.Elements.{recursion_from_All, All-from_recursi
 use mathlib.Core.Logic.{inl, inr}
 use Rattle.sup_specs.specs.Values.{Bytes}
 use Rattle.sup_tables.specs.States.{State}
-use Rattle.sup_anti_entropy.specs.Peers.{In}
+use Rattle.sup_anti_entropy.specs.Peers.{OccursIn}
 use Rattle.sup_placement.specs.Place.{Weigher}
 use Rattle.sup_keeper.specs.Keeping.{most}
 use Rattle.sup_replica.specs.declared.refusal.Refusal.{Refusal}
-use Rattle.sup_replica.specs.ByTables.{Stands}
+use Rattle.sup_replica.specs.ByTables.{TablesStandFor}
 use Rattle.sup_replica.specs.Configs.{Config}
 use Rattle.sup_replica.specs.Stations.{Station}
 use Rattle.sup_node.specs.Changes.{image_of}
-use Rattle.sup_model.specs.Refines.{Pair}
+use Rattle.sup_model.specs.Refines.{NodePair}
 use Rattle.sup_model.specs.Stands.{NodeStands}
 use Rattle.sup_model.specs.TableViews.{table_view}
 use Rattle.sup_model.specs.declared.step.Step.{Step}
-use Rattle.sup_model.specs.Runs.{Allows, Run, all_issued}
-use Rattle.sup_model.specs.Worlds.{World, Answer as Expected, new}
+use Rattle.sup_model.specs.Runs.{ModelAllows, ModelRun, all_issued}
+use Rattle.sup_model.specs.Worlds.{ModelWorld, ModelAnswer as Expected, new}
 use Rattle.sup_model.proofs.Messages.{run_same}
 use Rattle.sup_model.proofs.RunLists.{runs_append}
 use Rattle.sup_model.proofs.FollowLaws.{worlds_stand}
@@ -43,7 +43,7 @@ zip_one (d ∷ es) [] e a h one = absurd h
 zip_one (d ∷ es) (b ∷ rs) e a h one = (h.0, zip_one es rs e a h.1 one)
 
 -- node by node
-absorbed : (s : SeenNode) (p : Pair State) → SiteStands s p.post → NodeStands table_view p.post.station.node p.site.node → HasAbsorbed s p.site
+absorbed : (s : SeenNode) (p : NodePair State) → SiteStands s p.post → NodeStands table_view p.post.station.node p.site.node → HasAbsorbed s p.site
 absorbed s p h n = record {
   named = h.name ∙ n.name;
   up = sym n.up ∙ up s.kept_station.node h.station.node;
@@ -56,27 +56,27 @@ absorbed s p h n = record {
   up None i = i.down
   up (Some q) i = i.1
 
-  running : (o : Option (Station State)) → IsNodeOf p.post.station o → IfSome o (λ q. Stands q.node.known p.site.node.known)
+  running : (o : Option (Station State)) → IsNodeOf p.post.station o → IfSome o (λ q. TablesStandFor q.node.known p.site.node.known)
   running None i = tt
-  running (Some q) i = subst (λ (r : Station State). Stands r.node.known p.site.node.known) (sym i.0) n.state
+  running (Some q) i = subst (λ (r : Station State). TablesStandFor r.node.known p.site.node.known) (sym i.0) n.state
 
-each_absorbed : (sites : List SeenNode) (pairs : List (Pair State)) → AllZip SiteStands sites (map (λ p. p.post) pairs) → ((p : Pair State) → In pairs p → NodeStands table_view p.post.station.node p.site.node)
+each_absorbed : (sites : List SeenNode) (pairs : List (NodePair State)) → AllZip SiteStands sites (map (λ p. p.post) pairs) → ((p : NodePair State) → OccursIn pairs p → NodeStands table_view p.post.station.node p.site.node)
     → AllZip HasAbsorbed sites (map (λ p. p.site) pairs)
 each_absorbed [] [] h n = tt
 each_absorbed [] (p ∷ ps) h n = absurd h
 each_absorbed (s ∷ ss) [] h n = absurd h
 each_absorbed (s ∷ ss) (p ∷ ps) h n = (absorbed s p h.0 (n p (inl refl)), each_absorbed ss ps h.1 (λ q i. n q (inr i)))
 
-all_absorbed : (g : Weigher) (sites : List SeenNode) (model : World) → StandsFor g sites model → AllZip HasAbsorbed sites model.sites
+all_absorbed : (g : Weigher) (sites : List SeenNode) (model : ModelWorld) → StandsFor g sites model → AllZip HasAbsorbed sites model.sites
 all_absorbed g sites model h =
     let w = worlds_stand h.real model h.stands in
     subst (λ ss. AllZip HasAbsorbed sites ss) w.sites (each_absorbed sites w.pairs (subst (λ ps. AllZip SiteStands sites ps) (sym w.posts) h.shows.sites_stand) w.nodes)
 
 module _ (g : Weigher) (config : Config) (names : List Bytes) (is_message : Bytes → Bool) where
-  abbrev start : World
+  abbrev start : ModelWorld
   start = new (setting_in g config) is_message names
 
-  reached : (steps : List Step) (answers : List (Result Answer Refusal)) (sites : List SeenNode) (expected : List (Result Expected Refusal)) (after : World) → Run start steps expected after → AllZip IsAsOf expected answers → StandsFor g sites after
+  reached : (steps : List Step) (answers : List (Result Answer Refusal)) (sites : List SeenNode) (expected : List (Result Expected Refusal)) (after : ModelWorld) → ModelRun start steps expected after → AllZip IsAsOf expected answers → StandsFor g sites after
       → FailedAtMost (length steps) sites → ReachedByRun g config names is_message steps answers sites
   reached steps answers sites expected after run told stands failed = record {
     expected = expected;
@@ -99,8 +99,8 @@ module _ (g : Weigher) (config : Config) (names : List Bytes) (is_message : Byte
       let same_message : r.after.is_message ≡ is_message = run_same start before r.expected r.after r.is_run in
       let fol : FollowsModel g r.after (carried sites step) answer new = goes.follows r.after r.stands (subst (λ (t : Bytes → Bool). KnowsBytes t step) (sym same_message) knows) in
       let same : carried sites step ≡ step = carried_same sites step (can_fail (length before) sites lt r.failed) in
-      let allows : Allows r.after step fol.expected fol.after = subst (λ (x : Step). Allows r.after x fol.expected fol.after) same fol.allows in
-      let run : Run start (before ++ step ∷ []) (r.expected ++ fol.expected ∷ []) fol.after = runs_append start r.after fol.after before (step ∷ []) r.expected (fol.expected ∷ []) r.is_run (fol.after, allows, refl) in
+      let allows : ModelAllows r.after step fol.expected fol.after = subst (λ (x : Step). ModelAllows r.after x fol.expected fol.after) same fol.allows in
+      let run : ModelRun start (before ++ step ∷ []) (r.expected ++ fol.expected ∷ []) fol.after = runs_append start r.after fol.after before (step ∷ []) r.expected (fol.expected ∷ []) r.is_run (fol.after, allows, refl) in
       let long : length (before ++ step ∷ []) ≡ length before + 1 = length-append before (step ∷ []) in
       reached (before ++ step ∷ []) (told ++ answer ∷ []) new (r.expected ++ fol.expected ∷ []) fol.after run (zip_one r.expected told fol.expected answer r.told fol.told) fol.stands
       (subst (λ (n : ℕ). FailedAtMost n new) (sym long) (failed_once_more (length before) sites new r.failed goes.counted))

@@ -8,7 +8,7 @@ use Rattle.sup_wire.specs.declared.message.Message.{Message}
 use Rattle.sup_wire.specs.declared.image.Image.{Image}
 use Rattle.sup_wire.specs.Drafts.{IsDraftOf, IsDraftOfImage, IsWholeMessage, IsWholeImage, SaysMessage, SaysImage}
 use Rattle.sup_wire.specs.DraftReads.{message_at, stored_at}
-use Rattle.sup_wire.specs.Faults.{Says}
+use Rattle.sup_wire.specs.Faults.{TextSays}
 use Rattle.sup_wire.proofs.DraftLaws.{message_again, stored_again, version_again}
 use Rattle.sup_wire.proofs.DraftsOf.{message_kind, one_message, image_kind, one_image}
 use Rattle.sup_wire.proofs.Promises.{says_one}
@@ -18,10 +18,10 @@ use Rattle.sup_replica.specs.Stations.{Station, Mail}
 use Rattle.sup_node.specs.NodeSteps.{ReadsMail, stepped}
 use Rattle.sup_node.specs.Texts.{IsReadAs, mail_of}
 
-pub same_message : (text : Bytes) (m n : Message) → IsWholeMessage m → IsWholeMessage n → Says IsDraftOf text m → Says IsDraftOf text n → n ≡ m
+pub same_message : (text : Bytes) (m n : Message) → IsWholeMessage m → IsWholeMessage n → TextSays IsDraftOf text m → TextSays IsDraftOf text n → n ≡ m
 same_message = says_one IsDraftOf IsWholeMessage SaysMessage message_at message_again version_again message_kind one_message
 
-pub same_image : (text : Bytes) (i j : Image) → IsWholeImage i → IsWholeImage j → Says IsDraftOfImage text i → Says IsDraftOfImage text j → j ≡ i
+pub same_image : (text : Bytes) (i j : Image) → IsWholeImage i → IsWholeImage j → TextSays IsDraftOfImage text i → TextSays IsDraftOfImage text j → j ≡ i
 same_image = says_one IsDraftOfImage IsWholeImage SaysImage stored_at stored_again version_again image_kind one_image
 
 pub same_mail : (bytes : Bytes) (a b : Option (Mail State)) → IsReadAs bytes a → IsReadAs bytes b → a ≡ b

@@ -7,9 +7,9 @@ use Rattle.sup_placement.specs.Place.{Weigher}
 use Rattle.sup_local_sup.specs.declared.effect.Effect.{Effect}
 use Rattle.sup_replica.specs.declared.refusal.Refusal.{Refusal}
 use Rattle.sup_replica.specs.declared.refusal.Refusal.TheVariants.{OutOfMemory}
-use Rattle.sup_model.specs.Worlds.{World, Answer as Expected}
-use Rattle.sup_model.specs.Follows.{Distinct}
-use Rattle.sup_model.specs.Settles.{Gathered, Spread, Settles}
+use Rattle.sup_model.specs.Worlds.{ModelWorld, ModelAnswer as Expected}
+use Rattle.sup_model.specs.Follows.{NamesAllDiffer}
+use Rattle.sup_model.specs.Settles.{GatheredAtFirst, SpreadToOthers, WorldSettles}
 use Rattle.sup_model.proofs.FollowLaws.{settling_settles}
 use Rattle.sup_world.specs.declared.settled.Settled.{Settled}
 use Rattle.sup_world.specs.declared.settling.Way.TheVariants.{In, Out}
@@ -24,11 +24,11 @@ use Rattle.sup_world.proofs.ExchangeListLaws.{done, stops_more, goes_then, goes_
 use Rattle.sup_world.proofs.TallyLaws.{notes_none}
 use Rattle.sup_world.proofs.UpNameLaws.{running_up, names_differ, first_known}
 
-gathered : (w : World) (first : Bytes) (names : List Bytes) (answers : List (Result Expected Refusal)) (w' : World) → AllExchanged w (map (ends In first) names) answers w' → Gathered w first names w'
+gathered : (w : ModelWorld) (first : Bytes) (names : List Bytes) (answers : List (Result Expected Refusal)) (w' : ModelWorld) → AllExchanged w (map (ends In first) names) answers w' → GatheredAtFirst w first names w'
 gathered w first [] answers w' h = h.1
 gathered w first (n ∷ ns) answers w' h = (h.0, h.3.0, gathered h.0 first ns h.2 w' h.4)
 
-spread : (w : World) (first : Bytes) (names : List Bytes) (answers : List (Result Expected Refusal)) (w' : World) → AllExchanged w (map (ends Out first) names) answers w' → Spread w first names w'
+spread : (w : ModelWorld) (first : Bytes) (names : List Bytes) (answers : List (Result Expected Refusal)) (w' : ModelWorld) → AllExchanged w (map (ends Out first) names) answers w' → SpreadToOthers w first names w'
 spread w first [] answers w' h = h.1
 spread w first (n ∷ ns) answers w' h = (h.0, h.3.0, spread h.0 first ns h.2 w' h.4)
 
@@ -46,11 +46,11 @@ tallied answers t u settled b n m e =
     let none : length t.sent.items ≡ 0 = ap length b.0 in
     record { messages = omega (arith, m, n.messages, none); effects = e ∙ n.effects ∙ ap (λ (xs : List (Bytes × Effect)). xs ++ effects_of answers) b.1 }
 
-cut_short : (w after : World) (result : Result Settled Refusal) (r : Refusal) → IsErrAnd result (λ q. q ≡ r) → IsCutShort w r after → EndsSettling w result after
+cut_short : (w after : ModelWorld) (result : Result Settled Refusal) (r : Refusal) → IsErrAnd result (λ q. q ≡ r) → IsCutShort w r after → EndsSettling w result after
 cut_short w after (Ok s) r e h = absurd e
 cut_short w after (Err q) r e h = subst (λ (p : Refusal). IsCutShort w p after) (sym e) h
 
-module _ (weigher : Weigher) (model : World) where
+module _ (weigher : Weigher) (model : ModelWorld) where
   -- no memory for the names
   pub no_names : (sites : List SeenNode) (result : Result Settled Refusal) → IsErrAnd result (λ q. q ≡ OutOfMemory) → StandsFor weigher sites model → SettlesTo weigher model result sites
   no_names sites result e h = record { after = model; ends = cut_short model model result OutOfMemory e (inl (refl, refl)); stands = h }
@@ -78,22 +78,22 @@ module _ (weigher : Weigher) (model : World) where
 
     -- one of the second
     pub spread_refused : (r : Refusal) (result : Result Settled Refusal) → IsErrAnd result (λ q. q ≡ r) → ExchangesPairs weigher model (map (ends In first) others) t done u mid
-        → ((w : World) → StandsFor weigher mid w → ExchangesPairs weigher w (map (ends Out first) others) u (let x : Result (Unit {0}) Refusal = Err r in x) v new) → SettlesTo weigher model result new
+        → ((w : ModelWorld) → StandsFor weigher mid w → ExchangesPairs weigher w (map (ends Out first) others) u (let x : Result (Unit {0}) Refusal = Err r in x) v new) → SettlesTo weigher model result new
     spread_refused r result e g s =
         let both = goes_on weigher model (map (ends In first) others) (map (ends Out first) others) t u v (let x : Result (Unit {0}) Refusal = Err r in x) mid new g s in
         record { after = both.after; ends = cut_short model both.after result r e (inr (first ∷ others, names_up (first ∷ others) sites h sorted all, both.goes)); stands = both.stands }
 
     -- both are made
-    pub settled : (done_by : Settled) → IsBegun t → ExchangesPairs weigher model (map (ends In first) others) t done u mid → ((w : World) → StandsFor weigher mid w → ExchangesPairs weigher w (map (ends Out first) others) u done v new)
+    pub settled : (done_by : Settled) → IsBegun t → ExchangesPairs weigher model (map (ends In first) others) t done u mid → ((w : ModelWorld) → StandsFor weigher mid w → ExchangesPairs weigher w (map (ends Out first) others) u done v new)
         → done_by.messages ≡ length v.sent.items → done_by.effects.items ≡ v.effects.items → SettlesTo weigher model (Ok done_by) new
     settled done_by b g s m e =
         let next = s g.after g.stands in
         let both : ExchangesPairsTo model (map (ends In first) others ++ map (ends Out first) others) t done v next.after =
         goes_then model g.after next.after (map (ends In first) others) (map (ends Out first) others) g.goes.0 t u v done g.goes.1 g.goes.2 next.goes in
         let up = names_up (first ∷ others) sites h sorted all in
-        let distinct : Distinct (first ∷ others) = names_differ weigher sites model (first ∷ others) h all in
+        let distinct : NamesAllDiffer (first ∷ others) = names_differ weigher sites model (first ∷ others) h all in
         let known = first_known model first others up.all in
-        let settling : Settles model first others next.after = (g.after, gathered model first others g.goes.0 g.after g.goes.1, spread g.after first others next.goes.0 next.after next.goes.1) in
+        let settling : WorldSettles model first others next.after = (g.after, gathered model first others g.goes.0 g.after g.goes.1, spread g.after first others next.goes.0 next.after next.goes.1) in
         record {
           after = next.after;
           ends = (

@@ -18,11 +18,11 @@ use Rattle.sup_replica.specs.declared.done.Reply.TheVariants.{Stopped, Boot}
 use Rattle.sup_replica.specs.declared.refusal.Refusal.{Refusal}
 use Rattle.sup_replica.specs.declared.refusal.Refusal.TheVariants.{Down, AlreadyUp, UnknownNode, KeepFailed, CountSpent, OutOfMemory}
 use Rattle.sup_replica.specs.Checks.{refused_if, then_do}
-use Rattle.sup_replica.specs.Nodes.{Outcome, is_named}
+use Rattle.sup_replica.specs.Nodes.{ActOutcome, is_named}
 use Rattle.sup_replica.specs.Steps.{passes_greatest, up_step, only}
 use Rattle.sup_replica.specs.Acts.{kept_by, stopped, booted, keeps}
 use Rattle.sup_replica.specs.ByTables.{by_tables}
-use Rattle.sup_replica.specs.Stations.{Station, Mail, Move, station_step, moved, volatile, ship_step, shipped, read_step}
+use Rattle.sup_replica.specs.Stations.{Station, Mail, StationMove, station_step, moved, volatile, ship_step, shipped, read_step}
 use Rattle.sup_node.specs.Changes.{image_of}
 use Rattle.sup_node.specs.NodeSteps.{ReadsMail, stepped, MayLack, restart_of, stopped_by}
 use Rattle.sup_node.specs.Texts.{IsLetterOf, IsImageText, IsImageReadAs, reads_as}
@@ -36,7 +36,7 @@ use Rattle.sup_world.proofs.FailedSaveLaws.{SavesOrNot, step-saves}
 -- ---- a stopped node
 
 module _ (g : Weigher) (p : Station State) (now : ℕ) (mail : Option (Mail State)) (saves : Bool) (down : p.node.up ≡ false) where
-  down-own : (event : Event) (next : Outcome State → Move State)
+  down-own : (event : Event) (next : ActOutcome State → StationMove State)
       → then_do (kept_by saves (refused_if (not p.node.up) Down (up_step by_tables g p.node event now))) (λ o. Ok (next o)) ≡ Err Down
   down-own event next = ap (λ b. then_do (kept_by saves (refused_if (not b) Down (up_step by_tables g p.node event now))) (λ o. Ok (next o))) down
 
@@ -63,7 +63,7 @@ module _ (g : Weigher) (p : Station State) (now : ℕ) (mail : Option (Mail Stat
   pub up-restart : station_step by_tables (reads_as mail) g p Restart now saves ≡ Err AlreadyUp
   up-restart = ap (λ b. then_do (kept_by saves (refused_if b AlreadyUp (Ok (keeps by_tables g (booted p.node) (Boot (p.node.supervisor.boot + 1)) None)))) (λ o. Ok (moved by_tables o (volatile by_tables p o.node) None))) up
 
-  abbrev stop-move : Move State
+  abbrev stop-move : StationMove State
   stop-move = record { done = record { reply = Stopped; effects = [] }; letter = None; station = volatile by_tables p (stopped p.node) }
 
   pub up-stop : passes_greatest p.node ≡ false → station_step by_tables (reads_as mail) g p Stop now saves ≡ Ok stop-move
@@ -75,7 +75,7 @@ module _ (g : Weigher) (p : Station State) (now : ℕ) (mail : Option (Mail Stat
 
 module _ (g : Weigher) (c : Config) (p : Station State) (now : ℕ) (mail : Option (Mail State)) (saves : Bool) where
   -- from what is left of it
-  abbrev restart-with : Bool → ℕ → ℕ → ℕ → Result (Move State) Refusal
+  abbrev restart-with : Bool → ℕ → ℕ → ℕ → Result (StationMove State) Refusal
   restart-with up intensity period room = station_step by_tables (reads_as None) g (record {
     node = record {
       name = p.node.name;
@@ -97,7 +97,7 @@ module _ (g : Weigher) (c : Config) (p : Station State) (now : ℕ) (mail : Opti
       ∙ ap (λ w. restart-with false c.intensity w p.room) set.period
       ∙ ap (λ r. restart-with false c.intensity c.period r) set.room
 
-abbrev again : Weigher → Config → Image → Outcome State
+abbrev again : Weigher → Config → Image → ActOutcome State
 again g c image = keeps by_tables g (booted (stopped_by c image).node) (Boot (image.boot + 1)) None
 
 -- what a restart makes of an image
@@ -108,16 +108,16 @@ pub record Booted (c : Config) (image : Image) (t : Station State) : Type 0 wher
   pub fits : passes_greatest t.node ≡ false
 
 module _ (g : Weigher) (c : Config) (image : Image) where
-  abbrev booting : Outcome State → Move State
+  abbrev booting : ActOutcome State → StationMove State
   booting o = moved by_tables o (volatile by_tables (stopped_by c image) o.node) None
 
-  booted-checked : (b : Bool) → passes_greatest (again g c image).node ≡ b → (move : Move State) → then_do (refused_if b CountSpent (Ok (again g c image))) (λ o. Ok (booting o)) ≡ Ok move → Booted c image move.station
+  booted-checked : (b : Bool) → passes_greatest (again g c image).node ≡ b → (move : StationMove State) → then_do (refused_if b CountSpent (Ok (again g c image))) (λ o. Ok (booting o)) ≡ Ok move → Booted c image move.station
   booted-checked true e move h = absurd cc
   booted-checked false e move h =
       let same : booting (again g c image) ≡ move = cc in
-      subst (λ (m : Move State). Booted c image m.station) same (record { name = refl; up = refl; set = record { intensity = refl; period = refl; room = refl }; fits = e })
+      subst (λ (m : StationMove State). Booted c image m.station) same (record { name = refl; up = refl; set = record { intensity = refl; period = refl; room = refl }; fits = e })
 
-  pub booted-as : (move : Move State) → restart_of g c image true ≡ Ok move → Booted c image move.station
+  pub booted-as : (move : StationMove State) → restart_of g c image true ≡ Ok move → Booted c image move.station
   booted-as move e = booted-checked (passes_greatest (again g c image).node) refl move e
 
   unbooted : (b : Bool) (r : Refusal) → then_do (refused_if b CountSpent (Ok (again g c image))) (λ o. Ok (booting o)) ≡ Err r → then_do (refused_if b CountSpent (refused_if true KeepFailed (Ok (again g c image)))) (λ o. Ok (booting o)) ≡ Err r
@@ -131,19 +131,19 @@ module _ (g : Weigher) (c : Config) (image : Image) where
 -- ---- want of memory
 
 abbrev late-of : Refusal → Bool
-late-of r = let x : Result (Move State) Refusal = Err r in is_late x
+late-of r = let x : Result (StationMove State) Refusal = Err r in is_late x
 
-late-checked : (s : Station State) (x y : Result (Move State) Refusal) → SavesOrNot s x y → ((r : Refusal) → x ≡ Err r → r ≡ CountSpent) → (saves : Bool) → is_late x ≡ true × (is_late y ≡ true)
+late-checked : (s : Station State) (x y : Result (StationMove State) Refusal) → SavesOrNot s x y → ((r : Refusal) → x ≡ Err r → r ≡ CountSpent) → (saves : Bool) → is_late x ≡ true × (is_late y ≡ true)
 late-checked s (Ok move) y h lack saves = (refl, elim h.1 [ inl e ↦ ap is_late e.0 | inr e ↦ ap is_late e ])
 late-checked s (Err r) y h lack saves =
     let e : r ≡ CountSpent = lack r refl in
     (ap late-of e, ap is_late h ∙ ap late-of e)
 
-abbrev either : Bool → Result (Move State) Refusal → Result (Move State) Refusal → Result (Move State) Refusal
+abbrev either : Bool → Result (StationMove State) Refusal → Result (StationMove State) Refusal → Result (StationMove State) Refusal
 either true x y = x
 either false x y = y
 
-late-either : (s : Station State) (x y : Result (Move State) Refusal) → SavesOrNot s x y → ((r : Refusal) → x ≡ Err r → r ≡ CountSpent) → (saves : Bool) → is_late (either saves x y) ≡ true
+late-either : (s : Station State) (x y : Result (StationMove State) Refusal) → SavesOrNot s x y → ((r : Refusal) → x ≡ Err r → r ≡ CountSpent) → (saves : Bool) → is_late (either saves x y) ≡ true
 late-either s x y h lack true = (late-checked s x y h lack true).0
 late-either s x y h lack false = (late-checked s x y h lack false).1
 
@@ -188,7 +188,7 @@ module _ (g : Weigher) (name : Bytes) (config : Config) (kept : Bytes) (p : Stat
   refused o act saves r t h same why = (p, (refl, why), subst (λ (u : KeptStation). StationStands u p) (sym same) h)
 
   -- the text that is kept after an event is the new image's
-  kept-image : (unsaved : Result (Move State) Refusal) (move : Move State) (new : Bytes) → IsImageText kept (image_of p.node) → KeepsImage unsaved kept new (image_of move.station.node)
+  kept-image : (unsaved : Result (StationMove State) Refusal) (move : StationMove State) (new : Bytes) → IsImageText kept (image_of p.node) → KeepsImage unsaved kept new (image_of move.station.node)
       → ((unsaved ≡ Ok move) × (image_of move.station.node ≡ image_of p.node)) ⊎ (unsaved ≡ Err KeepFailed) → IsImageText new (image_of move.station.node)
   kept-image (Ok m) move new h k (inl e) = subst (λ (b : Bytes). IsImageText b (image_of move.station.node)) (sym k) (subst (λ (i : Image). IsImageText kept i) (sym e.1) h)
   kept-image (Ok m) move new h k (inr e) = absurd cc
@@ -200,9 +200,9 @@ module _ (g : Weigher) (name : Bytes) (config : Config) (kept : Bytes) (p : Stat
       let one : (b : Bool) → stepped g n event now answers.mail b ≡ stepped g p event now mail b =
       λ b. ap (λ (s : Station State). stepped g s event now answers.mail b) h.node.0 ∙ same_step g p event now answers.mail mail b answers.reads reads in
       let both : SavesOrNot p (Ok answers.move) (stepped g p event now mail false) =
-      subst (λ (x : Result (Move State) Refusal). SavesOrNot p x (stepped g p event now mail false)) (sym (one true) ∙ answers.moves) (step-saves g p h.image.whole.tables event now mail) in
+      subst (λ (x : Result (StationMove State) Refusal). SavesOrNot p x (stepped g p event now mail false)) (sym (one true) ∙ answers.moves) (step-saves g p h.image.whole.tables event now mail) in
       let keeps : KeepsImage (stepped g p event now mail false) kept t.kept (image_of answers.move.station.node) =
-      subst (λ (x : Result (Move State) Refusal). KeepsImage x kept t.kept (image_of answers.move.station.node)) (one false) answers.keeps in (
+      subst (λ (x : Result (StationMove State) Refusal). KeepsImage x kept t.kept (image_of answers.move.station.node)) (one false) answers.keeps in (
         answers.move.station,
         (answers.move, at saves answers one both a.comes, answers.told, refl),
         record {
@@ -233,7 +233,7 @@ module _ (g : Weigher) (name : Bytes) (config : Config) (kept : Bytes) (p : Stat
       at m k b = same_step g p event now mail m b reads k ∙ ap (λ (s : Station State). stepped g s event now m b) (sym h.node.0)
 
       both : (e : stepped g p event now mail true ≡ Err r) → stepped g p event now mail false ≡ Err r
-      both e = subst (λ (x : Result (Move State) Refusal). SavesOrNot p x (stepped g p event now mail false)) e (step-saves g p h.image.whole.tables event now mail)
+      both e = subst (λ (x : Result (StationMove State) Refusal). SavesOrNot p x (stepped g p event now mail false)) e (step-saves g p h.image.whole.tables event now mail)
 
       told : (b : Bool) (m : Option (Mail State)) → ReadsMail event m → stepped g n event now m true ≡ Err r → stepped g p event now mail b ≡ Err r
       told true m k e = at m k true ∙ e

@@ -8,7 +8,7 @@ use Rattle.std.proofs.lemmas.Grind.{flat_map-append}
 use Rattle.sup_specs.specs.Values.{Bytes}
 use Rattle.sup_local_sup.specs.declared.effect.Effect.{Effect}
 use Rattle.sup_replica.specs.declared.refusal.Refusal.{Refusal}
-use Rattle.sup_model.specs.Worlds.{Answer as Expected}
+use Rattle.sup_model.specs.Worlds.{ModelAnswer as Expected}
 use Rattle.sup_world.specs.declared.answer.Answer.{Answer}
 use Rattle.sup_world.specs.declared.tally.Tally.{Tally}
 use Rattle.sup_world.specs.FollowedSteps.{IsAs}

@@ -4,25 +4,25 @@ use Rattle.sup_tables.specs.States.{State}
 use Rattle.sup_placement.specs.Place.{Weigher}
 use Rattle.sup_replica.specs.declared.refusal.Refusal.{Refusal}
 use Rattle.sup_model.specs.declared.step.Step.{Step}
-use Rattle.sup_model.specs.Posts.{Real, RealAnswer}
-use Rattle.sup_model.specs.Worlds.{World, Answer as Expected}
-use Rattle.sup_model.specs.Runs.{Allows}
-use Rattle.sup_model.specs.Follows.{Makes, WorldStandsFor}
+use Rattle.sup_model.specs.Posts.{RealWorld, RealAnswer}
+use Rattle.sup_model.specs.Worlds.{ModelWorld, ModelAnswer as Expected}
+use Rattle.sup_model.specs.Runs.{ModelAllows}
+use Rattle.sup_model.specs.Follows.{StepMakes, WorldStandsFor}
 use Rattle.sup_world.specs.declared.answer.Answer.{Answer}
 use Rattle.sup_world.specs.SeenNodes.{SeenNode}
 use Rattle.sup_world.specs.ToldAnswers.{ShowsReal, TellsOf}
 
 -- the answer and the world after it are those of the code's step in the definitions
-pub record MakesRealStep (weigher : Weigher) (real : Real State) (step : Step) (result : Result Answer Refusal) (new : List SeenNode) : Type 0 where
+pub record MakesRealStep (weigher : Weigher) (real : RealWorld State) (step : Step) (result : Result Answer Refusal) (new : List SeenNode) : Type 0 where
   pub told : Result (RealAnswer State) Refusal
-  pub after : Real State
-  pub makes : Makes real step told after
+  pub after : RealWorld State
+  pub makes : StepMakes real step told after
   pub tells : TellsOf told result
   pub shows : ShowsReal weigher new after
 
 -- the world stands for one of the model
-pub record StandsFor (weigher : Weigher) (sites : List SeenNode) (model : World) : Type 0 where
-  pub real : Real State
+pub record StandsFor (weigher : Weigher) (sites : List SeenNode) (model : ModelWorld) : Type 0 where
+  pub real : RealWorld State
   pub shows : ShowsReal weigher sites real
   pub stands : WorldStandsFor real model
 
@@ -41,9 +41,9 @@ IsAsOf (Err q) (Ok answer) = ⊥
 IsAsOf (Err q) (Err r) = r ≡ q
 
 -- the world answers and becomes what the model allows
-pub record FollowsModel (weigher : Weigher) (model : World) (step : Step) (result : Result Answer Refusal) (new : List SeenNode) : Type 0 where
-  pub after : World
+pub record FollowsModel (weigher : Weigher) (model : ModelWorld) (step : Step) (result : Result Answer Refusal) (new : List SeenNode) : Type 0 where
+  pub after : ModelWorld
   pub expected : Result Expected Refusal
-  pub allows : Allows model step expected after
+  pub allows : ModelAllows model step expected after
   pub told : IsAsOf expected result
   pub stands : StandsFor weigher new after

@@ -5,14 +5,14 @@ use Rattle.sup_specs.specs.Values.{Bytes}
 use Rattle.sup_placement.specs.Place.{Weigher}
 use Rattle.sup_keeper.specs.Keeping.{most}
 use Rattle.sup_replica.specs.declared.refusal.Refusal.{Refusal}
-use Rattle.sup_replica.specs.ByTables.{Stands}
+use Rattle.sup_replica.specs.ByTables.{TablesStandFor}
 use Rattle.sup_replica.specs.Configs.{Config}
 use Rattle.sup_node.specs.Texts.{IsImageText}
 use Rattle.sup_wire.specs.declared.image.Image.{Image}
 use Rattle.sup_model.specs.Headline.{Headline}
 use Rattle.sup_model.specs.declared.step.Step.{Step}
-use Rattle.sup_model.specs.Runs.{Run, all_issued}
-use Rattle.sup_model.specs.Worlds.{World, Site, Answer as Expected, new}
+use Rattle.sup_model.specs.Runs.{ModelRun, all_issued}
+use Rattle.sup_model.specs.Worlds.{ModelWorld, ModelSite, ModelAnswer as Expected, new}
 use Rattle.sup_world.specs.declared.answer.Answer.{Answer}
 use Rattle.sup_world.specs.CarriedSteps.{KnowsBytes}
 use Rattle.sup_world.specs.FollowedSteps.{IsAsOf, StandsFor}
@@ -21,20 +21,20 @@ use Rattle.sup_world.specs.Runs.{RanSteps}
 use Rattle.sup_world.specs.SeenNodes.{SeenNode}
 
 -- a node beside the model's: what it has while it runs, and the image that is kept of it, stand for the operations that it absorbed
-pub record HasAbsorbed (s : SeenNode) (site : Site) : Type 0 where
+pub record HasAbsorbed (s : SeenNode) (site : ModelSite) : Type 0 where
   pub named : s.name ≡ site.node.name
   pub up : site.node.up ≡ is_some s.kept_station.node
-  pub running : IfSome s.kept_station.node (λ n. Stands n.node.known site.node.known)
+  pub running : IfSome s.kept_station.node (λ n. TablesStandFor n.node.known site.node.known)
   pub image : Image
   pub kept : IsImageText s.kept_station.kept image
-  pub stands : Stands image.state site.node.known
+  pub stands : TablesStandFor image.state site.node.known
 
 -- the steps are a run of the model from a new world, with these answers; this world stands for what that comes to, node by node, and the headline
 -- holds of it
 pub record ReachedByRun (g : Weigher) (config : Config) (names : List Bytes) (is_message : Bytes → Bool) (steps : List Step) (answers : List (Result Answer Refusal)) (sites : List SeenNode) : Type 0 where
   pub expected : List (Result Expected Refusal)
-  pub after : World
-  pub is_run : Run (new (setting_in g config) is_message names) steps expected after
+  pub after : ModelWorld
+  pub is_run : ModelRun (new (setting_in g config) is_message names) steps expected after
   pub told : AllZip IsAsOf expected answers
   pub stands : StandsFor g sites after
   pub nodes : AllZip HasAbsorbed sites after.sites

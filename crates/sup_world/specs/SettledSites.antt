@@ -8,8 +8,8 @@ use Rattle.sup_placement.specs.Place.{Weigher}
 use Rattle.sup_local_sup.specs.declared.effect.Effect.{Effect}
 use Rattle.sup_replica.specs.declared.refusal.Refusal.{Refusal}
 use Rattle.sup_replica.specs.declared.refusal.Refusal.TheVariants.{OutOfMemory}
-use Rattle.sup_model.specs.Worlds.{World, Answer as Expected}
-use Rattle.sup_model.specs.Follows.{Settled as AllKnow}
+use Rattle.sup_model.specs.Worlds.{ModelWorld, ModelAnswer as Expected}
+use Rattle.sup_model.specs.Follows.{AllSettled as AllKnow}
 use Rattle.sup_world.specs.declared.settled.Settled.{Settled}
 use Rattle.sup_world.specs.FollowedSteps.{StandsFor}
 use Rattle.sup_world.specs.Pairs.{AllExchanged, StopsAmong}
@@ -31,7 +31,7 @@ abbrev pub effects_of : List (Result Expected Refusal) → List (Bytes × Effect
 effects_of answers = flat_map effects_at answers
 
 -- the names of the running nodes, in their order
-pub record AreUpNames (w : World) (names : List Bytes) : Type 0 where
+pub record AreUpNames (w : ModelWorld) (names : List Bytes) : Type 0 where
   pub sorted : IsSorted text_cmp names
   pub all : IsPermutation (map (λ s. s.node.name) (filter (λ s. s.node.up) w.sites)) names
 
@@ -41,19 +41,19 @@ pairs_of [] = []
 pairs_of (first ∷ others) = map (λ other. (other, first)) others ++ map (λ other. (first, other)) others
 
 -- each of these nodes has all that any of them had absorbed
-abbrev pub AllKnowAmong : World → List Bytes → World → Type 0
+abbrev pub AllKnowAmong : ModelWorld → List Bytes → ModelWorld → Type 0
 AllKnowAmong w [] w' = w' ≡ w
 AllKnowAmong w (first ∷ others) w' = AllKnow w first others w'
 
 -- the running nodes exchanged in turn, with these answers, and know all that any of them knew
-pub record IsSettling (w : World) (answers : List (Result Expected Refusal)) (w' : World) : Type 0 where
+pub record IsSettling (w : ModelWorld) (answers : List (Result Expected Refusal)) (w' : ModelWorld) : Type 0 where
   pub names : List Bytes
   pub up : AreUpNames w names
   pub exchanged : AllExchanged w (pairs_of names) answers w'
   pub all_know : AllKnowAmong w names w'
 
 -- there was no memory for the names of the running nodes, and no step was made; or one of their exchanges stopped
-abbrev pub IsCutShort : World → Refusal → World → Type 0
+abbrev pub IsCutShort : ModelWorld → Refusal → ModelWorld → Type 0
 IsCutShort w refusal w' =
     ((refusal ≡ OutOfMemory) × (w' ≡ w))
     ⊎ ((names : List Bytes) × AreUpNames w names × StopsAmong w (pairs_of names) refusal w')
@@ -64,11 +64,11 @@ pub record IsToldOf (answers : List (Result Expected Refusal)) (settled : Settle
   pub effects : settled.effects.items ≡ effects_of answers
 
 -- the nodes settled, and what is told is that of their exchanges; or settling was cut short, and why is told
-abbrev pub EndsSettling : World → Result Settled Refusal → World → Type 0
+abbrev pub EndsSettling : ModelWorld → Result Settled Refusal → ModelWorld → Type 0
 EndsSettling w (Ok settled) w' = (answers : List (Result Expected Refusal)) × IsSettling w answers w' × IsToldOf answers settled
 EndsSettling w (Err refusal) w' = IsCutShort w refusal w'
 
-pub record SettlesTo (weigher : Weigher) (model : World) (result : Result Settled Refusal) (new : List SeenNode) : Type 0 where
-  pub after : World
+pub record SettlesTo (weigher : Weigher) (model : ModelWorld) (result : Result Settled Refusal) (new : List SeenNode) : Type 0 where
+  pub after : ModelWorld
   pub ends : EndsSettling model result after
   pub stands : StandsFor weigher new after

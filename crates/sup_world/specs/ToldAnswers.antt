@@ -5,26 +5,26 @@ use Rattle.sup_tables.specs.States.{State}
 use Rattle.sup_placement.specs.Place.{Weigher}
 use Rattle.sup_replica.specs.declared.event.Act.{Act}
 use Rattle.sup_replica.specs.declared.refusal.Refusal.{Refusal}
-use Rattle.sup_replica.specs.Stations.{Move}
+use Rattle.sup_replica.specs.Stations.{StationMove}
 use Rattle.sup_node.specs.Texts.{IsLetter, IsLetterOf}
-use Rattle.sup_model.specs.Posts.{Post, Real, RealAnswer, mailed, mail_number}
-use Rattle.sup_model.specs.Follows.{Distinct}
+use Rattle.sup_model.specs.Posts.{StationPost, RealWorld, RealAnswer, mailed, mail_number}
+use Rattle.sup_model.specs.Follows.{NamesAllDiffer}
 use Rattle.sup_world.specs.declared.answer.Answer.{Answer}
 use Rattle.sup_world.specs.StandingStations.{StationStands}
 use Rattle.sup_world.specs.Moves.{IsRefusedAs}
 use Rattle.sup_world.specs.SeenNodes.{SeenNode}
 
 -- a node: its station stands for the definitions', and each letter is the text of its mail
-pub record SiteStands (s : SeenNode) (post : Post State) : Type 0 where
+pub record SiteStands (s : SeenNode) (post : StationPost State) : Type 0 where
   pub name : s.name ≡ post.station.node.name
   pub station : StationStands s.kept_station post.station
   pub letters : AllZip IsLetter post.sent s.letters
 
 -- nodes of different names
-pub record ShowsReal (weigher : Weigher) (sites : List SeenNode) (real : Real State) : Type 0 where
+pub record ShowsReal (weigher : Weigher) (sites : List SeenNode) (real : RealWorld State) : Type 0 where
   pub weigher_is : real.weigher ≡ weigher
   pub sites_stand : AllZip SiteStands sites real.posts
-  pub apart : Distinct (map (λ s. s.name) sites)
+  pub apart : NamesAllDiffer (map (λ s. s.name) sites)
 
 pub record TellsAnswer (told : RealAnswer State) (answer : Answer) : Type 0 where
   pub at : answer.at ≡ told.at
@@ -40,13 +40,13 @@ TellsOf (Err q) (Ok answer) = ⊥
 TellsOf (Err q) (Err r) = r ≡ q
 
 -- what a node answers where its station makes this move
-abbrev pub told_by : Post State → Move State → RealAnswer State
+abbrev pub told_by : StationPost State → StationMove State → RealAnswer State
 told_by post move = record { at = post.station.node.name; reply = move.done.reply; effects = move.done.effects; letter = move.letter; number = mail_number post.sent move.letter }
 
-abbrev pub post_after : Post State → Move State → Post State
+abbrev pub post_after : StationPost State → StationMove State → StationPost State
 post_after post move = record { station = move.station; sent = mailed post.sent move.letter }
 
 -- the answer of a node to an act of which this is the step, and what the node is after it
-abbrev pub NodeAnswers : Result (Move State) Refusal → Post State → Act → Result Answer Refusal → SeenNode → Type 0
-NodeAnswers step post act (Ok answer) s = (move : Move State) × (step ≡ Ok move) × TellsAnswer (told_by post move) answer × SiteStands s (post_after post move)
+abbrev pub NodeAnswers : Result (StationMove State) Refusal → StationPost State → Act → Result Answer Refusal → SeenNode → Type 0
+NodeAnswers step post act (Ok answer) s = (move : StationMove State) × (step ≡ Ok move) × TellsAnswer (told_by post move) answer × SiteStands s (post_after post move)
 NodeAnswers step post act (Err r) s = IsRefusedAs step act r × SiteStands s post

@@ -2,7 +2,7 @@
 ghost use Rattle.std.specs.Prelude.{◌≡◌, ◌≢◌, ◌∷◌, [], None, true, false, map, IfErr, IfOk, IsPermutation, IsSorted};
 ghost use Rattle.std.specs.List.{AllZip};
 ghost use Rattle.sup_specs.specs.Values.{text_cmp};
-ghost use Rattle.sup_model.specs.Worlds.{World as Model};
+ghost use Rattle.sup_model.specs.Worlds.{ModelWorld as Model};
 ghost use Rattle.sup_world.specs.CarriedSteps.{carried, has_bytes, lets_save, KnowsBytes};
 ghost use Rattle.sup_world.specs.Exchanges.{MakesStep, ShipsState, MessageComes, ExchangesPairs, ends, running};
 ghost use Rattle.sup_world.specs.FollowedSteps.{StandsFor};

@@ -19,9 +19,9 @@ pub struct KeptWalk<'a> {
 
 impl<'a> Model for KeptWalk<'a> {
     ghost use Rattle.std.specs.Prelude.{List, ◌++◌};
-    ghost use Rattle.sup_local_sup.specs.Keeping.{Kept};
+    ghost use Rattle.sup_local_sup.specs.Keeping.{KeptChild};
 
-    ghost Value = { List Kept };
+    ghost Value = { List KeptChild };
 
     ghost view = { λ w. w.settled ++ w.late };
 }

@@ -1,7 +1,7 @@
 //! What children are, and what is said of members.
 ghost use Rattle.std.specs.Prelude.{◌≡◌};
 ghost use Rattle.serde_json.specs.View.{view};
-ghost use Rattle.sup_wire.specs.FieldReads.{has_just, Gives};
+ghost use Rattle.sup_wire.specs.FieldReads.{has_just, ReadGives};
 ghost use Rattle.sup_wire.specs.RowReads.{restart_at, shutdown_at, restart_in, shutdown_in, spec_in, spec_fields, spec_at, status_at, status_in, info_in, info_at};
 
 use crate::fault::WireFault;
@@ -60,7 +60,7 @@ fn shutdown_in(value: &Value) -> Option<Shutdown>
 // What the fields of an object say of a child.
 #[tactic(auto, unfolding(crate::specs::RowReads::spec_in))]
 fn spec_in(alloc: Global, value: &Value) -> Result<ChildSpec, WireFault>
-    ensures { Gives result (spec_in (view value.now)) }
+    ensures { ReadGives result (spec_in (view value.now)) }
 {
     let arg = text_in(alloc, value, "arg")?;
     let kind = kind_in(alloc, value, "kind")?;
@@ -85,7 +85,7 @@ fn has_spec_fields(value: &Value) -> bool
 // What a child is.
 #[tactic(auto, unfolding(crate::specs::RowReads::spec_at))]
 pub(crate) fn spec_of(alloc: Global, value: &Value) -> Result<ChildSpec, WireFault>
-    ensures { Gives result (spec_at (view value.now)) }
+    ensures { ReadGives result (spec_at (view value.now)) }
 {
     if !has_spec_fields(value) {
         return Err(WireFault::NotMessage);
@@ -116,7 +116,7 @@ fn status_in(value: &Value) -> Option<Status>
 // What the fields of an object say of a member.
 #[tactic(auto, unfolding(crate::specs::RowReads::info_in))]
 fn info_in(alloc: Global, value: &Value) -> Result<MemberInfo, WireFault>
-    ensures { Gives result (info_in (view value.now)) }
+    ensures { ReadGives result (info_in (view value.now)) }
 {
     let label = text_in(alloc, value, "label")?;
     let status = status_in(value).ok_or(WireFault::NotMessage)?;
@@ -130,7 +130,7 @@ pub(crate) fn info_of(
     version: Version,
     value: &Value,
 ) -> Result<MemberInfo, WireFault>
-    ensures { Gives result (info_at version (view value.now)) }
+    ensures { ReadGives result (info_at version (view value.now)) }
 {
     match version {
         Version::One => {

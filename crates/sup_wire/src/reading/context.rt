@@ -1,7 +1,7 @@
 //! Contexts: a version vector and a dot cloud.
 ghost use Rattle.std.specs.Prelude.{◌≡◌};
 ghost use Rattle.serde_json.specs.View.{view, members_view};
-ghost use Rattle.sup_wire.specs.FieldReads.{has_just, GivesBy};
+ghost use Rattle.sup_wire.specs.FieldReads.{has_just, ReadGivesBy};
 ghost use Rattle.sup_wire.specs.DraftReads.{note_from, notes_in, vector_at, dots_at, cloud_in, vector_in, context_fields, context_at, context_in};
 
 use crate::fault::WireFault;
@@ -24,7 +24,7 @@ fn note_of(name: &str, value: &Value) -> Option<(NodeName, u64)>
 
 // The entries of a vector, one for each member.
 fn each_note(alloc: Global, object: &Map<String, Value>) -> Result<Vec<(NodeName, u64)>, WireFault>
-    ensures { GivesBy (λ v. v.items) result (notes_in (members_view object.now.entries)) }
+    ensures { ReadGivesBy (λ v. v.items) result (notes_in (members_view object.now.entries)) }
 {
     let mut vector = Vec::new(alloc);
     for (name, value) in object {
@@ -36,28 +36,28 @@ fn each_note(alloc: Global, object: &Map<String, Value>) -> Result<Vec<(NodeName
 
 #[tactic(auto, unfolding(crate::specs::DraftReads::vector_at))]
 fn vector_of(alloc: Global, value: &Value) -> Result<Vec<(NodeName, u64)>, WireFault>
-    ensures { GivesBy (λ v. v.items) result (vector_at (view value.now)) }
+    ensures { ReadGivesBy (λ v. v.items) result (vector_at (view value.now)) }
 {
     each_note(alloc, value.as_object().ok_or(WireFault::NotMessage)?)
 }
 
 #[tactic(auto, unfolding(crate::specs::DraftReads::dots_at))]
 fn dots_of(alloc: Global, value: &Value) -> Result<Vec<Dot>, WireFault>
-    ensures { GivesBy (λ v. v.items) result (dots_at (view value.now)) }
+    ensures { ReadGivesBy (λ v. v.items) result (dots_at (view value.now)) }
 {
     each_dot(alloc, value.as_array().ok_or(WireFault::NotMessage)?)
 }
 
 #[tactic(auto, unfolding(crate::specs::DraftReads::cloud_in))]
 fn cloud_in(alloc: Global, value: &Value) -> Result<Vec<Dot>, WireFault>
-    ensures { GivesBy (λ v. v.items) result (cloud_in (view value.now)) }
+    ensures { ReadGivesBy (λ v. v.items) result (cloud_in (view value.now)) }
 {
     dots_of(alloc, value.get("cloud").ok_or(WireFault::NotMessage)?)
 }
 
 #[tactic(auto, unfolding(crate::specs::DraftReads::vector_in))]
 fn vector_in(alloc: Global, value: &Value) -> Result<Vec<(NodeName, u64)>, WireFault>
-    ensures { GivesBy (λ v. v.items) result (vector_in (view value.now)) }
+    ensures { ReadGivesBy (λ v. v.items) result (vector_in (view value.now)) }
 {
     vector_of(alloc, value.get("vector").ok_or(WireFault::NotMessage)?)
 }
@@ -78,7 +78,7 @@ pub(crate) struct Context {
 
 #[tactic(auto, unfolding(crate::specs::DraftReads::context_at))]
 fn context_of(alloc: Global, value: &Value) -> Result<Context, WireFault>
-    ensures { GivesBy (λ c. (c.vector.items, c.cloud.items)) result (context_at (view value.now)) }
+    ensures { ReadGivesBy (λ c. (c.vector.items, c.cloud.items)) result (context_at (view value.now)) }
 {
     if !has_context_fields(value) {
         return Err(WireFault::NotMessage);
@@ -90,7 +90,7 @@ fn context_of(alloc: Global, value: &Value) -> Result<Context, WireFault>
 
 #[tactic(auto, unfolding(crate::specs::DraftReads::context_in))]
 pub(crate) fn context_in(alloc: Global, value: &Value) -> Result<Context, WireFault>
-    ensures { GivesBy (λ c. (c.vector.items, c.cloud.items)) result (context_in (view value.now)) }
+    ensures { ReadGivesBy (λ c. (c.vector.items, c.cloud.items)) result (context_in (view value.now)) }
 {
     context_of(alloc, value.get("ctx").ok_or(WireFault::NotMessage)?)
 }

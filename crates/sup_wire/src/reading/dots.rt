@@ -1,7 +1,7 @@
 //! Arrays of two and of four, and dots.
 ghost use Rattle.std.specs.Prelude.{◌≡◌, option_map};
 ghost use Rattle.serde_json.specs.View.{view, items_view};
-ghost use Rattle.sup_wire.specs.FieldReads.{GivesBy};
+ghost use Rattle.sup_wire.specs.FieldReads.{ReadGivesBy};
 ghost use Rattle.sup_wire.specs.RowReads.{two_at, four_at, dot_at, each_in};
 
 use crate::fault::WireFault;
@@ -61,7 +61,7 @@ pub(crate) fn dot_of(value: &Value) -> Option<Dot>
 
 // Dots, one for each item.
 pub(crate) fn each_dot(alloc: Global, values: &[Value]) -> Result<Vec<Dot>, WireFault>
-    ensures { GivesBy (λ v. v.items) result (each_in dot_at (items_view values.now)) }
+    ensures { ReadGivesBy (λ v. v.items) result (each_in dot_at (items_view values.now)) }
 {
     let mut dots = Vec::with_capacity(alloc, values.len())?;
     for value in values {

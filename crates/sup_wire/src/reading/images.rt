@@ -3,8 +3,8 @@ ghost use Rattle.std.specs.Prelude.{◌≡◌};
 ghost use Rattle.serde_json.specs.View.{view};
 ghost use Rattle.sup_wire.specs.Drafts.{image, IsDraftOfImage, IsWholeImage};
 ghost use Rattle.sup_wire.specs.Faults.{version_at};
-ghost use Rattle.sup_wire.specs.FieldReads.{has_just, GivesBy};
-ghost use Rattle.sup_wire.specs.DraftReads.{image_fields, opening_at, image_at, stored_at, parts_read, Seals, Decodes};
+ghost use Rattle.sup_wire.specs.FieldReads.{has_just, ReadGivesBy};
+ghost use Rattle.sup_wire.specs.DraftReads.{image_fields, opening_at, image_at, stored_at, parts_read, SealsDraft, DecodesTo};
 
 use crate::fault::WireFault;
 use crate::image::Image;
@@ -43,7 +43,7 @@ fn image_draft_of(
     version: Version,
     value: &Value,
 ) -> Result<(NodeName, u64, u64, Parts), WireFault>
-    ensures { GivesBy (λ d. image d.0 d.1 d.2 (parts_read d.3)) result (image_at version (view value.now)) }
+    ensures { ReadGivesBy (λ d. image d.0 d.1 d.2 (parts_read d.3)) result (image_at version (view value.now)) }
 {
     if !has_image_fields(value) {
         return Err(WireFault::NotMessage);
@@ -54,7 +54,7 @@ fn image_draft_of(
 }
 
 fn of_fields(alloc: Global, version: Version, value: &Value) -> Result<Image, WireFault>
-    ensures { Seals IsDraftOfImage IsWholeImage result (image_at version (view value.now)) }
+    ensures { SealsDraft IsDraftOfImage IsWholeImage result (image_at version (view value.now)) }
 {
     let (node, boot, count, parts) = image_draft_of(alloc, version, value)?;
     let state = tables_of(alloc, parts)?;
@@ -69,7 +69,7 @@ fn of_fields(alloc: Global, version: Version, value: &Value) -> Result<Image, Wi
 // An image of a version.
 #[tactic(auto, unfolding(crate::specs::DraftReads::stored_at, crate::specs::DraftReads::image_from))]
 fn of_kind(alloc: Global, version: Version, value: &Value) -> Result<Image, WireFault>
-    ensures { Seals IsDraftOfImage IsWholeImage result (stored_at version (view value.now)) }
+    ensures { SealsDraft IsDraftOfImage IsWholeImage result (stored_at version (view value.now)) }
 {
     match kind_of(value).ok_or(WireFault::NotMessage)? {
         "image" => of_fields(alloc, version, value),
@@ -80,7 +80,7 @@ fn of_kind(alloc: Global, version: Version, value: &Value) -> Result<Image, Wire
 // An image.
 #[tactic(auto, using(crate::proofs::Sealed::sealed))]
 pub(crate) fn image_of(alloc: Global, value: &Value) -> Result<Image, WireFault>
-    ensures { Decodes IsDraftOfImage IsWholeImage result (version_at (view value.now)) (λ v. stored_at v (view value.now)) }
+    ensures { DecodesTo IsDraftOfImage IsWholeImage result (version_at (view value.now)) (λ v. stored_at v (view value.now)) }
 {
     match version_of(value) {
         None => Err(WireFault::NotMessage),

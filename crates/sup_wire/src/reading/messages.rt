@@ -3,8 +3,8 @@ ghost use Rattle.std.specs.Prelude.{◌≡◌};
 ghost use Rattle.serde_json.specs.View.{view};
 ghost use Rattle.sup_wire.specs.Drafts.{push, delta, IsDraftOf, IsWholeMessage};
 ghost use Rattle.sup_wire.specs.Faults.{version_at};
-ghost use Rattle.sup_wire.specs.FieldReads.{has_just, GivesBy};
-ghost use Rattle.sup_wire.specs.DraftReads.{ack_fields, push_fields, delta_fields, ack_at, push_at, delta_at, message_at, parts_read, Seals, Decodes};
+ghost use Rattle.sup_wire.specs.FieldReads.{has_just, ReadGivesBy};
+ghost use Rattle.sup_wire.specs.DraftReads.{ack_fields, push_fields, delta_fields, ack_at, push_at, delta_at, message_at, parts_read, SealsDraft, DecodesTo};
 
 use crate::fault::WireFault;
 use crate::message::Message;
@@ -39,7 +39,7 @@ fn has_delta_fields(value: &Value) -> bool
 // An acknowledgement.
 #[tactic(auto, unfolding(crate::specs::DraftReads::ack_at))]
 fn ack_of(value: &Value) -> Result<Message, WireFault>
-    ensures { Seals IsDraftOf IsWholeMessage result (ack_at (view value.now)) }
+    ensures { SealsDraft IsDraftOf IsWholeMessage result (ack_at (view value.now)) }
 {
     if !has_ack_fields(value) {
         return Err(WireFault::NotMessage);
@@ -56,7 +56,7 @@ fn push_draft_of(
     version: Version,
     value: &Value,
 ) -> Result<(NodeName, NodeName, Parts), WireFault>
-    ensures { GivesBy (λ d. push d.0 d.1 (parts_read d.2)) result (push_at version (view value.now)) }
+    ensures { ReadGivesBy (λ d. push d.0 d.1 (parts_read d.2)) result (push_at version (view value.now)) }
 {
     if !has_push_fields(value) {
         return Err(WireFault::NotMessage);
@@ -67,7 +67,7 @@ fn push_draft_of(
 }
 
 fn push_of(alloc: Global, version: Version, value: &Value) -> Result<Message, WireFault>
-    ensures { Seals IsDraftOf IsWholeMessage result (push_at version (view value.now)) }
+    ensures { SealsDraft IsDraftOf IsWholeMessage result (push_at version (view value.now)) }
 {
     let (from, to, parts) = push_draft_of(alloc, version, value)?;
     let delta = tables_of(alloc, parts)?;
@@ -81,7 +81,7 @@ fn delta_draft_of(
     version: Version,
     value: &Value,
 ) -> Result<(NodeName, NodeName, u64, Parts), WireFault>
-    ensures { GivesBy (λ d. delta d.0 d.1 d.2 (parts_read d.3)) result (delta_at version (view value.now)) }
+    ensures { ReadGivesBy (λ d. delta d.0 d.1 d.2 (parts_read d.3)) result (delta_at version (view value.now)) }
 {
     if !has_delta_fields(value) {
         return Err(WireFault::NotMessage);
@@ -93,7 +93,7 @@ fn delta_draft_of(
 }
 
 fn delta_of(alloc: Global, version: Version, value: &Value) -> Result<Message, WireFault>
-    ensures { Seals IsDraftOf IsWholeMessage result (delta_at version (view value.now)) }
+    ensures { SealsDraft IsDraftOf IsWholeMessage result (delta_at version (view value.now)) }
 {
     let (from, to, n, parts) = delta_draft_of(alloc, version, value)?;
     let delta = tables_of(alloc, parts)?;
@@ -103,7 +103,7 @@ fn delta_of(alloc: Global, version: Version, value: &Value) -> Result<Message, W
 // A message of a version, by its kind.
 #[tactic(auto, unfolding(crate::specs::DraftReads::message_at, crate::specs::DraftReads::message_from))]
 fn of_kind(alloc: Global, version: Version, value: &Value) -> Result<Message, WireFault>
-    ensures { Seals IsDraftOf IsWholeMessage result (message_at version (view value.now)) }
+    ensures { SealsDraft IsDraftOf IsWholeMessage result (message_at version (view value.now)) }
 {
     match kind_of(value).ok_or(WireFault::NotMessage)? {
         "ack" => ack_of(value),
@@ -116,7 +116,7 @@ fn of_kind(alloc: Global, version: Version, value: &Value) -> Result<Message, Wi
 // A message.
 #[tactic(auto, using(crate::proofs::Sealed::sealed))]
 pub(crate) fn message_of(alloc: Global, value: &Value) -> Result<Message, WireFault>
-    ensures { Decodes IsDraftOf IsWholeMessage result (version_at (view value.now)) (λ v. message_at v (view value.now)) }
+    ensures { DecodesTo IsDraftOf IsWholeMessage result (version_at (view value.now)) (λ v. message_at v (view value.now)) }
 {
     match version_of(value) {
         None => Err(WireFault::NotMessage),

@@ -1,7 +1,7 @@
 //! Tables: read first, and judged after all forms were read.
 ghost use Rattle.std.specs.Prelude.{◌≡◌};
 ghost use Rattle.serde_json.specs.View.{view};
-ghost use Rattle.sup_wire.specs.FieldReads.{GivesBy};
+ghost use Rattle.sup_wire.specs.FieldReads.{ReadGivesBy};
 ghost use Rattle.sup_wire.specs.DraftReads.{rows_in, parts_at, parts_read, SealsParts};
 
 use crate::fault::WireFault;
@@ -16,7 +16,7 @@ use sup_tables::{Row, Tables};
 
 #[tactic(auto, unfolding(crate::specs::DraftReads::rows_in))]
 fn rows_in(alloc: Global, version: Version, value: &Value) -> Result<Vec<Row>, WireFault>
-    ensures { GivesBy (λ v. v.items) result (rows_in version (view value.now)) }
+    ensures { ReadGivesBy (λ v. v.items) result (rows_in version (view value.now)) }
 {
     rows_of(
         alloc,
@@ -35,7 +35,7 @@ pub(crate) struct Parts {
 
 #[tactic(auto, unfolding(crate::specs::DraftReads::parts_at))]
 pub(crate) fn parts_of(alloc: Global, version: Version, value: &Value) -> Result<Parts, WireFault>
-    ensures { GivesBy parts_read result (parts_at version (view value.now)) }
+    ensures { ReadGivesBy parts_read result (parts_at version (view value.now)) }
 {
     let context = context_in(alloc, value)?;
     let rows = rows_in(alloc, version, value)?;

@@ -1,6 +1,6 @@
 //! Rows.
 ghost use Rattle.serde_json.specs.View.{view, items_view};
-ghost use Rattle.sup_wire.specs.FieldReads.{Gives, GivesBy};
+ghost use Rattle.sup_wire.specs.FieldReads.{ReadGives, ReadGivesBy};
 ghost use Rattle.sup_wire.specs.RowReads.{member_at, child_at, registered_at, entry_at, row_at, rows_at, each_in};
 
 use crate::fault::WireFault;
@@ -21,7 +21,7 @@ fn member_of(
     key: &Value,
     value: &Value,
 ) -> Result<Entry, WireFault>
-    ensures { Gives result (member_at version (view key.now) (view value.now)) }
+    ensures { ReadGives result (member_at version (view key.now) (view value.now)) }
 {
     let node = name_of(key).ok_or(WireFault::NotMessage)?;
     let info = info_of(alloc, version, value)?;
@@ -31,7 +31,7 @@ fn member_of(
 // An entry of the children.
 #[tactic(auto, unfolding(crate::specs::RowReads::child_at))]
 fn child_of(alloc: Global, key: &Value, value: &Value) -> Result<Entry, WireFault>
-    ensures { Gives result (child_at (view key.now) (view value.now)) }
+    ensures { ReadGives result (child_at (view key.now) (view value.now)) }
 {
     let id = id_of(alloc, key)?;
     let spec = spec_of(alloc, value)?;
@@ -41,7 +41,7 @@ fn child_of(alloc: Global, key: &Value, value: &Value) -> Result<Entry, WireFaul
 // An entry of the names.
 #[tactic(auto, unfolding(crate::specs::RowReads::registered_at))]
 fn registered_of(alloc: Global, key: &Value, value: &Value) -> Result<Entry, WireFault>
-    ensures { Gives result (registered_at (view key.now) (view value.now)) }
+    ensures { ReadGives result (registered_at (view key.now) (view value.now)) }
 {
     let name = registered_name_of(alloc, key)?;
     let id = id_of(alloc, value)?;
@@ -57,7 +57,7 @@ fn entry_of(
     key: &Value,
     value: &Value,
 ) -> Result<Entry, WireFault>
-    ensures { Gives result (entry_at version table.now (view key.now) (view value.now)) }
+    ensures { ReadGives result (entry_at version table.now (view key.now) (view value.now)) }
 {
     match table {
         "member" => member_of(alloc, version, key, value),
@@ -70,7 +70,7 @@ fn entry_of(
 // A row.
 #[tactic(auto, unfolding(crate::specs::RowReads::row_at))]
 fn row_of(alloc: Global, version: Version, value: &Value) -> Result<Row, WireFault>
-    ensures { Gives result (row_at version (view value.now)) }
+    ensures { ReadGives result (row_at version (view value.now)) }
 {
     let parts = four_of(value).ok_or(WireFault::NotMessage)?;
     let table = parts.table.as_str().ok_or(WireFault::NotMessage)?;
@@ -81,7 +81,7 @@ fn row_of(alloc: Global, version: Version, value: &Value) -> Result<Row, WireFau
 
 // Rows, one for each item.
 fn each_row(alloc: Global, version: Version, values: &[Value]) -> Result<Vec<Row>, WireFault>
-    ensures { GivesBy (λ v. v.items) result (each_in (row_at version) (items_view values.now)) }
+    ensures { ReadGivesBy (λ v. v.items) result (each_in (row_at version) (items_view values.now)) }
 {
     let mut rows = Vec::with_capacity(alloc, values.len())?;
     for value in values {
@@ -93,7 +93,7 @@ fn each_row(alloc: Global, version: Version, values: &[Value]) -> Result<Vec<Row
 
 #[tactic(auto, unfolding(crate::specs::RowReads::rows_at))]
 pub(crate) fn rows_of(alloc: Global, version: Version, value: &Value) -> Result<Vec<Row>, WireFault>
-    ensures { GivesBy (λ v. v.items) result (rows_at version (view value.now)) }
+    ensures { ReadGivesBy (λ v. v.items) result (rows_at version (view value.now)) }
 {
     each_row(
         alloc,

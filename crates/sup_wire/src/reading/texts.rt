@@ -1,6 +1,6 @@
 //! Texts of visible bytes.
 ghost use Rattle.serde_json.specs.View.{view};
-ghost use Rattle.sup_wire.specs.FieldReads.{Gives, text_at, text_in};
+ghost use Rattle.sup_wire.specs.FieldReads.{ReadGives, text_at, text_in};
 
 use crate::fault::WireFault;
 use serde_json::Value;
@@ -9,7 +9,7 @@ use sup_specs::{ChildId, Kind, Name, Text};
 
 #[tactic(auto, unfolding(crate::specs::FieldReads::text_at))]
 pub(crate) fn id_of(alloc: Global, value: &Value) -> Result<ChildId, WireFault>
-    ensures { Gives result (text_at 1 128 (view value.now)) }
+    ensures { ReadGives result (text_at 1 128 (view value.now)) }
 {
     let text = value.as_str().ok_or(WireFault::NotMessage)?;
     let id = ChildId::parse(alloc, text)?;
@@ -18,7 +18,7 @@ pub(crate) fn id_of(alloc: Global, value: &Value) -> Result<ChildId, WireFault>
 
 #[tactic(auto, unfolding(crate::specs::FieldReads::text_at))]
 pub(crate) fn registered_name_of(alloc: Global, value: &Value) -> Result<Name, WireFault>
-    ensures { Gives result (text_at 1 128 (view value.now)) }
+    ensures { ReadGives result (text_at 1 128 (view value.now)) }
 {
     let text = value.as_str().ok_or(WireFault::NotMessage)?;
     let name = Name::parse(alloc, text)?;
@@ -27,7 +27,7 @@ pub(crate) fn registered_name_of(alloc: Global, value: &Value) -> Result<Name, W
 
 #[tactic(auto, unfolding(crate::specs::FieldReads::text_at))]
 fn kind_of(alloc: Global, value: &Value) -> Result<Kind, WireFault>
-    ensures { Gives result (text_at 1 128 (view value.now)) }
+    ensures { ReadGives result (text_at 1 128 (view value.now)) }
 {
     let text = value.as_str().ok_or(WireFault::NotMessage)?;
     let kind = Kind::parse(alloc, text)?;
@@ -36,7 +36,7 @@ fn kind_of(alloc: Global, value: &Value) -> Result<Kind, WireFault>
 
 #[tactic(auto, unfolding(crate::specs::FieldReads::text_at))]
 fn text_of(alloc: Global, value: &Value) -> Result<Text, WireFault>
-    ensures { Gives result (text_at 0 1024 (view value.now)) }
+    ensures { ReadGives result (text_at 0 1024 (view value.now)) }
 {
     let text = value.as_str().ok_or(WireFault::NotMessage)?;
     let text = Text::parse(alloc, text)?;
@@ -46,7 +46,7 @@ fn text_of(alloc: Global, value: &Value) -> Result<Text, WireFault>
 // The kind in a field.
 #[tactic(auto, unfolding(crate::specs::FieldReads::text_in))]
 pub(crate) fn kind_in(alloc: Global, value: &Value, field: &str) -> Result<Kind, WireFault>
-    ensures { Gives result (text_in field.now 1 128 (view value.now)) }
+    ensures { ReadGives result (text_in field.now 1 128 (view value.now)) }
 {
     kind_of(alloc, value.get(field).ok_or(WireFault::NotMessage)?)
 }
@@ -54,7 +54,7 @@ pub(crate) fn kind_in(alloc: Global, value: &Value, field: &str) -> Result<Kind,
 // The text in a field.
 #[tactic(auto, unfolding(crate::specs::FieldReads::text_in))]
 pub(crate) fn text_in(alloc: Global, value: &Value, field: &str) -> Result<Text, WireFault>
-    ensures { Gives result (text_in field.now 0 1024 (view value.now)) }
+    ensures { ReadGives result (text_in field.now 0 1024 (view value.now)) }
 {
     text_of(alloc, value.get(field).ok_or(WireFault::NotMessage)?)
 }

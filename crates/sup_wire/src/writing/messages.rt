@@ -5,7 +5,7 @@ ghost use Rattle.serde_json.specs.Data.{string};
 ghost use Rattle.sup_wire.specs.Drafts.{Draft, ack, push, delta, IsDraftOf, IsWholeMessage};
 ghost use Rattle.sup_wire.specs.Faults.{IsInRange};
 ghost use Rattle.sup_wire.specs.Forms.{version_value, value_of, IsName, AreWritten};
-ghost use Rattle.sup_wire.specs.Writing.{Adds, WritesDraft, tokens_of, field_tokens, parts_lent};
+ghost use Rattle.sup_wire.specs.Writing.{AddsTokens, WritesDraft, tokens_of, field_tokens, parts_lent};
 ghost use Rattle.sup_wire.specs.declared.version.Version.TheVariants.{Two};
 
 use crate::message::Message;
@@ -20,7 +20,7 @@ use sup_specs::NodeName;
 // The fields of the sender and of the kind.
 fn sender_fields(out: &mut Writer, from: &NodeName, kind: &str) -> Result<(), AllocError>
     ensures name { OnOk result (IsName from.now) }
-    ensures adds { OnOk result (Adds out.old out.new (field_tokens (codes "from") (string from.now) ++ field_tokens (codes "kind") (string kind.now))) }
+    ensures adds { OnOk result (AddsTokens out.old out.new (field_tokens (codes "from") (string from.now) ++ field_tokens (codes "kind") (string kind.now))) }
 {
     text_field(out, "from", from.as_str())?;
     text_field(out, "kind", kind)
@@ -29,7 +29,7 @@ fn sender_fields(out: &mut Writer, from: &NodeName, kind: &str) -> Result<(), Al
 // The last fields, of the receiver and of the version.
 fn last_fields(out: &mut Writer, to: &NodeName) -> Result<(), AllocError>
     ensures name { OnOk result (IsName to.now) }
-    ensures adds { OnOk result (Adds out.old out.new (field_tokens (codes "to") (string to.now) ++ field_tokens (codes "v") (version_value Two) ++ end_object ∷ [])) }
+    ensures adds { OnOk result (AddsTokens out.old out.new (field_tokens (codes "to") (string to.now) ++ field_tokens (codes "v") (version_value Two) ++ end_object ∷ [])) }
 {
     text_field(out, "to", to.as_str())?;
     version_field(out)?;
@@ -41,7 +41,7 @@ fn write_ack(out: &mut Writer, from: &NodeName, to: &NodeName, n: u64) -> Result
     ensures fits { n < 2 ^ 64 }
     ensures from { OnOk result (IsName from.now) }
     ensures to { OnOk result (IsName to.now) }
-    ensures adds { OnOk result (Adds out.old out.new (tokens_of (value_of (ack from.now to.now n)))) }
+    ensures adds { OnOk result (AddsTokens out.old out.new (tokens_of (value_of (ack from.now to.now n)))) }
 {
     out.begin_object()?;
     sender_fields(out, from, "ack")?;
@@ -59,7 +59,7 @@ fn write_push(
     ensures from { OnOk result (IsName from.now) }
     ensures to { OnOk result (IsName to.now) }
     ensures written { OnOk result (AreWritten (parts_lent parts.now)) }
-    ensures adds { OnOk result (Adds out.old out.new (tokens_of (value_of (push from.now to.now (parts_lent parts.now))))) }
+    ensures adds { OnOk result (AddsTokens out.old out.new (tokens_of (value_of (push from.now to.now (parts_lent parts.now))))) }
 {
     out.begin_object()?;
     out.key("ctx")?;
@@ -82,7 +82,7 @@ fn write_delta(
     ensures from { OnOk result (IsName from.now) }
     ensures to { OnOk result (IsName to.now) }
     ensures written { OnOk result (AreWritten (parts_lent parts.now)) }
-    ensures adds { OnOk result (Adds out.old out.new (tokens_of (value_of (delta from.now to.now n (parts_lent parts.now))))) }
+    ensures adds { OnOk result (AddsTokens out.old out.new (tokens_of (value_of (delta from.now to.now n (parts_lent parts.now))))) }
 {
     out.begin_object()?;
     out.key("ctx")?;

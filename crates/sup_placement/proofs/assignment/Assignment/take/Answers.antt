@@ -1,6 +1,6 @@
 use Rattle.std.proofs.Common.{◌≡◌, not, ◌&&◌, sym, ap, subst, ◌∙◌}
 use Rattle.std.specs.Str.{bytes_eq}
-use Rattle.sup_placement.specs.Assigned.{Assigned, is_there}
+use Rattle.sup_placement.specs.Assigned.{AssignedChildren, is_there}
 use Rattle.sup_placement.proofs.ThereLaws.{take_there, take_placed}
 use Rattle.sup_placement.proofs.assignment.Assignment.take.Goals as goal
 
@@ -11,4 +11,4 @@ invariant_of-self g c q =
 pub returns-clause-there : goal.returns-clause-there
 returns-clause-there g c q =
     take_there c.args.id.now q c.self.inside.places.entries c.remove-gone.new.self.entries (c.remove-gone.ensures.updates.0 q)
-    ∙ ap (λ (a : Assigned). not (bytes_eq c.args.id.now q) && is_there a q) c.self.view_is
+    ∙ ap (λ (a : AssignedChildren). not (bytes_eq c.args.id.now q) && is_there a q) c.self.view_is

@@ -4,7 +4,7 @@ use Rattle.sup_specs.specs.Values.{text_cmp}
 use Rattle.sup_indexed.specs.Contents.{functions_planned}
 use Rattle.sup_tables.specs.Rows.{place_cmp}
 use Rattle.sup_tables.specs.States.{State}
-use Rattle.sup_tables.specs.Stored.{Stored, stored_in, member_row, child_row, name_row, state_of}
+use Rattle.sup_tables.specs.Stored.{StoredTables, stored_in, member_row, child_row, name_row, state_of}
 use Rattle.sup_tables.specs.Lent.{row_lent}
 use Rattle.sup_tables.specs.Planned.{IsPlanFor}
 use Rattle.sup_tables.specs.Edits.{table_edits}
@@ -18,7 +18,7 @@ pub returns : goal.returns
 returns c =
     let p = c.args.plan.now in
     let q = c.stores-store.result.now in
-    let a : Stored = stored_in q in
+    let a : StoredTables = stored_in q in
     let o : IsOrderedStored a = record { member_values = q.first.ordered; child_values = q.second.first.ordered; name_values = q.second.second.ordered } in
     let om = c.in_ok-lend_edits.ensures.ordered in
     let oc = c.in_ok-lend_edits-2.ensures.ordered in

@@ -1,6 +1,6 @@
 use Rattle.std.proofs.Common.{◌≡◌, ◌↔◌, IsTrue, sym, subst}
 use Rattle.sup_tables.specs.States.{IsKept}
-use Rattle.sup_tables.specs.Stored.{Stored, stored_in, state_of}
+use Rattle.sup_tables.specs.Stored.{StoredTables, stored_in, state_of}
 use Rattle.sup_tables.specs.Planned.{IsPlanFor, AreTouched, MembersDiffer}
 use Rattle.sup_tables.proofs.StoredLaws.{IsOrderedStored}
 use Rattle.sup_tables.proofs.TouchedLaws.{children_touched, members_touched}
@@ -11,7 +11,7 @@ returns-clause-children c new is =
     let p = c.args.plan.now in
     let mine = c.args.self.now in
     let q = c.stores-store.result.now in
-    let a : Stored = stored_in q in
+    let a : StoredTables = stored_in q in
     let o : IsOrderedStored a = record { member_values = q.first.ordered; child_values = q.second.first.ordered; name_values = q.second.second.ordered } in
     let same : mine ≡ state_of mine.context a = c.stores-store.ensures.state in
     subst (λ s. AreTouched c.in_ok-children.children.items s new) (sym same)
@@ -22,7 +22,7 @@ returns-clause-members c new is =
     let p = c.args.plan.now in
     let mine = c.args.self.now in
     let q = c.stores-store.result.now in
-    let a : Stored = stored_in q in
+    let a : StoredTables = stored_in q in
     let o : IsOrderedStored a = record { member_values = q.first.ordered; child_values = q.second.first.ordered; name_values = q.second.second.ordered } in
     let same : mine ≡ state_of mine.context a = c.stores-store.ensures.state in
     subst (λ s. IsTrue c.differs_in.result ↔ MembersDiffer s new) (sym same)
