@@ -29,7 +29,7 @@ fail_skip now run runs (e ∷ es) f = (f.0, run ∷ f.1, f.2, ap (λ l. run ∷ 
 
 started : (now : ℕ) (effect : Effect) (later : List Effect) (w : List (List Effect)) (v u : View) → TellsFailedStarts now (runs_of later ++ runs_in w) v u → TellsFailedStarts now (runs_of (effect ∷ later) ++ runs_in w) v u
 started now (Stop id inc) later w v u t = t
-started now (Start id inc spec) later w v u t = record { exits = t.exits; are = fail_skip now (id, inc) (runs_of later ++ runs_in w) t.exits t.are; own = t.own }
+started now (Start id inc spec) later w v u t = record { exits = t.exits; are = fail_skip now (id, inc) (runs_of later ++ runs_in w) t.exits t.are; own = t.own; shares = t.shares }
 
 -- nothing is told of the first effect
 pub tells_on : (now : ℕ) (all : List Effect) (effect : Effect) (later : List Effect) (w : List (List Effect)) (v u : View) → all ≡ effect ∷ later
@@ -49,11 +49,12 @@ tells_exit now all id inc spec later w more effects v v' u is grown c t =
       exits = e ∷ t.exits;
       are = ((id, inc), [], runs_of later ++ runs_in w, refl, refl, subst (λ l. FailedStarts now ((runs_of later ++ runs_in w) ++ runs_of l) t.exits) (sym c.1.effects_are) (subst (λ l. FailedStarts now l t.exits) behind t.are));
       own = t.own ∙ (ap (λ l. l ++ map some t.exits) c.1.own ∙ append_assoc (calls_of v) (some e ∷ []) (map some t.exits));
+      shares = t.shares ∙ c.1.shares;
     } in
     subst (λ l. TellsFailedStarts now (runs_of l ++ runs_in w) v u) (sym is) told
 
 pub makes_none : (v : View) → MakesCalls v [] v
-makes_none v = record { rounds = []; are = tt; own = sym (append-nil (calls_of v)) }
+makes_none v = record { rounds = []; are = tt; own = sym (append-nil (calls_of v)); shares = refl }
 
 -- a call, and what was told of its answer
 pub makes_one : (v v' u : View) (a : Act) (now : ℕ) (effects letter : _) → MadeCall v a now effects letter v' → TellsFailedStarts now (runs_of effects) v' u → MakesCalls v ((a, now) ∷ []) u
@@ -61,6 +62,7 @@ makes_one v v' u a now effects letter c t = let e = entry a now c.answer in reco
   rounds = (e ∷ t.exits) ∷ [];
   are = ((refl, subst (λ l. FailedStarts now (runs_of l) t.exits) (sym c.effects_are) t.are), tt);
   own = t.own ∙ (ap (λ l. l ++ map some t.exits) c.own ∙ (append_assoc (calls_of v) (some e ∷ []) (map some t.exits) ∙ ap (λ l. calls_of v ++ l) (sym (append-nil (some e ∷ map some t.exits)))));
+  shares = t.shares ∙ c.shares;
 }
 
 pub makes_then : (v v' u : View) (cs ds : List Call) → MakesCalls v cs v' → MakesCalls v' ds u → MakesCalls v (cs ++ ds) u
@@ -69,4 +71,5 @@ makes_then v v' u cs ds p q = record {
   are = zip_append IsRound cs p.rounds ds q.rounds p.are q.are;
   own = q.own ∙ (ap (λ l. l ++ flat_map (map some) q.rounds) p.own ∙ (append_assoc (calls_of v) (flat_map (map some) p.rounds) (flat_map (map some) q.rounds)
       ∙ ap (λ l. calls_of v ++ l) (sym (flat_map-append (map some) p.rounds q.rounds))));
+  shares = q.shares ∙ p.shares;
 }

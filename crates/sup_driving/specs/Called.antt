@@ -23,13 +23,14 @@ letter_of (Ok done) = done.out
 letter_of (Err r) = None
 
 -- what is seen begins with what was seen, and ends with a call and its answer, which has these effects and this letter; it is one more of the
--- pass's own calls
+-- pass's own calls; what the pass has of the gate stays
 pub record MadeCall (v : View) (act : Act) (now : ℕ) (effects : List Effect) (letter : Option Letter) (v' : View) : Type 0 where
   pub answer : StationAnswer
   pub before : List Entry
   pub begins : IsPrefix v.seen before
   pub ends : v'.seen ≡ before ++ entry act now answer ∷ []
   pub own : calls_of v' ≡ calls_of v ++ some (entry act now answer) ∷ []
+  pub shares : v'.shares ≡ v.shares
   pub effects_are : effects_of answer ≡ effects
   pub letter_is : letter_of answer ≡ letter
 
@@ -46,6 +47,7 @@ pub record TellsFailedStarts (now : ℕ) (runs : List ChildIncarnation) (v v' : 
   pub exits : List Entry
   pub are : FailedStarts now runs exits
   pub own : calls_of v' ≡ calls_of v ++ map some exits
+  pub shares : v'.shares ≡ v.shares
 
 -- the runs that the effects of several answers begin
 abbrev pub runs_in : List (List Effect) → List ChildIncarnation

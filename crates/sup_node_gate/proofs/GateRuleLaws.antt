@@ -1,9 +1,8 @@
 -- Each step of the gate keeps its rule.
-use Rattle.std.proofs.Common.{◌≡◌, ℕ, zero, suc, ◌+◌, ◌%◌, ◌^◌, ◌<◌, ◌≤◌, ◌≢◌, ◌⊎◌, eqb, List, [], ◌∷◌, ◌++◌, length, get_or, set, sym, refl, ap, ◌∙◌, subst, inl, inr, ⊎_elim, arith, length-set, length-append, get_or-set_other, get_or-set_same, zero-le, None, Some}
+use Rattle.std.proofs.Common.{◌≡◌, ℕ, zero, suc, ◌+◌, ◌%◌, ◌^◌, ◌<◌, ◌≤◌, ◌≢◌, eqb, List, [], ◌∷◌, ◌++◌, length, get_or, set, sym, refl, ap, ◌∙◌, subst, ⊎_elim, arith, length-set, length-append, get_or-set_other, get_or-set_same, zero-le, None, Some}
 use Rattle.std.specs.Prelude.{is_some, true, false}
 use Rattle.std.specs.declared.option.Option as P
-use mathlib.Core.Logic.{dite}
-use mathlib.Core.Option.{Option, none, some, some-injective, some-ne-none}
+use mathlib.Core.Option.{none, some, some-injective, some-ne-none}
 use lib.ListN.{get_elem?}
 use lib.Seq.{set-get_or}
 use prog.Atomic.{either}
@@ -11,8 +10,7 @@ use Rattle.atomic_table.specs.Table as T
 use Rattle.atomic_table.specs.Table.{State, Me, step, keeps, takes, gives, stepped, rest, Allows, Valid, carried_after, homes_after}
 use Rattle.atomic_table.proofs.Lists.{at_set, set_here, exchanged}
 use Rattle.sup_placement.specs.Place.{Weigher}
-use Rattle.sup_replica.specs.declared.event.Act.{Act}
-use Rattle.sup_node_gate.specs.Histories.{CountedStation, StationAnswer, RespondsToAct}
+use Rattle.sup_node_gate.specs.Histories.{CountedStation}
 use Rattle.sup_node_gate.specs.declared.entry.Entry.{Entry}
 use Rattle.sup_node_gate.specs.Histories.{AllSaved, ReplaysEntries, IsPrefix, entry}
 use Rattle.sup_node_gate.specs.declared.view.Holding.{Holding}
@@ -20,8 +18,11 @@ use Rattle.sup_node_gate.specs.declared.view.Parts.{Parts}
 use Rattle.sup_node_gate.specs.declared.view.View.{View}
 use Rattle.sup_node_gate.specs.Parts.{counted_in, counted_at, IsLike}
 use Rattle.sup_node_gate.specs.Views.{IsAmongPlaces, PlacesRise, newcomer, taking, losing, raising, freeing, looking}
-use Rattle.sup_node_gate.specs.Rule.{OpensAt, SavesAll, FitsView, HasTurn, IsHome, IsHeldBy, AllApart, RuleHolds, IsSeenAt, took, raises, raised, gave_back, looked, MayGiveBack, HasUncountedEntry}
-use Rattle.sup_node_gate.proofs.HistoryListLaws.{prefix_refl, prefix_longer, replays_one, saved_one, rises_more, rises_one, stands_below, stands_append, set_at, views_stay, apart_stays, held_stays}
+use Rattle.sup_node_gate.specs.Rule.{OpensAt, SavesAll, FitsView, HasTurn, AllApart, AllOwned, RuleHolds, IsSeenAt, took, raised, gave_back, looked, HasUncountedEntry}
+use Rattle.sup_node_gate.specs.Shares.{is_shared}
+use Rattle.sup_node_gate.proofs.ShareLaws.{first_whole, true_false}
+use Rattle.sup_node_gate.proofs.ViewShareLaws.{whole_stays}
+use Rattle.sup_node_gate.proofs.HistoryListLaws.{prefix_refl, prefix_longer, replays_one, saved_one, rises_more, rises_one, stands_below, stands_append, set_at, views_stay, apart_stays, held_stays, owned_stays, owned_one}
 
 opens_at : (o : P.Option Parts) (start x : Parts) → OpensAt o start → o ≡ Some x → x ≡ start
 opens_at (Some y) start x h e = let same : y ≡ x = cc in sym same ∙ h
@@ -66,9 +67,9 @@ module _ {H : Type 0} where
 
   module _ (sight : H → Holding) (g : Weigher) (start : Parts) (bound : ℕ) where
     -- a step that changes no word
-    unmoved : (s : State (P.Option H) View) (r : RuleHolds sight g start bound s) (i me : ℕ) (cs : List (ℕ × P.Option H)) (v w : View) → get_elem? s.views me ≡ some v → w.own ≡ v.own → w.turn ≡ v.turn
+    unmoved : (s : State (P.Option H) View) (r : RuleHolds sight g start bound s) (i me : ℕ) (cs : List (ℕ × P.Option H)) (v w : View) → get_elem? s.views me ≡ some v → w.own ≡ v.own → w.turn ≡ v.turn → w.shares ≡ v.shares
         → FitsView start r.held.history w → RuleHolds sight g start bound (stepped s i (get_or s.words i 0) me cs w keeps)
-    unmoved s r i me cs v w at own turn fits = subst (λ (ws : List ℕ). RuleHolds sight g start bound record { words = ws; homes = s.homes; views = set s.views me w }) (sym (set-get_or s.words i 0)) record {
+    unmoved s r i me cs v w at own turn shares fits = subst (λ (ws : List ℕ). RuleHolds sight g start bound record { words = ws; homes = s.homes; views = set s.views me w }) (sym (set-get_or s.words i 0)) record {
       held = r.held;
       holder = r.holder;
       two = r.two;
@@ -82,6 +83,8 @@ module _ {H : Type 0} where
       each_turn = views_stay (λ j d. HasTurn r.held (get_or s.words 1 0) r.holder j d.turn) s.views me w
           (subst (HasTurn r.held (get_or s.words 1 0) r.holder me) (sym turn) (r.each_turn me v at)) (λ j d _. r.each_turn j d);
       apart = apart_stays s.views me v w at own r.apart;
+      owned = owned_stays s.views me (length r.held.history) v w at (λ p t. subst (IsAmongPlaces p) (sym own) t) r.owned;
+      whole = whole_stays s.views me v w at shares r.whole;
     }
 
     seen_at : (s : State (P.Option H) View) (r : RuleHolds sight g start bound s) (me : ℕ) (v : View) → get_elem? s.views me ≡ some v → IsSeenAt g v r.held
@@ -110,7 +113,7 @@ module _ {H : Type 0} where
       w,
       keeps,
       tt,
-      unmoved s r 0 id me.1 me.0 w at refl refl (f.0, prefix_refl r.held.history, (r.held.history, refl), f.3),
+      unmoved s r 0 id me.1 me.0 w at refl refl refl (f.0, prefix_refl r.held.history, (r.held.history, refl), f.3, f.4),
       (r.held, refl, sym r.counted, seen_at s r id me.0 at, λ h e. sym (of_turn s r id me.0 h at e).2),
     )
 
@@ -138,6 +141,8 @@ module _ {H : Type 0} where
             each_turn = views_stay (λ j d. HasTurn held (get_or (set s.words 1 1) 1 0) id j d.turn) s.views id w (now, refl, refl)
                 (λ j d _ there. turns_none r.held held (get_or s.words 1 0) _ r.holder id j d.turn z (r.each_turn j d there));
             apart = apart_stays s.views id me.0 w at refl r.apart;
+            owned = subst (λ (l : List Entry). AllOwned (set s.views id w) (length l)) (sym like.0) (owned_stays s.views id (length r.held.history) me.0 w at (λ p t. t) r.owned);
+            whole = whole_stays s.views id me.0 w at refl r.whole;
           },
           (held, seen_like me.0 held r.held like (seen_at s r id me.0 at), (λ _. (h, refl, refl)), (λ n. absurd (n z))),
         ))
@@ -145,7 +150,7 @@ module _ {H : Type 0} where
           w,
           keeps,
           tt,
-          unmoved s r 1 id me.1 me.0 w at refl refl (r.each_view id me.0 at),
+          unmoved s r 1 id me.1 me.0 w at refl refl refl (r.each_view id me.0 at),
           (r.held, seen_at s r id me.0 at, (λ z. absurd (n z)), (λ _. refl)),
         ))
 
@@ -174,13 +179,15 @@ module _ {H : Type 0} where
             each_turn = views_stay (λ j d. HasTurn r.held (get_or (set s.words 1 0) 1 0) id j d.turn) s.views id w tt
                 (λ j d other there. turns_other r.held r.held (get_or s.words 1 0) _ r.holder id j d.turn (λ e. other (e ∙ sym t.1)) (r.each_turn j d there));
             apart = apart_stays s.views id me.0 w at refl r.apart;
+            owned = owned_stays s.views id (length r.held.history) me.0 w at (λ p t. t) r.owned;
+            whole = whole_stays s.views id me.0 w at refl r.whole;
           },
           refl,
         )
 
     pub raises_count : (slots id : ℕ) (me : Me (P.Option H) View) → HasUncountedEntry sight g bound me → bound < 2 ^ 32 → Allows (RuleHolds sight g start bound) slots id me 0 (λ n. (n + 1) % 2 ^ 64) (raised sight (step slots 0 1 0 none) me)
     raises_count slots id me makes small s r count at _ =
-        let had = makes.0 in let h = makes.1 in let a = makes.2 in let now = makes.3 in let answer = makes.4 in let has = makes.5 in let out = makes.6 in let room = makes.7 in let longer = makes.8 in let goes = makes.9 in let saves = makes.10 in
+        let had = makes.0 in let h = makes.1 in let a = makes.2 in let now = makes.3 in let answer = makes.4 in let has = makes.5 in let out = makes.6 in let room = makes.7 in let longer = makes.8 in let goes = makes.9 in let saves = makes.10 in let shared : is_shared me.0.shares ≡ true = makes.11 in
         let n : ℕ = length had.history in let held = sight h in
         let w = raising me.0 n held in let two = r.two in let t = of_turn s r id me.0 had at has in let e = entry a now answer in
         let fine = r.within in let below : n < bound = (let same : length r.held.history ≡ n = ap (λ x. length x.history) (sym t.2) in omega arith) in let more : length held.history ≡ n + 1 = ap length longer ∙ length-append had.history (e ∷ []) in
@@ -205,21 +212,23 @@ module _ {H : Type 0} where
             free = λ e. absurd (omega arith);
             taken = λ _. (w, held, set_at s.views id me.0 w at, refl);
             each_view = views_stay (λ _ d. FitsView start held.history d) s.views id w
-                (mine.0, prefix_refl held.history, (held.history, refl), subst (PlacesRise 0 (me.0.own ++ n ∷ [])) (omega arith) (rises_one 0 me.0.own n mine.3))
-                (λ j d _ there. let f = fits j d there in (f.0, subst (IsPrefix d.seen) (sym longer) (prefix_longer d.seen _ _ f.1), subst (IsPrefix d.told) (sym longer) (prefix_longer d.told _ _ f.2), rises_more 0 d.own _ _ f.3 (omega arith)));
+                (mine.0, prefix_refl held.history, (held.history, refl), subst (PlacesRise 0 (me.0.own ++ n ∷ [])) (omega arith) (rises_one 0 me.0.own n mine.3), λ bare. absurd (true_false (sym shared ∙ bare)))
+                (λ j d _ there. let f = fits j d there in (f.0, subst (IsPrefix d.seen) (sym longer) (prefix_longer d.seen _ _ f.1), subst (IsPrefix d.told) (sym longer) (prefix_longer d.told _ _ f.2), rises_more 0 d.own _ _ f.3 (omega arith), f.4));
             each_turn = views_stay (λ j d. HasTurn held (get_or (set s.words 0 z) 1 0) id j d.turn) s.views id w (turn_word, refl, refl)
                 (λ j d other there. turns_other r.held _ (get_or s.words 1 0) _ r.holder id j d.turn (λ e. other (e ∙ sym t.1)) (r.each_turn j d there));
             apart = apart_longer s.views id n me.0 w at refl (λ j d there. (fits j d there).3) r.apart;
+            owned = subst (AllOwned (set s.views id w)) (omega (arith, more)) (owned_one s.views id n me.0 w at refl (subst (λ (l : Holding). AllOwned s.views (length l.history)) (sym t.2) r.owned));
+            whole = whole_stays s.views id me.0 w at refl r.whole;
           },
           λ k k' has' out'. let same : had ≡ k = cc in let same' : h ≡ k' = ap (slot_or h) (sym out ∙ out') in (λ i. (raising me.0 (length (same i).history) (sight (same' i)), me.1)),
         )
 
-    only : (opening : Parts) (j : ℕ) (v : View) → get_elem? (newcomer (Some opening) [] ∷ []) j ≡ some v → newcomer (Some opening) [] ≡ v
+    only : (opening : Parts) (j : ℕ) (v : View) → get_elem? (newcomer (Some opening) [] (0 ∷ []) ∷ []) j ≡ some v → newcomer (Some opening) [] (0 ∷ []) ≡ v
     only opening zero v e = some-injective _ v e
     only opening (suc j) v e = absurd (some-ne-none v (sym e))
 
     pub opens : (opening : Parts) (h : H) → opening ≡ start → IsLike (sight h) (record { history = []; parts = opening })
-        → RuleHolds sight g start bound (T.opening (0 ∷ 0 ∷ []) (Some h ∷ []) (newcomer (Some opening) []))
+        → RuleHolds sight g start bound (T.opening (0 ∷ 0 ∷ []) (Some h ∷ []) (newcomer (Some opening) [] (0 ∷ [])))
     opens opening h starts like = record {
       held = record { history = []; parts = opening };
       holder = 0;
@@ -230,7 +239,9 @@ module _ {H : Type 0} where
       counted = refl;
       free = λ _. (h, refl, like);
       taken = λ n. absurd (n refl);
-      each_view = λ j v there. subst (λ (d : View). FitsView start [] d) (only opening j v there) (starts, ([], refl), ([], refl), zero-le);
+      each_view = λ j v there. subst (λ (d : View). FitsView start [] d) (only opening j v there) (starts, ([], refl), ([], refl), zero-le, λ _. refl);
       each_turn = λ j v there. subst (λ (d : View). HasTurn record { history = []; parts = opening } 0 0 j d.turn) (only opening j v there) tt;
       apart = λ i j p v u at_i at_j in_v in_u. absurd (subst (λ (d : View). IsAmongPlaces p d.own) (sym (only opening i v at_i)) in_v);
+      owned = λ p lt. absurd (omega (arith, lt));
+      whole = first_whole;
     }

@@ -1,5 +1,5 @@
 -- Histories, prefixes, places and views.
-use Rattle.std.proofs.Common.{◌≡◌, true, ℕ, zero, suc, ◌+◌, ◌<◌, ◌≤◌, ◌≢◌, ◌⊎◌, List, [], ◌∷◌, ◌++◌, map, length, set, sym, refl, ap, ◌∙◌, subst, inl, inr, ⊎_elim, append_assoc, append-nil, arith}
+use Rattle.std.proofs.Common.{◌≡◌, true, ℕ, zero, suc, ◌<◌, ◌≤◌, ◌≢◌, ◌⊎◌, List, [], ◌∷◌, ◌++◌, map, length, set, sym, refl, ap, ◌∙◌, subst, inl, inr, ⊎_elim, append_assoc, append-nil, arith}
 use mathlib.Core.Logic.{dite}
 use mathlib.Core.Option.{some, some-injective, some-ne-none}
 use native.Mathlib.Decide.{ℕ_discrete}
@@ -11,8 +11,8 @@ use Rattle.sup_node_gate.specs.declared.entry.Entry.{Entry}
 use Rattle.sup_node_gate.specs.Histories.{AllSaved, ReplaysEntries, IsPrefix, entry}
 use Rattle.sup_node_gate.specs.declared.view.View.{View}
 use Rattle.sup_node_gate.specs.Views.{IsAmongPlaces, PlacesRise}
-use Rattle.sup_node_gate.specs.Rule.{AllApart, IsHeldBy}
-use Rattle.atomic_table.proofs.Lists.{at_set, set_else}
+use Rattle.sup_node_gate.specs.Rule.{AllApart, AllOwned, IsHeldBy}
+use Rattle.atomic_table.proofs.Lists.{at_set, at_longer, set_else}
 
 pub prefix_refl : (xs : List Entry) → IsPrefix xs xs
 prefix_refl xs = ([], sym (append-nil xs))
@@ -92,3 +92,27 @@ at_more (x ∷ xs) ys (suc p) h = at_more xs ys p (omega arith)
 pub entries_more : (xs ys : List Entry) (own : List ℕ) (low : ℕ) → PlacesRise low own (length xs) → map (get_elem? (xs ++ ys)) own ≡ map (get_elem? xs) own
 entries_more xs ys [] low r = refl
 entries_more xs ys (p ∷ own) low r = let b = rises_le (suc p) own (length xs) r.1 in let e = at_more xs ys p (omega arith) in let m = entries_more xs ys own (suc p) r.1 in cc
+
+-- a view in the place of one that owns no more than it
+pub owned_stays : (vs : List View) (me n : ℕ) (v w : View) → get_elem? vs me ≡ some v → ((p : ℕ) → IsAmongPlaces p v.own → IsAmongPlaces p w.own) → AllOwned vs n → AllOwned (set vs me w) n
+owned_stays vs me n v w at more owned p lt = let o = owned p lt in dite (ℕ_discrete o.0 me)
+    (λ (e : o.0 ≡ me). let here : get_elem? vs me ≡ some o.1 = subst (λ (z : ℕ). get_elem? vs z ≡ some o.1) e o.2 in let is : v ≡ o.1 = some-injective v o.1 (sym at ∙ here) in
+    (me, w, set_at vs me v w at, more p (subst (λ (u : View). IsAmongPlaces p u.own) (sym is) o.3)))
+    (λ other. (o.0, o.1, set_else vs me o.0 w other ∙ o.2, o.3))
+
+pub owned_more : (vs : List View) (u : View) (n : ℕ) → AllOwned vs n → AllOwned (vs ++ u ∷ []) n
+owned_more vs u n owned p lt = let o = owned p lt in (o.0, o.1, at_longer vs (u ∷ []) o.0 o.1 o.2, o.3)
+
+pub stands_left : (p : ℕ) (xs ys : List ℕ) → IsAmongPlaces p xs → IsAmongPlaces p (xs ++ ys)
+stands_left p [] ys s = absurd s
+stands_left p (x ∷ xs) ys s = ⊎_elim (λ (e : p ≡ x). inl e) (λ (t : IsAmongPlaces p xs). inr (stands_left p xs ys t)) s
+
+pub stands_last : (p : ℕ) (xs : List ℕ) → IsAmongPlaces p (xs ++ p ∷ [])
+stands_last p [] = inl refl
+stands_last p (x ∷ xs) = inr (stands_last p xs)
+
+-- one entry more, which is the view's
+pub owned_one : (vs : List View) (me n : ℕ) (v w : View) → get_elem? vs me ≡ some v → w.own ≡ v.own ++ n ∷ [] → AllOwned vs n → AllOwned (set vs me w) (suc n)
+owned_one vs me n v w at own owned p lt = dite (ℕ_discrete p n)
+    (λ (e : p ≡ n). (me, w, set_at vs me v w at, subst (IsAmongPlaces p) (sym own) (subst (λ (z : ℕ). IsAmongPlaces p (v.own ++ z ∷ [])) e (stands_last p v.own))))
+    (λ other. owned_stays vs me n v w at (λ q s. subst (IsAmongPlaces q) (sym own) (stands_left q v.own (n ∷ []) s)) owned p (omega (arith, lt, other)))

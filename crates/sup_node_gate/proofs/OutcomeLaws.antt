@@ -1,6 +1,7 @@
 -- What the steps of a call come to.
-use Rattle.std.proofs.Common.{◌≡◌, ℕ, suc, ◌+◌, ◌≢◌, List, [], ◌∷◌, ◌++◌, append_assoc, map, length, sym, refl, ap, ◌∙◌, subst, arith, length-append, Ok, Err, Some, None}
-use mathlib.Core.Option.{Option, some}
+use Rattle.std.proofs.Common.{◌≡◌, ℕ, ◌+◌, ◌≢◌, List, [], ◌∷◌, ◌++◌, append_assoc, map, length, sym, refl, ap, ◌∙◌, true, subst, arith, length-append, Ok, Err, Some}
+use mathlib.Core.Option as M
+use mathlib.Core.Option.{some}
 use mathlib.Core.List.{map-append}
 use lib.ListN.{get_elem?}
 use Rattle.std.specs.declared.option.Option as P
@@ -8,19 +9,23 @@ use Rattle.atomic_table.specs.Table.{Me, rest}
 use Rattle.atomic_table.proofs.Lists.{at_last}
 use Rattle.sup_placement.specs.Place.{Weigher}
 use Rattle.sup_replica.specs.declared.event.Act.{Act}
-use Rattle.sup_node_gate.specs.Histories.{CountedStation, StationAnswer, RespondsToAct}
+use Rattle.sup_node_gate.specs.Histories.{CountedStation, StationAnswer}
 use Rattle.sup_node_gate.specs.declared.entry.Entry.{Entry}
 use Rattle.sup_node_gate.specs.Histories.{RefusalStanding, full, no_room, entered, standing_of, IsEntered, ReplaysEntries, IsPrefix, entry}
 use Rattle.sup_node_gate.specs.declared.view.Holding.{Holding}
 use Rattle.sup_node_gate.specs.declared.view.Parts.{Parts}
 use Rattle.sup_node_gate.specs.declared.view.View.{View}
-use Rattle.sup_node_gate.specs.Parts.{counted_in, counted_at, IsLike}
-use Rattle.sup_node_gate.specs.Views.{PlacesRise, calls_of, taking, raising, freeing, looking, joining}
+use Rattle.sup_node_gate.specs.Parts.{counted_in, counted_at}
+use Rattle.sup_node_gate.specs.Views.{PlacesRise, calls_of, merged, taking, raising, freeing, looking, joining}
 use Rattle.sup_node_gate.specs.Holdings.{AddsEntry}
 use Rattle.sup_node_gate.specs.Rule.{IsSeenAt, IsTurnTaken}
 use Rattle.sup_node_gate.specs.Calls.{EntersCall, KeepsOwn, IsFull, HasNoMemory, RefusesCall, ActsInTurn, JoinedViews, MayAct, IsIdle}
+use Rattle.sup_node_gate.specs.Shares.{is_shared}
+use Rattle.sup_node_gate.specs.Shuffles.{IsShuffle}
 use Rattle.sup_node_gate.proofs.GateRuleLaws.{slot_or}
-use Rattle.sup_node_gate.proofs.HistoryListLaws.{replays_one, rises_one, entries_more}
+use Rattle.sup_node_gate.proofs.HistoryListLaws.{replays_one, rises_one, rises_more, entries_more}
+use Rattle.sup_node_gate.proofs.PlaceListLaws.{merged_apart}
+use Rattle.sup_node_gate.proofs.ShuffleLaws.{merged_shuffles, map_shuffles}
 
 pub enters_acts : (g : Weigher) (s : CountedStation) (bound : ℕ) (v : View) (a : Act) (now : ℕ) (r : StationAnswer) (v' : View) → IsEntered r → EntersCall g s v (entry a now r) v' → ActsInTurn g s bound v a now r v'
 enters_acts g s bound v a now (Ok d) v' is e = e
@@ -55,8 +60,28 @@ has_no_memory g start bound v h opens taken seen not_full = record { held = h; t
 pub looked_keeps : (g : Weigher) (start : Parts) (v : View) (h : Holding) → v.opening ≡ Some start → IsSeenAt g v h → KeepsOwn g (counted_in start) v (looking v h.history)
 looked_keeps g start v h opens seen = record { begins = seen.0; replays = (counted_at h, seen.3 start opens); places = refl; rises = seen.2 }
 
-pub looked_joins : (g : Weigher) (start : Parts) (v u : View) (h : Holding) → v.opening ≡ Some start → IsSeenAt g (joining v u) h → JoinedViews g (counted_in start) v u (looking (joining v u) h.history)
-looked_joins g start v u h opens seen = record { begins = seen.0; others = seen.1; replays = (counted_at h, seen.3 start opens); places = refl; rises = seen.2; tries = refl; splits = refl }
+calls_in : (v : View) (xs : List Entry) → IsPrefix v.seen xs → PlacesRise 0 v.own (length v.seen) → map (get_elem? xs) v.own ≡ calls_of v
+calls_in v xs p placed = subst (λ (l : List Entry). map (get_elem? l) v.own ≡ calls_of v) (sym p.1) (entries_more v.seen p.0 v.own 0 placed)
+
+rises_in : (v : View) (xs : List Entry) → IsPrefix v.seen xs → PlacesRise 0 v.own (length v.seen) → PlacesRise 0 v.own (length xs)
+rises_in v xs p placed = let longer : length xs ≡ length v.seen + length p.0 = ap length p.1 ∙ length-append v.seen p.0 in rises_more 0 v.own (length v.seen) (length xs) placed (omega (arith, longer))
+
+pub looked_joins : (g : Weigher) (start : Parts) (v u : View) (h : Holding) → v.opening ≡ Some start → IsSeenAt g (joining v u) h → PlacesRise 0 v.own (length v.seen) → PlacesRise 0 u.own (length u.seen)
+    → JoinedViews g (counted_in start) v u (looking (joining v u) h.history)
+looked_joins g start v u h opens seen placed others = let xs = h.history in record {
+  begins = seen.0;
+  others = seen.1;
+  replays = (counted_at h, seen.3 start opens);
+  places = refl;
+  rises = seen.2;
+  tries = refl;
+  splits = refl;
+  shares = refl;
+  calls = subst (λ (p : List (M.Option Entry) × List (M.Option Entry)). IsShuffle p.0 p.1 (map (get_elem? xs) (merged v.own u.own)))
+      (λ i. (calls_in v xs seen.0 placed i, calls_in u xs seen.1 others i))
+      (map_shuffles (get_elem? xs) (merged v.own u.own) v.own u.own
+      (merged_shuffles u.own v.own 0 (length xs) (rises_in v xs seen.0 placed) (rises_in u xs seen.1 others) (merged_apart u.own v.own 0 (length xs) seen.2)));
+}
 
 module _ {H : Type 0} where
   -- the turn is taken, and the slot with it
@@ -66,19 +91,19 @@ module _ {H : Type 0} where
       let taken = subst (λ (x : Holding). IsSeenAt g m.0 x × (m' ≡ (taking m.0 x, (0, Some h) ∷ []))) (sym same) (seen, all) in (h, taken.0, taken.1)
 
   -- a pass that took the turn may act
-  pub may_act : (sight : H → Holding) (g : Weigher) (opening : Parts) (m m' : Me (P.Option H) View) → IsTurnTaken sight g m m' → m.0.told ≡ [] → m.0.opening ≡ Some opening → PlacesRise 0 m.0.own (length m.0.seen)
+  pub may_act : (sight : H → Holding) (g : Weigher) (opening : Parts) (m m' : Me (P.Option H) View) → IsTurnTaken sight g m m' → m.0.told ≡ [] → m.0.opening ≡ Some opening → PlacesRise 0 m.0.own (length m.0.seen) → is_shared m.0.shares ≡ true
       → MayAct sight g opening m'
-  may_act sight g opening m m' t told opens placed = subst (λ (x : Me (P.Option H) View). MayAct sight g opening x) (sym t.2) (t.0, refl, refl, told, opens, t.1, placed, refl)
+  may_act sight g opening m m' t told opens placed shared = subst (λ (x : Me (P.Option H) View). MayAct sight g opening x) (sym t.2) (t.0, refl, refl, told, opens, t.1, placed, refl, shared)
 
   -- what is lent of a slot is what the seat has there
   pub lent_slot : (m : Me (P.Option H) View) (h : H) (lent : P.Option H) (held : H) → m.1 ≡ (0, Some h) ∷ [] → m.1 ≡ (0, lent) ∷ rest m.1 → lent ≡ Some held → held ≡ h
   lent_slot m h lent held out there is = ap (slot_or held) ((λ i. (0, sym is i) ∷ rest m.1) ∙ (sym there ∙ out))
 
 -- once the turn is given back
-pub idle_after : {H : Type 0} (m : Me (P.Option H) View) (v w : View) → m ≡ (freeing w, []) → w.told ≡ [] → PlacesRise 0 w.own (length w.seen) → w.opening ≡ v.opening → w.tries ≡ v.tries → w.splits ≡ v.splits
-    → IsIdle m × (m.0.opening ≡ v.opening) × (m.0.tries ≡ v.tries) × (m.0.splits ≡ v.splits)
-idle_after {H = H} m v w is told rises opening tries splits =
-    subst (λ (x : Me (P.Option H) View). IsIdle x × (x.0.opening ≡ v.opening) × (x.0.tries ≡ v.tries) × (x.0.splits ≡ v.splits)) (sym is) ((refl, told, refl, rises), opening, tries, splits)
+pub idle_after : {H : Type 0} (m : Me (P.Option H) View) (v w : View) → m ≡ (freeing w, []) → w.told ≡ [] → PlacesRise 0 w.own (length w.seen) → w.opening ≡ v.opening → w.tries ≡ v.tries → w.splits ≡ v.splits → w.shares ≡ v.shares → is_shared v.shares ≡ true
+    → IsIdle m × (m.0.opening ≡ v.opening) × (m.0.tries ≡ v.tries) × (m.0.splits ≡ v.splits) × (m.0.shares ≡ v.shares)
+idle_after {H = H} m v w is told rises opening tries splits shares shared =
+    subst (λ (x : Me (P.Option H) View). IsIdle x × (x.0.opening ≡ v.opening) × (x.0.tries ≡ v.tries) × (x.0.splits ≡ v.splits) × (x.0.shares ≡ v.shares)) (sym is) ((refl, told, refl, rises, ap is_shared shares ∙ shared), opening, tries, splits, shares)
 
 enters_same : (g : Weigher) (s : CountedStation) (v u : View) (e : Entry) (v' : View) → v.seen ≡ u.seen → v.own ≡ u.own → EntersCall g s v e v' → EntersCall g s u e v'
 enters_same g s v u e v' seen own x = record {

@@ -1,25 +1,25 @@
 -- A split and a join keep the rule, and what the table's last state tells.
-use Rattle.std.proofs.Common.{◌≡◌, ℕ, zero, suc, ◌<◌, ◌≤◌, ◌≢◌, ◌⊎◌, List, [], ◌∷◌, ◌++◌, length, get_or, set, sym, refl, ap, ◌∙◌, subst, inl, inr, ⊎_elim, arith, zero-le, None, Some}
+use Rattle.std.proofs.Common.{◌≡◌, ℕ, zero, suc, ◌≤◌, ◌≢◌, ◌⊎◌, List, [], ◌∷◌, ◌++◌, map, length, get_or, set, sym, refl, ap, ◌∙◌, subst, inl, inr, ⊎_elim, zero-le, None, Some}
 use Rattle.std.specs.Prelude.{is_some, true, false, IfSome}
 use Rattle.std.specs.declared.option.Option as P
 use mathlib.Core.Logic.{dite}
-use mathlib.Core.Option.{Option, none, some, some-injective, some-ne-none}
+use mathlib.Core.Option.{some, some-injective, some-ne-none}
 use native.Mathlib.Decide.{ℕ_discrete}
 use lib.ListN.{get_elem?}
-use Rattle.atomic_table.specs.Table.{State, Splits, Joins, Final, Seen}
+use Rattle.atomic_table.specs.Table.{Splits, Joins, Final, Seen}
 use Rattle.atomic_table.proofs.Lists.{at_set, at_snoc, at_longer, set_else}
 use Rattle.sup_placement.specs.Place.{Weigher}
-use Rattle.sup_node_gate.specs.Histories.{CountedStation}
-use Rattle.sup_node_gate.specs.declared.entry.Entry.{Entry}
-use Rattle.sup_node_gate.specs.Histories.{ReplaysEntries, IsPrefix}
 use Rattle.sup_node_gate.specs.declared.view.Holding.{Holding}
 use Rattle.sup_node_gate.specs.declared.view.Parts.{Parts}
 use Rattle.sup_node_gate.specs.declared.view.View.{View}
-use Rattle.sup_node_gate.specs.Parts.{counted_at, IsLike}
-use Rattle.sup_node_gate.specs.Views.{IsAmongPlaces, PlacesRise, merged, first, second, spent, joining}
-use Rattle.sup_node_gate.specs.Rule.{OpensAt, FitsView, HasTurn, IsHeldBy, AllApart, RuleHolds}
-use Rattle.sup_node_gate.proofs.HistoryListLaws.{set_at, views_stay, apart_stays, held_stays}
-use Rattle.sup_node_gate.proofs.PlaceListLaws.{stands_merged, rises_merged}
+use Rattle.sup_node_gate.specs.Views.{IsAmongPlaces, calls_of, merged, first, second, spent, joining}
+use Rattle.sup_node_gate.specs.Rule.{FitsView, HasTurn, IsHeldBy, AllApart, AllOwned, OwnsByShare, RuleHolds}
+use Rattle.sup_node_gate.proofs.HistoryListLaws.{set_at, views_stay, apart_stays, held_stays, owned_stays, owned_more}
+use Rattle.sup_node_gate.specs.Shares.{is_shared}
+use Rattle.sup_node_gate.specs.Gates.{IsSole}
+use Rattle.sup_node_gate.proofs.ShareLaws.{shared_halved, none_left, none_right}
+use Rattle.sup_node_gate.proofs.ViewShareLaws.{whole_split, whole_joined, sole_calls}
+use Rattle.sup_node_gate.proofs.PlaceListLaws.{stands_merged, rises_merged, merged_left, merged_right}
 
 pub index_at : {A : Type 0} (l : List A) (i : ℕ) (a d : A) → get_elem? l i ≡ some a → get_or l i d ≡ a
 index_at [] i a d e = absurd (some-ne-none a (sym e))
@@ -48,6 +48,19 @@ module _ (vs : List View) (id other : ℕ) (v u : View) (at : get_elem? vs id �
       (λ (y : (j ≢ id) × (j ≢ other) × (get_elem? vs j ≡ some b)). apart i j p a b x.2 y.2 in_a in_b) (from j p b at_j in_b))
       (from i p a at_i in_a)
 
+joined_owned : (vs : List View) (id other n : ℕ) (v u : View) → get_elem? vs id ≡ some v → get_elem? vs other ≡ some u → AllOwned vs n → other ≢ id → AllOwned (set (set vs id (joining v u)) other spent) n
+joined_owned vs id other n v u at there owned not p lt =
+    let o = owned p lt in
+    let both : get_elem? (set (set vs id (joining v u)) other spent) id ≡ some (joining v u) = set_else (set vs id (joining v u)) other id spent (λ e. not (sym e)) ∙ set_at vs id v (joining v u) at in
+    dite (ℕ_discrete o.0 id)
+    (λ (e : o.0 ≡ id). let is : v ≡ o.1 = some-injective v o.1 (sym at ∙ subst (λ (z : ℕ). get_elem? vs z ≡ some o.1) e o.2) in (id, joining v u, both, merged_left u.own v.own p (subst (λ (w : View). IsAmongPlaces p w.own) (sym is) o.3)))
+    (λ here. dite (ℕ_discrete o.0 other)
+    (λ (e : o.0 ≡ other). let is : u ≡ o.1 = some-injective u o.1 (sym there ∙ subst (λ (z : ℕ). get_elem? vs z ≡ some o.1) e o.2) in (id, joining v u, both, merged_right u.own v.own p (subst (λ (w : View). IsAmongPlaces p w.own) (sym is) o.3)))
+    (λ ne. (o.0, o.1, set_else (set vs id (joining v u)) other o.0 spent ne ∙ (set_else vs id o.0 (joining v u) here ∙ o.2), o.3)))
+
+joined_none : (v u : View) → OwnsByShare v → OwnsByShare u → is_shared (v.shares ++ u.shares) ≡ false → merged v.own u.own ≡ []
+joined_none v u a b bare = let left = a (none_left v.shares u.shares bare) in let right = b (none_right v.shares u.shares bare) in (λ i. merged (left i) (right i))
+
 free_has : (u : View) (h : Holding) → is_some u.turn ≡ false → u.turn ≡ Some h → ⊥
 free_has u h e f = let bad : true ≡ false = sym (ap is_some f) ∙ e in cc
 
@@ -58,8 +71,8 @@ held_without vs other u w holder there idle b = dite (ℕ_discrete holder other)
 
 module _ {H : Type 0} (sight : H → Holding) (g : Weigher) (start : Parts) (bound : ℕ) where
   pub splits : (id : ℕ) (v : View) → Splits (RuleHolds sight g start bound) id v (first v) (second v)
-  splits id v s r at = let f = r.each_view id v at in let vs = set s.views id (first v) in
-      let views : (j : ℕ) (d : View) → get_elem? vs j ≡ some d → FitsView start r.held.history d = views_stay (λ _ d. FitsView start r.held.history d) s.views id (first v) f (λ j d _. r.each_view j d) in
+  splits id v s r at = let f = r.each_view id v at in let left : FitsView start r.held.history (first v) = (f.0, f.1, f.2, f.3, λ bare. f.4 (sym (shared_halved v.shares) ∙ bare)) in let vs = set s.views id (first v) in
+      let views : (j : ℕ) (d : View) → get_elem? vs j ≡ some d → FitsView start r.held.history d = views_stay (λ _ d. FitsView start r.held.history d) s.views id (first v) left (λ j d _. r.each_view j d) in
       let turns : (j : ℕ) (d : View) → get_elem? vs j ≡ some d → HasTurn r.held (get_or s.words 1 0) r.holder j d.turn =
       views_stay (λ j d. HasTurn r.held (get_or s.words 1 0) r.holder j d.turn) s.views id (first v) (r.each_turn id v at) (λ j d _. r.each_turn j d) in
       let apart = apart_stays s.views id v (first v) at refl r.apart in record {
@@ -72,11 +85,13 @@ module _ {H : Type 0} (sight : H → Holding) (g : Weigher) (start : Parts) (bou
         counted = r.counted;
         free = r.free;
         taken = λ n. let b = held_stays s.views id v (first v) r.holder at refl (r.taken n) in (b.0, b.1, at_longer vs (second v ∷ []) r.holder b.0 b.2, b.3);
-        each_view = λ j d there. ⊎_elim (views j d) (λ (t : second v ≡ d). subst (λ (x : View). FitsView start r.held.history x) t (f.0, f.1, (r.held.history, refl), zero-le)) (at_snoc vs (second v) d j there);
+        each_view = λ j d there. ⊎_elim (views j d) (λ (t : second v ≡ d). subst (λ (x : View). FitsView start r.held.history x) t (f.0, f.1, (r.held.history, refl), zero-le, λ _. refl)) (at_snoc vs (second v) d j there);
         each_turn = λ j d there. ⊎_elim (turns j d) (λ (t : second v ≡ d). subst (λ (x : View). HasTurn r.held (get_or s.words 1 0) r.holder j x.turn) t tt) (at_snoc vs (second v) d j there);
         apart = λ i j p a b at_i at_j in_a in_b. ⊎_elim
             (λ (x : get_elem? vs i ≡ some a). ⊎_elim (λ (y : get_elem? vs j ≡ some b). apart i j p a b x y in_a in_b) (λ (y : second v ≡ b). absurd (subst (λ (z : View). IsAmongPlaces p z.own) (sym y) in_b)) (at_snoc vs (second v) b j at_j))
             (λ (x : second v ≡ a). absurd (subst (λ (z : View). IsAmongPlaces p z.own) (sym x) in_a)) (at_snoc vs (second v) a i at_i);
+        owned = owned_more vs (second v) (length r.held.history) (owned_stays s.views id (length r.held.history) v (first v) at (λ p t. t) r.owned);
+        whole = whole_split s.views id v (first v) (second v) at refl refl r.whole;
       }
 
   pub joins : (id : ℕ) (v : View) (other : ℕ) (u : View) → is_some u.turn ≡ false → Joins (RuleHolds sight g start bound) id v other u (joining v u) spent
@@ -92,11 +107,13 @@ module _ {H : Type 0} (sight : H → Holding) (g : Weigher) (start : Parts) (bou
         counted = r.counted;
         free = r.free;
         taken = λ n. held_without (set s.views id both) other u spent r.holder there' idle (held_stays s.views id v both r.holder at refl (r.taken n));
-        each_view = views_stay (λ _ d. FitsView start r.held.history d) (set s.views id both) other spent (tt, (r.held.history, refl), (r.held.history, refl), zero-le)
-            (λ j d _. views_stay (λ _ d. FitsView start r.held.history d) s.views id both (f.0, f.1, k.1, rises) (λ j d _. r.each_view j d) j d);
+        each_view = views_stay (λ _ d. FitsView start r.held.history d) (set s.views id both) other spent (tt, (r.held.history, refl), (r.held.history, refl), zero-le, λ _. refl)
+            (λ j d _. views_stay (λ _ d. FitsView start r.held.history d) s.views id both (f.0, f.1, k.1, rises, λ bare. joined_none v u f.4 k.4 bare) (λ j d _. r.each_view j d) j d);
         each_turn = views_stay (λ j d. HasTurn r.held (get_or s.words 1 0) r.holder j d.turn) (set s.views id both) other spent tt
             (λ j d _. views_stay (λ j d. HasTurn r.held (get_or s.words 1 0) r.holder j d.turn) s.views id both (r.each_turn id v at) (λ j d _. r.each_turn j d) j d);
         apart = joined_apart s.views id other v u at there r.apart not;
+        owned = joined_owned s.views id other (length r.held.history) v u at there r.owned not;
+        whole = whole_joined s.views id other v u both spent at there there' refl refl r.whole;
       }
 
   module _ (id : ℕ) (v : View) (ws : List ℕ) (xs : List (P.Option H)) (last : Final (Seen (RuleHolds sight g start bound) id v) ws xs) where
@@ -112,3 +129,15 @@ module _ {H : Type 0} (sight : H → Holding) (g : Weigher) (start : Parts) (bou
 
     pub within_bound : IfSome v.turn (λ h. length h.history ≤ bound)
     within_bound = within_of v.turn refl
+
+    sole_at_end : (h : Holding) → v.turn ≡ Some h → IsSole v h.history
+    sole_at_end h has = λ whole placed. let s = last.0 in let r = last.1.0 in let at = last.1.1 in let f = r.each_view id v at in
+        let turn : HasTurn r.held (get_or s.words 1 0) r.holder id (Some h) = subst (HasTurn r.held (get_or s.words 1 0) r.holder id) has (r.each_turn id v at) in
+        subst (λ (z : Holding). calls_of v ≡ map some z.history) (sym turn.2) (sole_calls s.views id v r.held.history at r.owned (λ j d there. (r.each_view j d there).4) r.whole whole f.1 f.3 placed)
+
+    sole_of : (t : P.Option Holding) → v.turn ≡ t → IfSome t (λ h. IsSole v h.history)
+    sole_of None e = tt
+    sole_of (Some h) e = sole_at_end h e
+
+    pub sole_pass : IfSome v.turn (λ h. IsSole v h.history)
+    sole_pass = sole_of v.turn refl

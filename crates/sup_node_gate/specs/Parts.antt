@@ -1,5 +1,5 @@
 -- A station as a pass's view has it: plain parts, of which contracts make what they see of a station.
-use Rattle.std.specs.Prelude.{◌≡◌, ℕ, Bool, true, List, Option}
+use Rattle.std.specs.Prelude.{◌≡◌, ℕ, Bool, true}
 use Rattle.std.specs.Option.{option_map}
 use Rattle.sup_specs.specs.Values.{Bytes}
 use Rattle.sup_node.specs.NodeStates.{station_in}

@@ -49,11 +49,12 @@ abbrev pub IsRound : Call → List Entry → Type 0
 IsRound call [] = ⊥
 IsRound call (e ∷ exits) = (call_of e ≡ call) × FailedStarts call.1 (runs_of (effects_of e.answer)) exits
 
--- the pass's own calls since are these, in their order, each once and with such exits behind it
+-- the pass's own calls since are these, in their order, each once and with such exits behind it; what it has of the gate stays
 pub record MakesCalls (v : View) (calls : List Call) (v' : View) : Type 0 where
   pub rounds : List (List Entry)
   pub are : AllZip IsRound calls rounds
   pub own : calls_of v' ≡ calls_of v ++ flat_map (map some) rounds
+  pub shares : v'.shares ≡ v.shares
 
 -- the delivery of a text. All are made at one moment
 abbrev pub delivery : Bytes → Call

@@ -1,5 +1,5 @@
 -- Histories of gates that are closed one after another.
-use Rattle.std.specs.Prelude.{◌≡◌, ◌==◌, ◌≤◌, ◌+◌, ◌⊎◌, ℕ, Bool, true, false, not, List, [], ◌∷◌, ◌++◌, length, All, Contains, Some, slice_get, refl}
+use Rattle.std.specs.Prelude.{◌≡◌, ◌==◌, ◌≤◌, ◌+◌, ◌⊎◌, ℕ, Bool, true, false, not, List, [], ◌∷◌, ◌++◌, length, map, All, Contains, Some, slice_get, refl}
 use Rattle.std.specs.List.{AllZip, filter}
 use Rattle.std.proofs.Common.{sym, ap, ◌∙◌, subst, arith, inl, inr, append_assoc, length-append}
 use Rattle.std.proofs.lemmas.Option.{slice_get_within}
@@ -12,9 +12,12 @@ use Rattle.sup_posts.specs.Jobs.{Seat}
 use Rattle.sup_posts.specs.declared.shared_node.SharedNode.{SharedNode}
 use Rattle.sup_posts.specs.declared.jobs.Arrived.{Arrived}
 use Rattle.sup_posts.proofs.ItemLaws.{all_weaken}
+use Rattle.sup_run_ends.specs.Passes.{of_arrived, passes_to, IsMadeBy, AreMadeBy}
 use Rattle.sup_run_ends.specs.Steps.{IsSeatOf, IsArrived, BeginsWithSeen, EndsHistory}
 use Rattle.sup_run_ends.proofs.RunEndItemLaws.{all_at, contained, stands_in, get_left, get_next, same_place, filter_contains}
+use Rattle.sup_run_ends.proofs.JoinedPassLaws.{made_more}
 use Rattle.sup_run_ends.proofs.ReturnedPassLaws.{is_same, same_is}
+use Rattle.sup_run_ends.proofs.ZipLaws.{zip_same_length}
 
 true_not : (b : Bool) → not b ≡ true → b ≡ true → ⊥
 true_not true e f = cc
@@ -25,6 +28,9 @@ above n m le ne = omega arith
 
 pub longer : (hs : List History) (k : History) (n m : ℕ) → n ≡ length hs → n + 1 ≤ m → length (hs ++ k ∷ []) ≤ m
 longer hs k n m at le = omega (arith, length-append hs (k ∷ []))
+
+pub longer_than : (hs : List History) (k : History) (j : ℕ) → length (hs ++ k ∷ []) ≤ j → length hs + 1 ≤ j
+longer_than hs k j le = omega (arith, le, length-append hs (k ∷ []))
 
 module _ {W : Type 0} {h : WeighGhosts W} where
   -- a pass of the gate that is next is of this one
@@ -83,11 +89,13 @@ module _ {W : Type 0} {h : WeighGhosts W} where
           let high = contained (λ (a : Arrived W h). length histories ≤ a.to) arrived a later c in
           omega (arith, low, high, long)
 
-  pub own_more : (gone : List (Seat W h)) (seat : Seat W h) (rest rest' all : List (Seat W h)) (histories : List History) (history : History) → rest ≡ seat ∷ rest' → gone ++ rest ≡ all
+  pub own_more : (n : ℕ) (gone : List (Seat W h)) (seat : Seat W h) (rest rest' all : List (Seat W h)) (histories : List History) (history : History) → rest ≡ seat ∷ rest' → gone ++ rest ≡ all
       → AllZip BeginsWithSeen gone histories → BeginsWithSeen seat history
-      → (gone' : List (Seat W h)) × (gone' ++ rest' ≡ all) × AllZip BeginsWithSeen gone' (histories ++ history ∷ [])
-  own_more gone seat rest rest' all histories history is e z b =
-      (gone ++ seat ∷ [], append_assoc gone (seat ∷ []) rest' ∙ ap (λ l. gone ++ l) (sym is) ∙ e, all_zipped_more BeginsWithSeen gone histories seat history z b)
+      → (arrived : List (Arrived W h)) → n ≡ length histories → IsMadeBy seat (passes_to n (map of_arrived arrived)) history → AreMadeBy gone arrived histories
+      → (gone' : List (Seat W h)) × (gone' ++ rest' ≡ all) × AllZip BeginsWithSeen gone' (histories ++ history ∷ []) × AreMadeBy gone' arrived (histories ++ history ∷ [])
+  own_more n gone seat rest rest' all histories history is e z b arrived at made before =
+      (gone ++ seat ∷ [], append_assoc gone (seat ∷ []) rest' ∙ ap (λ l. gone ++ l) (sym is) ∙ e, all_zipped_more BeginsWithSeen gone histories seat history z b,
+      made_more gone seat arrived histories history n (zip_same_length BeginsWithSeen gone histories z ∙ sym at) (sym at) made before)
 
   pub each_left : (histories : List History) (all : List (Arrived W h)) → All (λ (a : Arrived W h). EndsHistory histories a ⊎ Contains all a) all
   each_left histories all = all_at (λ (a : Arrived W h). EndsHistory histories a ⊎ Contains all a) all (λ i a e. inr (stands_in all i a e))

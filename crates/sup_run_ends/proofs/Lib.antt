@@ -1,6 +1,8 @@
 pub mod ZipLaws
 pub mod RunEndItemLaws
-mod DealtPassLaws
 mod ReturnedPassLaws
+pub mod PlacedPassLaws
+mod DealtPassLaws
+mod JoinedPassLaws
 mod CloseLaws
 mod FaultlessLaws

@@ -1,9 +1,9 @@
 -- Items of lists.
-use Rattle.std.specs.Prelude.{◌≡◌, ℕ, ◌<◌, zero, suc, Bool, true, false, cond, List, [], ◌∷◌, ◌++◌, length, flat_map, Some, slice_get, slice_index_or, All, Contains, refl}
+use Rattle.std.specs.Prelude.{◌≡◌, ◌⊎◌, ℕ, ◌<◌, ◌+◌, zero, suc, Bool, true, false, cond, List, [], ◌∷◌, ◌++◌, length, map, flat_map, Some, slice_get, slice_index_or, All, Contains, refl}
 use Rattle.std.specs.List.{filter}
-use Rattle.std.proofs.Common.{sym, ap, ◌∙◌, subst, arith, append-nil}
+use Rattle.std.proofs.Common.{sym, ap, ◌∙◌, subst, arith, append-nil, inl, inr, ⊎_elim, length-append}
 use Rattle.std.proofs.lemmas.Option.{slice_get_within, get_or_from_slice_get, slice_get-get_or, none-some, same_Some}
-use Rattle.std.proofs.lemmas.List.Elements.{Contains-append_left, Contains-append_right, All-append, filter-append}
+use Rattle.std.proofs.lemmas.List.Elements.{All-cons, All-tail, Contains-append_left, Contains-append_right, All-append, filter-append}
 use Rattle.sup_posts.proofs.ItemLaws.{all_none}
 
 module _ {X : Type 0} where
@@ -28,8 +28,21 @@ module _ {X : Type 0} where
   get_next [] ys x = refl
   get_next (z ∷ xs) ys x = get_next xs ys x
 
+  -- the next of what is taken one after another
+  pub next_of : (gone rest all : List X) (x : X) (more : List X) (n : ℕ) → gone ++ rest ≡ all → rest ≡ x ∷ more → length gone ≡ n → slice_get all n ≡ Some x
+  next_of gone rest all x more n e is long = subst (λ (p : List X × ℕ). slice_get p.0 p.1 ≡ Some x) (λ i. ((ap (λ l. gone ++ l) (sym is) ∙ e) i, long i)) (get_next gone more x)
+
+  pub long_both : (gone rest all : List X) → gone ++ rest ≡ all → length gone + length rest ≡ length all
+  long_both gone rest all e = sym (length-append gone rest) ∙ ap length e
+
   pub same_place : (xs : List X) (i j : ℕ) (x y : X) → slice_get xs i ≡ Some x → slice_get xs j ≡ Some y → i ≡ j → x ≡ y
   same_place xs i j x y e f same = same_Some x y (sym e ∙ ap (slice_get xs) same ∙ f)
+
+  pub get_snoc : (xs : List X) (x y : X) (j : ℕ) → slice_get (xs ++ x ∷ []) j ≡ Some y → (slice_get xs j ≡ Some y) ⊎ ((j ≡ length xs) × (x ≡ y))
+  get_snoc [] x y zero e = inr (refl, same_Some x y e)
+  get_snoc [] x y (suc j) e = absurd (none-some y e)
+  get_snoc (z ∷ zs) x y zero e = inl e
+  get_snoc (z ∷ zs) x y (suc j) e = ⊎_elim (λ (l : slice_get zs j ≡ Some y). inl l) (λ (r : (j ≡ length zs) × (x ≡ y)). inr (ap suc r.0, r.1)) (get_snoc zs x y j e)
 
   -- and all that do stood there
   pub filter_contains : (p : X → Bool) (xs : List X) (x : X) → Contains (filter p xs) x → Contains xs x × (p x ≡ true)
@@ -66,3 +79,13 @@ filter_in p xs x ys zs t e f = f ∙ ap (λ l. l ++ x ∷ []) e ∙ ap (λ b. fi
 
 pub filter_out : {X : Type 0} (p : X → Bool) (xs : List X) (x : X) (ys : List X) → p x ≡ false → ys ≡ filter p xs → ys ≡ filter p (xs ++ x ∷ [])
 filter_out p xs x ys t e = e ∙ sym (append-nil (filter p xs)) ∙ ap (λ b. filter p xs ++ cond b (x ∷ []) []) (sym t) ∙ sym (filter-append p xs (x ∷ []))
+
+-- what stands among images is the image of something
+pub map_contains : {X Y : Type 0} (f : X → Y) (xs : List X) (y : Y) → Contains (map f xs) y → (x : X) × Contains xs x × (f x ≡ y)
+map_contains f [] y c = let lt = c.1 in absurd (omega (arith, lt))
+map_contains f (x ∷ xs) y (zero, lt, e) = (x, (0, omega arith, refl), e)
+map_contains f (x ∷ xs) y (suc k, lt, e) = let r = map_contains f xs y (k, omega (arith, lt), e) in let low = r.1.1 in (r.0, (suc r.1.0, omega (arith, low), r.1.2), r.2)
+
+pub all_unmap : {X Y : Type 0} (P : Y → Type 0) (f : X → Y) (xs : List X) → All P (map f xs) → All (λ x. P (f x)) xs
+all_unmap P f [] h = all_none (λ x. P (f x))
+all_unmap P f (x ∷ xs) h = All-cons (λ z. P (f z)) x xs (h 0 (f x) (omega arith)) (all_unmap P f xs (All-tail P (f x) (map f xs) h))

@@ -14,7 +14,7 @@ use Rattle.sup_plan.specs.Parts.{commands_of, script_between}
 use Rattle.sup_plan.specs.declared.histories.History.{History}
 use Rattle.sup_plan.specs.declared.plan.Plan.{Plan}
 use Rattle.sup_plan.specs.declared.plan.Route.{Route}
-use Rattle.sup_posts.specs.Jobs.{Seat, IsSeatAt, MayTakeDrive}
+use Rattle.sup_posts.specs.Jobs.{Seat, IsSeatAt, IsLane, MayTakeDrive}
 use Rattle.sup_posts.specs.declared.shared_node.SharedNode.{SharedNode}
 use Rattle.sup_posts.specs.declared.jobs.Lane.{Lane}
 use Rattle.sup_posts.specs.declared.jobs.Drive.{Drive}
@@ -23,6 +23,7 @@ use Rattle.sup_posts.specs.declared.thread_fault.ThreadFault.{ThreadFault}
 use Rattle.sup_posts.specs.declared.thread_fault.ThreadFault.TheVariants.{OutOfMemory}
 use Rattle.sup_posts.specs.declared.jobs.Arrived.{Arrived}
 use Rattle.sup_posts.specs.declared.jobs.Driven.{Driven}
+use Rattle.sup_run_ends.specs.Passes.{IsCutOff, IsFresh, AreMadeBy}
 
 -- the history begins with what the pass has seen
 abbrev pub BeginsWithSeen : {W : Type 0} {h : WeighGhosts W} → Seat W h → History → Type 0
@@ -50,6 +51,14 @@ module _ {W : Type 0} {h : WeighGhosts W} where
   abbrev pub IsSeatOf : SharedNode W h → Seat W h → Type 0
   IsSeatOf post seat = IsOf kept_by failures_by sound_by post.gate seat
 
+  -- the pass was cut once, for the driver at another place, and what was cut off comes to the row
+  pub record IsCutFor (post : SharedNode W h) (at to : ℕ) (seat kept : Seat W h) (old new : List (ℕ × Seat W h)) : Type 0 where
+    pub cut : List (ℕ × Seat W h)
+    pub row : new ≡ old ++ cut
+    pub off : IsCutOff seat kept (map (λ d. d.1) cut)
+    pub of : All (λ d. (d.0 ≡ to) × IsSeatOf post d.1 × IsFresh d.1) cut
+    pub ends : map (λ d. d.0) cut ≡ others_of at (to ∷ [])
+
   -- a node's post before the run, whose history may have so many entries at most
   pub record IsSharedNodeOf (config : Config) (most : ℕ) (name : Bytes) (post : SharedNode W h) : Type 0 where
     pub named : post.name ≡ name
@@ -62,6 +71,10 @@ module _ {W : Type 0} {h : WeighGhosts W} where
     pub script : script_of lane.entry ≡ script_between from other.name scripts
     pub room : room_of lane.entry ≡ room
 
+  -- the link leads to the node at its place
+  abbrev pub LeadsToItsNode : List Route → Bytes → List (SharedNode W h) → Lane W h → Type 0
+  LeadsToItsNode scripts from posts lane = (other : SharedNode W h) → slice_get posts lane.to ≡ Some other → IsLaneTo scripts from lane.to other lane
+
   abbrev pub HasLaneTo : List Route → Bytes → List (Lane W h) → ℕ → SharedNode W h → Type 0
   HasLaneTo scripts from lanes at other = (lane : Lane W h) × Contains lanes lane × IsLaneTo scripts from at other lane
 
@@ -69,17 +82,22 @@ module _ {W : Type 0} {h : WeighGhosts W} where
   abbrev pub ends_of : List (Lane W h) → List ℕ
   ends_of = map (λ l. l.to)
 
-  -- a link to this place more, unless it is the driver's own
-  pub record LeadsOn (at to : ℕ) (old new : List (Lane W h)) : Type 0 where
-    pub ends : ends_of new ≡ ends_of old ++ others_of at (to ∷ [])
+  -- the links of the driver at a place: one to each other node, and no more, of fresh passes
+  pub record IsRowOf (plan : Plan) (posts : List (SharedNode W h)) (at : ℕ) (lanes : List (Lane W h)) : Type 0 where
+    pub lanes_are : All (IsLane posts) lanes
+    pub lead : (post : SharedNode W h) → slice_get posts at ≡ Some post → All (LeadsToItsNode plan.scripts.items post.name posts) lanes
+    pub only : ends_of lanes ≡ others_of at (places (length posts))
+    pub fresh : All (λ l. IsFresh l.seat) lanes
 
-  -- what the driver of a post's node is given: one link to each other node, and no more
+  -- what the driver of a post's node is given: one link to each other node, and no more. All of its passes are fresh
   pub record IsDriveOf (plan : Plan) (posts : List (SharedNode W h)) (post : SharedNode W h) (drive : Drive W h) : Type 0 where
     pub place : slice_get posts drive.at ≡ Some post
     pub takes : MayTakeDrive posts drive
     pub commands : drive.commands.items ≡ commands_of post.name plan.commands.items
     pub reach : (at : ℕ) (other : SharedNode W h) → slice_get posts at ≡ Some other → at ≢ drive.at → HasLaneTo plan.scripts.items post.name drive.lanes.items at other
     pub only : ends_of drive.lanes.items ≡ others_of drive.at (places (length posts))
+    pub fresh : IsFresh drive.seat
+    pub all_fresh : All (λ l. IsFresh l.seat) drive.lanes.items
 
   -- the pass is of the gate at its place
   abbrev pub IsArrived : List (SharedNode W h) → Arrived W h → Type 0
@@ -119,3 +137,4 @@ module _ {W : Type 0} {h : WeighGhosts W} where
     pub histories : AllZip (IsHistoryOf g) posts all
     pub own : AllZip (λ d history. BeginsWithSeen d.seat history) driven all
     pub others : All (EndsHistory all) (flat_map (λ d. d.arrived.items) driven)
+    pub made : AreMadeBy (map (λ d. d.seat) driven) (flat_map (λ d. d.arrived.items) driven) all

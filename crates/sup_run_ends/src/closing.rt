@@ -1,7 +1,12 @@
 //! The histories of a run's nodes, once their threads have ended.
-ghost use Rattle.std.specs.Prelude.{◌≡◌, ◌==◌, not, All, IfOk, IfErr};
+ghost use Rattle.std.specs.Prelude.{◌≡◌, ◌==◌, ℕ, not, map, slice_get, All, Some, IfOk, IfErr};
 ghost use Rattle.std.specs.List.{AllZip, filter};
 ghost use Rattle.sup_posts.specs.declared.thread_fault.ThreadFault.TheVariants.{OutOfMemory};
+ghost use mathlib.Core.Option.{some};
+ghost use Rattle.sup_node_gate.specs.Gates.{view_of};
+ghost use Rattle.sup_node_gate.specs.Shares.{IsWhole};
+ghost use Rattle.sup_node_gate.specs.Views.{calls_of};
+ghost use Rattle.sup_run_ends.specs.Passes.{IsMadeBy, AreMadeBy, of_arrived, passes_to};
 ghost use Rattle.sup_run_ends.specs.Steps.{IsSeatOf, IsArrived, IsHistoryOf, BeginsWithSeen, EndsHistory, ReturnsDriven, AreFinished, IsFaultOf};
 
 use crate::joining::{join_all, separate, take_apart};
@@ -15,6 +20,7 @@ fn close<W: Weigh>(post: SharedNode<W>, seat: Seat<W>) -> Result<History, Thread
     requires { IsSeatOf post seat }
     ensures history { IfOk result (λ history. IsHistoryOf W.weight_of post history) }
     ensures begins { IfOk result (λ history. BeginsWithSeen seat history) }
+    ensures sole { IfOk result (λ history. IsWhole (view_of seat).shares → calls_of (view_of seat) ≡ map some history.entries.items) }
     ensures fault { IfErr result (λ f. f ≡ OutOfMemory) }
 {
     let SharedNode {
@@ -46,6 +52,7 @@ fn close_at<W: Weigh>(
     ensures own { IfOk result (λ r. BeginsWithSeen seat r.0) }
     ensures here { IfOk result (λ r. All (λ a. a.to ≡ at → BeginsWithSeen a.seat r.0) arrived.items) }
     ensures others { IfOk result (λ r. r.1.items ≡ filter (λ a. not (a.to == at)) arrived.items) }
+    ensures made { IfOk result (λ r. IsMadeBy seat (passes_to at (map of_arrived arrived.items)) r.0) }
     ensures fault { IfErr result (λ f. f ≡ OutOfMemory) }
 {
     let (here, others) = separate(alloc, at, arrived)?;
@@ -66,6 +73,7 @@ fn close_all<W: Weigh>(
     ensures histories { IfOk result (λ hs. AllZip (IsHistoryOf W.weight_of) posts.items hs.items) }
     ensures own { IfOk result (λ hs. AllZip BeginsWithSeen seats.items hs.items) }
     ensures others { IfOk result (λ hs. All (EndsHistory hs.items) arrived.items) }
+    ensures made { IfOk result (λ hs. AreMadeBy seats.items arrived.items hs.items) }
     ensures fault { IfErr result (λ f. f ≡ OutOfMemory) }
 {
     let mut histories = Vec::new(alloc);

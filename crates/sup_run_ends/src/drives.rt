@@ -1,12 +1,12 @@
 //! What the drivers of a run are given.
-ghost use Rattle.std.specs.Prelude.{◌≡◌, ◌≢◌, ℕ, length, All, Contains, Some, slice_get, IfOk, OnOk};
+ghost use Rattle.std.specs.Prelude.{◌≡◌, length, All, Some, map, slice_get, IfOk};
 ghost use Rattle.std.specs.List.{AllZip};
 ghost use Rattle.sup_posts.specs.Jobs.{IsSeatAt, IsLane};
-ghost use Rattle.sup_posts.specs.declared.jobs.Lane.{Lane};
 ghost use Rattle.sup_posts.specs.declared.shared_node.SharedNode.{SharedNode};
-ghost use Rattle.sup_run_ends.specs.Steps.{IsSeatOf, IsLaneTo, HasLaneTo, IsDriveOf, LeadsOn, ends_of, others_of, places};
+ghost use Rattle.sup_run_ends.specs.Passes.{IsFirst, IsFresh, HaveWhole, dealt_by, dealt_in, of_lane};
+ghost use Rattle.sup_run_ends.specs.Steps.{IsSeatOf, IsLaneTo, IsRowOf, IsDriveOf, LeadsToItsNode, places};
 
-use crate::dealing::cut_row;
+use crate::dealing::{Dealt, cut_row};
 use std::alloc::{AllocError, Global};
 use sup_links::link;
 use sup_placement::Weigh;
@@ -28,8 +28,8 @@ fn make_lane<W: Weigh>(
 ) -> Result<Lane<W>, AllocError>
     requires { IsSeatAt posts.now to seat }
     ensures lane { IfOk result (IsLane posts.now) }
-    ensures at { IfOk result (λ lane. lane.to ≡ to) }
-    ensures to { IfOk result (λ lane. (other : SharedNode W _) → slice_get posts.now to ≡ Some other → IsLaneTo plan.now.scripts.items from.now to other lane) }
+    ensures passes { IfOk result (λ lane. of_lane lane ≡ (to, seat)) }
+    ensures to { IfOk result (LeadsToItsNode plan.now.scripts.items from.now posts.now) }
 {
     let script = plan.script_between(alloc, from, &posts[to].name)?;
     let (entry, exit) = link(alloc, script, CAPACITY)?;
@@ -41,54 +41,51 @@ fn make_lane<W: Weigh>(
     })
 }
 
-// Adds the link from the node at a place to another one. There is none to itself, so a pass of its own gate isn't needed.
-fn add_lane<W: Weigh>(
-    alloc: Global,
-    plan: &Plan,
-    at: usize,
-    from: &NodeName,
-    to: usize,
-    posts: &[SharedNode<W>],
-    seat: Seat<W>,
-    lanes: &mut Vec<Lane<W>>,
-) -> Result<(), AllocError>
-    requires { IsSeatAt posts.now to seat }
-    ensures lanes { OnOk result (All (IsLane posts.now) lanes.old.items → All (IsLane posts.now) lanes.new.items) }
-    ensures kept { OnOk result ((lane : Lane W _) → Contains lanes.old.items lane → Contains lanes.new.items lane) }
-    ensures ends { OnOk result (LeadsOn at to lanes.old.items lanes.new.items) }
-    ensures added { OnOk result ((other : SharedNode W _) → slice_get posts.now to ≡ Some other → to ≢ at → HasLaneTo plan.now.scripts.items from.now lanes.new.items to other) }
-{
-    if to == at {
-        return Ok(());
-    }
-    let lane = make_lane(alloc, plan, from, to, posts, seat)?;
-    lanes.push(lane)?;
-    Ok(())
-}
-
-// The links from the node at a place to all others.
+// The links from a node to those at these places, with these passes.
 fn make_lanes<W: Weigh>(
     alloc: Global,
     plan: &Plan,
-    at: usize,
     from: &NodeName,
     posts: &[SharedNode<W>],
-    row: Vec<Seat<W>>,
+    row: Vec<Dealt<W>>,
 ) -> Result<Vec<Lane<W>>, AllocError>
-    requires { AllZip IsSeatOf posts.now row.items }
+    requires { All (λ d. IsSeatAt posts.now d.0 d.1) row.items }
     ensures lanes { IfOk result (λ lanes. All (IsLane posts.now) lanes.items) }
-    ensures reach { IfOk result (λ lanes. (j : ℕ) (other : SharedNode W _) → slice_get posts.now j ≡ Some other → j ≢ at → HasLaneTo plan.now.scripts.items from.now lanes.items j other) }
-    ensures only { IfOk result (λ lanes. ends_of lanes.items ≡ others_of at (places (length posts.now))) }
+    ensures passes { IfOk result (λ lanes. map of_lane lanes.items ≡ row.items) }
+    ensures to { IfOk result (λ lanes. All (LeadsToItsNode plan.now.scripts.items from.now posts.now) lanes.items) }
 {
     let mut lanes = Vec::new(alloc);
-    let mut row = row.into_iter();
-    for to in 0..posts.len() {
-        let Some(seat) = row.next() else {
-            unreachable!()
-        };
-        add_lane(alloc, plan, at, from, to, posts, seat, &mut lanes)?;
+    for dealt in row {
+        let (to, seat) = dealt;
+        let lane = make_lane(alloc, plan, from, to, posts, seat)?;
+        lanes.push(lane)?;
     }
     Ok(lanes)
+}
+
+// The links of each driver, in the order of the nodes, and the passes that all passes behind them were cut off.
+fn deal<W: Weigh>(
+    alloc: Global,
+    plan: &Plan,
+    posts: &[SharedNode<W>],
+    seats: Vec<Seat<W>>,
+) -> Result<(Vec<Seat<W>>, Vec<Vec<Lane<W>>>), AllocError>
+    requires seats { AllZip IsSeatOf posts.now seats.items }
+    requires first { All IsFirst seats.items }
+    ensures seats { IfOk result (λ r. AllZip IsSeatOf posts.now r.0.items) }
+    ensures fresh { IfOk result (λ r. All IsFresh r.0.items) }
+    ensures rows { IfOk result (λ r. AllZip (λ at lanes. IsRowOf plan.now posts.now at lanes.items) (places (length posts.now)) r.1.items) }
+    ensures whole { IfOk result (λ r. HaveWhole r.0.items (dealt_in r.1.items)) }
+{
+    let mut seats = seats;
+    let mut rows = Vec::new(alloc);
+    for at in 0..posts.len() {
+        let (kept, row) = cut_row(alloc, at, posts, seats)?;
+        seats = kept;
+        let lanes = make_lanes(alloc, plan, &posts[at].name, posts, row)?;
+        rows.push(lanes)?;
+    }
+    Ok((seats, rows))
 }
 
 // What the driver of the node at a place is given.
@@ -98,15 +95,16 @@ fn make_drive<W: Weigh>(
     at: usize,
     posts: &[SharedNode<W>],
     seat: Seat<W>,
-    row: Vec<Seat<W>>,
+    lanes: Vec<Lane<W>>,
 ) -> Result<Drive<W>, AllocError>
     requires seat { IsSeatAt posts.now at seat }
-    requires row { AllZip IsSeatOf posts.now row.items }
-    ensures { IfOk result (λ drive. (post : SharedNode W _) → slice_get posts.now at ≡ Some post → IsDriveOf plan.now posts.now post drive) }
+    requires fresh { IsFresh seat }
+    requires lanes { IsRowOf plan.now posts.now at lanes.items }
+    ensures drive { IfOk result (λ drive. (post : SharedNode W _) → slice_get posts.now at ≡ Some post → IsDriveOf plan.now posts.now post drive) }
+    ensures seat { IfOk result (λ drive. drive.seat ≡ seat) }
+    ensures lanes { IfOk result (λ drive. drive.lanes ≡ lanes) }
 {
-    let from = posts[at].name;
-    let commands = plan.commands_of(alloc, &from)?;
-    let lanes = make_lanes(alloc, plan, at, &from, posts, row)?;
+    let commands = plan.commands_of(alloc, &posts[at].name)?;
     Ok(Drive {
         at,
         seat,
@@ -115,27 +113,31 @@ fn make_drive<W: Weigh>(
     })
 }
 
-/// What the drivers are given, in the order of their nodes.
+/// What the drivers are given, in the order of their nodes. The passes of each gate, which begin with its first one, have all of
+/// it together.
 pub fn make_drives<W: Weigh>(
     alloc: Global,
     plan: &Plan,
     posts: &[SharedNode<W>],
     seats: Vec<Seat<W>>,
 ) -> Result<Vec<Drive<W>>, AllocError>
-    requires { AllZip IsSeatOf posts.now seats.items }
-    ensures { IfOk result (λ drives. AllZip (IsDriveOf plan.now posts.now) posts.now drives.items) }
+    requires seats { AllZip IsSeatOf posts.now seats.items }
+    requires first { All IsFirst seats.items }
+    ensures drives { IfOk result (λ drives. AllZip (IsDriveOf plan.now posts.now) posts.now drives.items) }
+    ensures whole { IfOk result (λ drives. HaveWhole (map (λ d. d.seat) drives.items) (dealt_by drives.items)) }
 {
-    let (kept, own) = cut_row(alloc, posts, seats)?;
-    let mut kept = kept;
-    let mut own = own.into_iter();
+    let (seats, rows) = deal(alloc, plan, posts, seats)?;
+    let mut seats = seats.into_iter();
+    let mut rows = rows.into_iter();
     let mut drives = Vec::new(alloc);
     for at in 0..posts.len() {
-        let Some(seat) = own.next() else {
+        let Some(seat) = seats.next() else {
             unreachable!()
         };
-        let (rest, row) = cut_row(alloc, posts, kept)?;
-        kept = rest;
-        let drive = make_drive(alloc, plan, at, posts, seat, row)?;
+        let Some(lanes) = rows.next() else {
+            unreachable!()
+        };
+        let drive = make_drive(alloc, plan, at, posts, seat, lanes)?;
         drives.push(drive)?;
     }
     Ok(drives)

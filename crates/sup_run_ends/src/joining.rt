@@ -1,6 +1,10 @@
 //! What the drivers of a run hand back.
-ghost use Rattle.std.specs.Prelude.{◌≡◌, ◌==◌, not, All, IsOk, IfOk, IfErr};
+ghost use Rattle.std.specs.Prelude.{◌≡◌, ◌==◌, ◌++◌, not, map, All, IsOk, IfOk, IfErr};
 ghost use Rattle.std.specs.List.{filter};
+ghost use Rattle.sup_node_gate.specs.Gates.{view_of};
+ghost use Rattle.sup_node_gate.specs.Shuffles.{IsShuffleOf};
+ghost use Rattle.sup_node_gate.specs.Views.{calls_of};
+ghost use Rattle.sup_run_ends.specs.Passes.{shares_of, calls_by};
 ghost use Rattle.sup_run_ends.specs.Steps.{IsSeatOf, HasSeen, AreTakenApart, IsFaultOf};
 
 use std::alloc::{AllocError, Global};
@@ -64,7 +68,7 @@ pub(crate) fn separate<W: Weigh>(
     Ok((here, others))
 }
 
-// One pass of the gate, which has seen what all these have.
+// One pass of the gate, which has seen what all these have, and has what they have of the gate.
 pub(crate) fn join_all<W: Weigh>(
     post: &SharedNode<W>,
     seat: Seat<W>,
@@ -75,6 +79,8 @@ pub(crate) fn join_all<W: Weigh>(
     ensures of { IsSeatOf post.now result }
     ensures own { HasSeen seat result }
     ensures others { All (λ a. HasSeen a.seat result) others.items }
+    ensures shares { (view_of result).shares ≡ (view_of seat).shares ++ shares_of (map (λ a. a.seat) others.items) }
+    ensures calls { IsShuffleOf (calls_of (view_of seat)) (calls_by (map (λ a. a.seat) others.items)) (calls_of (view_of result)) }
 {
     let mut seat = seat;
     for pass in others {

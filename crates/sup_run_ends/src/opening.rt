@@ -1,7 +1,8 @@
 //! The nodes of a run, before it begins.
-ghost use Rattle.std.specs.Prelude.{◌≡◌, IfOk, IfErr};
+ghost use Rattle.std.specs.Prelude.{◌≡◌, All, IfOk, IfErr};
 ghost use Rattle.std.specs.List.{AllZip};
 ghost use Rattle.sup_node_gate.specs.Gates.{IsBound};
+ghost use Rattle.sup_run_ends.specs.Passes.{IsFirst};
 ghost use Rattle.sup_run_ends.specs.Steps.{IsSharedNodeOf, IsSeatOf};
 ghost use Rattle.sup_posts.specs.declared.fault.RunFault.TheVariants.{OutOfMemory};
 
@@ -25,6 +26,7 @@ fn open_post<W: Weigh>(
     requires { IsBound bound }
     ensures post { IfOk result (λ r. IsSharedNodeOf config bound name r.0) }
     ensures seat { IfOk result (λ r. IsSeatOf r.0 r.1) }
+    ensures first { IfOk result (λ r. IsFirst r.1) }
     ensures fault { IfErr result (λ f. f ≡ OutOfMemory) }
 {
     let Ok(station) = Station::new(alloc, name, config, MemKeeper::new(alloc)) else {
@@ -48,6 +50,7 @@ pub fn open_posts<W: Weigh>(
     requires { IsBound bound }
     ensures posts { IfOk result (λ r. AllZip (IsSharedNodeOf config bound) nodes.now r.0.items) }
     ensures seats { IfOk result (λ r. AllZip IsSeatOf r.0.items r.1.items) }
+    ensures first { IfOk result (λ r. All IsFirst r.1.items) }
     ensures fault { IfErr result (λ f. f ≡ OutOfMemory) }
 {
     let mut posts = Vec::new(alloc);

@@ -1,7 +1,14 @@
-use Rattle.std.proofs.Common.{take, drop}
+use Rattle.std.proofs.Common.{◌≡◌, ℕ, ◌<◌, ◌++◌, List, length, map, take, drop, All}
 use Rattle.std.specs.List.{AllZip}
-use Rattle.sup_run_ends.specs.Steps.{IsSeatOf}
+use Rattle.sup_posts.specs.Jobs.{Seat, IsSeatAt}
+use Rattle.sup_run_ends.specs.Passes.{IsFresh, AreCutOff}
+use Rattle.sup_run_ends.specs.Steps.{IsSeatOf, others_of, places}
 use Rattle.sup_run_ends.proofs.dealing.cut_row.Given as goal
 
-abbrev pub invariant-loop-post : goal.invariant-loop-post
-invariant-loop-post g l = AllZip IsSeatOf (take l.post-index l.posts) l.kept.items × AllZip IsSeatOf (take l.post-index l.posts) l.row.items × AllZip IsSeatOf (drop l.post-index l.posts) l.seats.rest.items
+abbrev pub invariant-loop-to : goal.invariant-loop-to
+invariant-loop-to g l =
+    AllZip IsSeatOf (take l.to l.posts) l.kept.items
+    × AllZip IsSeatOf (drop l.to l.posts) l.seats.rest.items
+    × All (λ (d : ℕ × Seat g.row.W.Denot g.W.Weigh). (d.0 < l.to) × IsSeatAt l.posts d.0 d.1 × IsFresh d.1) l.row.items
+    × (map (λ (d : ℕ × Seat g.row.W.Denot g.W.Weigh). d.0) l.row.items ≡ others_of l.at (places l.to))
+    × ((gone : List (Seat g.row.W.Denot g.W.Weigh)) × (gone ++ l.seats.rest.items ≡ l.initial.seats.rest.items) × (length gone ≡ l.to) × (length l.kept.items ≡ l.to) × AreCutOff gone l.kept.items l.row.items)

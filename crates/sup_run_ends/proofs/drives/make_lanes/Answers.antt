@@ -1,38 +1,24 @@
-use Rattle.std.proofs.Common.{◌≡◌, rules, arith, drop, subst, sym, ap, ◌∙◌, ◌++◌, [], ◌∷◌, length}
-use Rattle.std.specs.List.{AllZip}
-use Rattle.std.proofs.lemmas.Option.{slice_get_within}
-use Rattle.sup_run_ends.specs.Steps.{IsSeatOf, ends_of, others_of, places}
-use Rattle.sup_run_ends.proofs.DealtPassLaws.{seat_at, some_left, reach_more, others_more}
-use Rattle.sup_run_ends.proofs.ZipLaws.{zip_next}
+use Rattle.std.proofs.Common.{rules, ◌≡◌, ℕ, ◌++◌, [], ◌∷◌, map, All, sym, ap, ◌∙◌, subst, append_assoc}
+use Rattle.std.proofs.lemmas.List.{map-append}
+use Rattle.std.proofs.lemmas.List.Elements.{All-rest}
+use Rattle.sup_posts.specs.Jobs.{Seat, IsSeatAt, IsLane}
+use Rattle.sup_posts.proofs.ItemLaws.{all_none, all_snoc, none_left}
+use Rattle.sup_run_ends.specs.Passes.{of_lane}
+use Rattle.sup_run_ends.specs.Steps.{LeadsToItsNode}
 use Rattle.sup_run_ends.proofs.drives.make_lanes.Goals as goal
 
-pub loop-to-init : goal.loop-to-init
-loop-to-init g c = (search rules, search rules, λ j other lt e ne. absurd (omega (arith, lt)), ap ends_of c.new-lanes.ensures.items)
+pub loop-dealt-preserved : goal.loop-dealt-preserved
+loop-dealt-preserved g c =
+    let put = sym c.in_ok-push.ensures.items in (
+      append_assoc c.loop-dealt.yielded (c.in-Some.dealt ∷ []) c.next.new.self.rest.items ∙ (ap (λ l. c.loop-dealt.yielded ++ l) (sym (search rules)) ∙ c.loop-dealt.invariant.0),
+      All-rest (λ (d : ℕ × Seat g.row.W.Denot g.W.Weigh). IsSeatAt c.args.posts.now d.0 d.1) c.in-Some.dealt _ _ (search rules) c.loop-dealt.invariant.1,
+      subst (All (IsLane c.args.posts.now)) put (all_snoc (IsLane c.args.posts.now) c.loop-dealt.lanes.items c.in_ok-lane.lane c.loop-dealt.invariant.2 c.in_ok-lane.ensures.lane),
+      ap (map of_lane) c.in_ok-push.ensures.items ∙ map-append of_lane c.loop-dealt.lanes.items (c.in_ok-lane.lane ∷ [])
+          ∙ ap (λ l. l ++ of_lane c.in_ok-lane.lane ∷ []) c.loop-dealt.invariant.3 ∙ ap (λ x. c.loop-dealt.yielded ++ x ∷ []) c.in_ok-lane.ensures.passes,
+      subst (All (LeadsToItsNode c.args.plan.now.scripts.items c.args.from.now c.args.posts.now)) put
+          (all_snoc (LeadsToItsNode c.args.plan.now.scripts.items c.args.from.now c.args.posts.now) c.loop-dealt.lanes.items c.in_ok-lane.lane c.loop-dealt.invariant.4 c.in_ok-lane.ensures.to),
+    )
 
-pub unreachable-requires : goal.unreachable-requires
-unreachable-requires g c = omega (arith, some_left c.args.posts.now c.loop-to.to c.loop-to.row.rest.items c.loop-to-test.true c.loop-to.invariant.0, c.in_default.ensures.cases)
-
-pub add_lane-requires : goal.add_lane-requires
-add_lane-requires g c = seat_at c.args.posts.now c.loop-to.to c.in-Some.seat c.next.new.self.rest.items c.loop-to-test.true
-    (subst (AllZip IsSeatOf (drop c.loop-to.to c.args.posts.now)) c.in-Some.ensures.items c.loop-to.invariant.0)
-
-pub loop-to-preserved : goal.loop-to-preserved
-loop-to-preserved g c = (
-  zip_next IsSeatOf c.args.posts.now c.loop-to.to c.in-Some.seat c.next.new.self.rest.items c.loop-to-test.true
-      (subst (AllZip IsSeatOf (drop c.loop-to.to c.args.posts.now)) c.in-Some.ensures.items c.loop-to.invariant.0),
-  c.in_ok-add_lane.ensures.lanes c.loop-to.invariant.1,
-  reach_more c.args.plan.now.scripts.items c.args.from.now c.args.posts.now c.loop-to.lanes.items c.add_lane.new.lanes.items c.loop-to.to c.args.at
-      c.in_ok-add_lane.ensures.kept c.in_ok-add_lane.ensures.added c.loop-to.invariant.2,
-  c.in_ok-add_lane.ensures.ends.ends ∙ ap (λ l. l ++ others_of c.args.at (c.loop-to.to ∷ [])) c.loop-to.invariant.3 ∙ sym (others_more c.args.at c.loop-to.to),
-)
-
-pub returns-clause-lanes : goal.returns-clause-lanes
-returns-clause-lanes g c = c.loop-to.invariant.1
-
-pub returns-clause-reach : goal.returns-clause-reach
-returns-clause-reach g c = λ j other e ne. c.loop-to.invariant.2 j other (omega (arith, slice_get_within c.args.posts.now j other e)) e ne
-
-pub returns-clause-only : goal.returns-clause-only
-returns-clause-only g c =
-    let all : c.loop-to.to ≡ length c.args.posts.now = omega arith in
-    c.loop-to.invariant.3 ∙ ap (λ n. others_of c.args.at (places n)) all
+pub returns-clause-passes : goal.returns-clause-passes
+returns-clause-passes g c = c.loop-dealt.invariant.3
+    ∙ none_left c.loop-dealt.yielded c.loop-dealt.dealt-iterator.rest.items c.args.row.items (sym c.loop-dealt.dealt-iterator.rest.ok.0 ∙ c.in-None.ensures.steps.0) (c.loop-dealt.invariant.0 ∙ c.into_iter-dealt-iterator.ensures.into_iter_gives.0)

@@ -1,14 +1,13 @@
-use Rattle.std.proofs.Common.{◌≡◌, ◌≢◌, ℕ, ◌<◌, All, Some, drop}
-use Rattle.std.specs.Prelude.{slice_get}
-use Rattle.std.specs.List.{AllZip}
-use Rattle.sup_posts.specs.Jobs.{IsLane}
-use Rattle.sup_posts.specs.declared.shared_node.SharedNode.{SharedNode}
-use Rattle.sup_run_ends.specs.Steps.{IsSeatOf, HasLaneTo, ends_of, others_of, places}
+use Rattle.std.proofs.Common.{◌≡◌, ℕ, ◌++◌, map, All}
+use Rattle.sup_posts.specs.Jobs.{Seat, IsSeatAt, IsLane}
+use Rattle.sup_run_ends.specs.Passes.{IsFresh, of_lane}
+use Rattle.sup_run_ends.specs.Steps.{LeadsToItsNode}
 use Rattle.sup_run_ends.proofs.drives.make_lanes.Given as goal
 
-abbrev pub invariant-loop-to : goal.invariant-loop-to
-invariant-loop-to g l =
-    AllZip IsSeatOf (drop l.to l.posts) l.row.rest.items
+abbrev pub invariant-loop-dealt : goal.invariant-loop-dealt
+invariant-loop-dealt g l =
+    (l.yielded ++ l.dealt-iterator.rest.items ≡ l.initial.dealt-iterator.rest.items)
+    × All (λ (d : ℕ × Seat g.row.W.Denot g.W.Weigh). IsSeatAt l.posts d.0 d.1) l.dealt-iterator.rest.items
     × All (IsLane l.posts) l.lanes.items
-    × ((j : ℕ) (other : SharedNode g.row.W.Denot g.W.Weigh) → j < l.to → slice_get l.posts j ≡ Some other → j ≢ l.at → HasLaneTo l.plan.scripts.items l.from l.lanes.items j other)
-    × (ends_of l.lanes.items ≡ others_of l.at (places l.to))
+    × (map of_lane l.lanes.items ≡ l.yielded)
+    × All (LeadsToItsNode l.plan.scripts.items l.from l.posts) l.lanes.items

@@ -1,4 +1,8 @@
-use Rattle.std.proofs.Common.{◌≡◌, ◌++◌, All}
+use Rattle.std.proofs.Common.{◌≡◌, ◌++◌, map, All}
+use Rattle.sup_node_gate.specs.Gates.{view_of}
+use Rattle.sup_node_gate.specs.Shuffles.{IsShuffleOf}
+use Rattle.sup_node_gate.specs.Views.{calls_of}
+use Rattle.sup_run_ends.specs.Passes.{shares_of, calls_by}
 use Rattle.sup_run_ends.specs.Steps.{IsSeatOf, HasSeen}
 use Rattle.sup_run_ends.proofs.joining.join_all.Given as goal
 
@@ -9,3 +13,5 @@ invariant-loop-pass g l =
     × IsSeatOf l.post l.seat
     × HasSeen l.fn.seat l.seat
     × All (λ a. HasSeen a.seat l.seat) l.yielded
+    × ((view_of l.seat).shares ≡ (view_of l.fn.seat).shares ++ shares_of (map (λ a. a.seat) l.yielded))
+    × IsShuffleOf (calls_of (view_of l.fn.seat)) (calls_by (map (λ a. a.seat) l.yielded)) (calls_of (view_of l.seat))

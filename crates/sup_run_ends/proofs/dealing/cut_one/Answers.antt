@@ -1,0 +1,26 @@
+use Rattle.std.proofs.Common.{◌≡◌, ◌++◌, [], ◌∷◌, All, ap, sym, ◌∙◌, append-nil, refl}
+use Rattle.std.specs.Prelude.{not, cond}
+use Rattle.sup_posts.proofs.ItemLaws.{all_none, all_snoc}
+use Rattle.sup_posts.specs.Jobs.{Seat}
+use Rattle.sup_run_ends.specs.Steps.{IsSeatOf}
+use Rattle.sup_run_ends.specs.Passes.{IsFresh}
+use Rattle.sup_run_ends.proofs.ReturnedPassLaws.{is_same, isnt_same}
+use Rattle.sup_run_ends.proofs.dealing.cut_one.Goals as goal
+
+pub returns-then-to-at-clause-cut : goal.returns-then-to-at-clause-cut
+returns-then-to-at-clause-cut g c = record {
+  cut = [];
+  row = sym (append-nil c.args.row.now.items);
+  off = refl;
+  of = all_none _;
+  ends = ap (λ b. cond (not b) (c.args.to ∷ []) []) (sym (is_same c.args.to c.args.at c.if-to-at.true));
+}
+
+pub returns-clause-cut : goal.returns-clause-cut
+returns-clause-cut g c = record {
+  cut = (c.args.to, c.split-first.result.1) ∷ [];
+  row = c.in_ok-push.ensures.items;
+  off = (c.split-first.ensures.first, c.split-first.ensures.second);
+  of = all_snoc _ [] (c.args.to, c.split-first.result.1) (all_none _) (refl, c.split-first.ensures.second_of, ap (λ v. v.own) c.split-first.ensures.second);
+  ends = ap (λ b. cond (not b) (c.args.to ∷ []) []) (sym (isnt_same c.args.to c.args.at c.if-to-at.false));
+}
