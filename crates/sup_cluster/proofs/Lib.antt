@@ -1,3 +1,5 @@
 pub mod HistorySublistLaws
 pub mod ReturnedTeamLaws
+pub mod ShuffleImageLaws
+pub mod PassPlaceLaws
 pub mod FinishedRunLaws

@@ -1,17 +1,20 @@
 -- What a run of a plan gives back.
-use Rattle.std.specs.Prelude.{◌≡◌, ◌≢◌, List, map, All, Contains}
+use Rattle.std.specs.Prelude.{◌≡◌, ◌≢◌, List, ◌∷◌, ◌++◌, map, flat_map, All, Contains}
+use Rattle.std.specs.List.{AllZip}
 use Rattle.sup_specs.specs.Values.{Bytes}
 use Rattle.sup_placement.specs.Place.{Weigher}
 use Rattle.sup_replica.specs.Configs.{Config}
 use Rattle.sup_station.specs.OpenedStations.{OpensStation}
 use Rattle.sup_node_gate.specs.declared.entry.Entry.{Entry}
 use Rattle.sup_node_gate.specs.Histories.{CountedStation, IsHistory}
+use Rattle.sup_node_gate.specs.Shuffles.{IsShuffleOf}
 use Rattle.sup_links.specs.Image.{image}
 use Rattle.sup_plan.specs.Calls.{call_of, asked, letters_to, deliveries}
 use Rattle.sup_plan.specs.Parts.{commands_of, script_between}
 use Rattle.sup_plan.specs.Sublists.{Sublist}
 use Rattle.sup_plan.specs.declared.histories.History.{History}
 use Rattle.sup_plan.specs.declared.plan.Plan.{Plan}
+use Rattle.sup_posts.specs.Rounds.{IsRound, delivery}
 
 -- the history replays from a station that was just made
 abbrev pub HasRun : Weigher → Config → History → Type 0
@@ -31,8 +34,32 @@ pub record RanCommands (plan : Plan) (all : List History) (h : History) : Type 0
   pub stand : Sublist entries h.entries.items
   pub reach : (k : History) → Contains all k → k.node ≢ h.node → ReachesReceiver plan entries h k
 
--- the histories are of the plan's nodes in their order, and each is of a station that was just made and driven by the plan
+-- rounds one behind the other
+abbrev pub in_a_row : List (List Entry) → List Entry
+in_a_row = flat_map (λ round. round)
+
+-- some list has in order the letters to the node of the other's commands, which stand in the other's history; and of what the link's script
+-- makes of that list each text is delivered, once, in order, with the exits behind it of children that didn't start
+pub record CameFrom (plan : Plan) (to from : History) (rounds : List (List Entry)) : Type 0 where
+  pub entries : List Entry
+  pub calls : map call_of entries ≡ map asked (commands_of from.node plan.commands.items)
+  pub stand : Sublist entries from.entries.items
+  pub put : List Bytes
+  pub letters : Sublist (letters_to to.node entries) put
+  pub delivered : AllZip IsRound (map delivery (image (script_between from.node to.node plan.scripts.items) put)) rounds
+
+-- the history is a shuffle of the rounds of the node's commands, each made once, and of those of what came from each of the others: nothing
+-- else happens at the node
+pub record IsMadeOfRounds (plan : Plan) (others : List History) (h : History) : Type 0 where
+  pub own : List (List Entry)
+  pub commands : AllZip IsRound (map asked (commands_of h.node plan.commands.items)) own
+  pub received : List (List (List Entry))
+  pub came : AllZip (CameFrom plan h) others received
+  pub whole : IsShuffleOf (in_a_row own) (map in_a_row received) h.entries.items
+
+-- the histories are of the plan's nodes in their order, and each is of a station that was just made and driven by the plan, and by nothing else
 pub record IsRunOf (g : Weigher) (plan : Plan) (all : List History) : Type 0 where
   pub nodes : map (λ h. h.node) all ≡ plan.nodes.items
   pub ran : All (HasRun g plan.config) all
   pub drove : All (RanCommands plan all) all
+  pub made : (before : List History) (h : History) (after : List History) → all ≡ before ++ h ∷ after → IsMadeOfRounds plan (before ++ after) h

@@ -1,6 +1,5 @@
 -- What a pass has called, one call or one round more.
 use Rattle.std.proofs.Common.{◌≡◌, ℕ, List, [], ◌∷◌, ◌++◌, map, flat_map, append_assoc, append-nil, refl, ap, ◌∙◌, sym, subst}
-use Rattle.std.specs.List.{AllZip}
 use Rattle.std.proofs.lemmas.Grind.{flat_map-append}
 use mathlib.Core.Option.{some}
 use Rattle.sup_specs.specs.Values.{Bytes}
@@ -15,13 +14,8 @@ use Rattle.sup_node_gate.specs.Histories.{entry}
 use Rattle.sup_node_gate.specs.Views.{calls_of}
 use Rattle.sup_plan.specs.Calls.{Call}
 use Rattle.sup_posts.specs.Rounds.{ChildIncarnation, FailedStarts, IsRound, MakesCalls, failed, runs_of}
+use Rattle.sup_posts.proofs.ItemLaws.{zip_append}
 use Rattle.sup_driving.specs.Called.{MadeCall, CalledFor, TellsFailedStarts, runs_in}
-
-zip_append : {A B : Type 0} (R : A → B → Type 0) (xs : List A) (ys : List B) (zs : List A) (ws : List B) → AllZip R xs ys → AllZip R zs ws → AllZip R (xs ++ zs) (ys ++ ws)
-zip_append R [] [] zs ws p q = q
-zip_append R [] (y ∷ ys) zs ws p q = absurd p
-zip_append R (x ∷ xs) [] zs ws p q = absurd p
-zip_append R (x ∷ xs) (y ∷ ys) zs ws p q = (p.0, zip_append R xs ys zs ws p.1 q)
 
 fail_skip : (now : ℕ) (run : ChildIncarnation) (runs : List ChildIncarnation) (es : List Entry) → FailedStarts now runs es → FailedStarts now (run ∷ runs) es
 fail_skip now run runs [] f = tt

@@ -1,5 +1,6 @@
 -- What all items have, one behind them, and what is left where none is.
 use Rattle.std.specs.Prelude.{◌≡◌, zero, suc, List, [], ◌∷◌, ◌++◌, length, slice_index_or, All, Contains, refl}
+use Rattle.std.specs.List.{AllZip}
 use Rattle.std.proofs.Common.{sym, ap, ◌∙◌, arith, append-nil}
 use Rattle.std.proofs.lemmas.List.{nil_from_length}
 use Rattle.std.proofs.lemmas.List.Elements.{All-append, Contains-append_right}
@@ -23,3 +24,9 @@ module _ {X : Type 0} where
 
   pub last_contained : (xs : List X) (x : X) → Contains (xs ++ x ∷ []) x
   last_contained xs x = Contains-append_right xs (x ∷ []) x (0, omega arith, refl)
+
+pub zip_append : {A B : Type 0} (R : A → B → Type 0) (xs : List A) (ys : List B) (zs : List A) (ws : List B) → AllZip R xs ys → AllZip R zs ws → AllZip R (xs ++ zs) (ys ++ ws)
+zip_append R [] [] zs ws p q = q
+zip_append R [] (y ∷ ys) zs ws p q = absurd p
+zip_append R (x ∷ xs) [] zs ws p q = absurd p
+zip_append R (x ∷ xs) (y ∷ ys) zs ws p q = (p.0, zip_append R xs ys zs ws p.1 q)

@@ -6,7 +6,7 @@ use Rattle.std.specs.declared.vec.Vec.{Vec}
 use Rattle.std.proofs.Common.{arith, sym, ap, ◌∙◌, subst, append-nil, ⊎_elim, length-append}
 use Rattle.std.proofs.lemmas.Bool.{not_from_false}
 use Rattle.std.proofs.lemmas.Grind.{flat_map-append}
-use Rattle.std.proofs.lemmas.List.{map-append}
+use Rattle.std.proofs.lemmas.List.{map-append, length-map}
 use Rattle.std.proofs.lemmas.List.Elements.{All-append, Contains-append_left, filter-append}
 use Rattle.std.proofs.lemmas.Option.{slice_get_within}
 use mathlib.Core.Logic.{dite}
@@ -21,6 +21,7 @@ use Rattle.sup_plan.specs.declared.plan.Route.{Route}
 use Rattle.sup_specs.specs.Values.{Bytes}
 use Rattle.sup_posts.specs.Jobs.{Seat, IsSeatAt}
 use Rattle.sup_posts.specs.declared.shared_node.SharedNode.{SharedNode}
+use Rattle.sup_posts.specs.declared.jobs.Drive.{Drive}
 use Rattle.sup_posts.specs.declared.jobs.Lane.{Lane}
 use Rattle.sup_run_ends.specs.Passes.{of_lane, passes_to, shares_of, IsFresh, IsFirst, IsCutOff, AreCutOff, HaveWhole, dealt_in}
 use Rattle.sup_run_ends.specs.Steps.{IsSeatOf, HasLaneTo, LeadsToItsNode, ends_of, others_of, places}
@@ -35,7 +36,7 @@ others_more at n =
     let next : n + 1 ≡ suc n = omega arith in
     ap (λ m. others_of at (places m)) next ∙ filter-append (λ j. not (j == at)) (places n) (n ∷ [])
 
-places_long : (n : ℕ) → length (places n) ≡ n
+pub places_long : (n : ℕ) → length (places n) ≡ n
 places_long zero = refl
 places_long (suc n) = let rest = places_long n in omega (arith, rest, length-append (places n) (n ∷ []))
 
@@ -129,3 +130,6 @@ module _ {W : Type 0} {h : WeighGhosts W} where
       ends_are : (ls : List (Lane W h)) → ends_of ls ≡ map (λ (d : ℕ × Seat W h). d.0) (map of_lane ls)
       ends_are [] = refl
       ends_are (l ∷ ls) = ap (λ rest. l.to ∷ rest) (ends_are ls)
+
+  pub drives_long : (drives : List (Drive W h)) (n : ℕ) → map (λ (d : Drive W h). d.at) drives ≡ places n → length drives ≡ n
+  drives_long drives n e = sym (length-map (λ (d : Drive W h). d.at) drives) ∙ ap length e ∙ places_long n

@@ -1,8 +1,8 @@
 pub mod ZipLaws
 pub mod RunEndItemLaws
-mod ReturnedPassLaws
+pub mod ReturnedPassLaws
 pub mod PlacedPassLaws
-mod DealtPassLaws
+pub mod DealtPassLaws
 mod JoinedPassLaws
 mod CloseLaws
 mod FaultlessLaws

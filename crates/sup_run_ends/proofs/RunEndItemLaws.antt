@@ -24,6 +24,16 @@ module _ {X : Type 0} where
   get_left (z ∷ xs) ys zero x e = e
   get_left (z ∷ xs) ys (suc i) x e = get_left xs ys i x e
 
+  pub get_right : (xs ys : List X) (i : ℕ) → slice_get (xs ++ ys) (length xs + i) ≡ slice_get ys i
+  get_right [] ys i = refl
+  get_right (z ∷ xs) ys i = get_right xs ys i
+
+  -- a list with an item at a place, cut there
+  pub split_place : (xs : List X) (j : ℕ) (x : X) → slice_get xs j ≡ Some x → (before after : List X) × (xs ≡ before ++ x ∷ after) × (length before ≡ j)
+  split_place [] j x e = absurd (none-some x e)
+  split_place (z ∷ xs) zero x e = ([], xs, ap (λ y. y ∷ xs) (same_Some z x e), refl)
+  split_place (z ∷ xs) (suc j) x e = let r = split_place xs j x e in (z ∷ r.0, r.1, ap (λ l. z ∷ l) r.2, ap suc r.3)
+
   pub get_next : (xs ys : List X) (x : X) → slice_get (xs ++ x ∷ ys) (length xs) ≡ Some x
   get_next [] ys x = refl
   get_next (z ∷ xs) ys x = get_next xs ys x
@@ -89,3 +99,8 @@ map_contains f (x ∷ xs) y (suc k, lt, e) = let r = map_contains f xs y (k, ome
 pub all_unmap : {X Y : Type 0} (P : Y → Type 0) (f : X → Y) (xs : List X) → All P (map f xs) → All (λ x. P (f x)) xs
 all_unmap P f [] h = all_none (λ x. P (f x))
 all_unmap P f (x ∷ xs) h = All-cons (λ z. P (f z)) x xs (h 0 (f x) (omega arith)) (all_unmap P f xs (All-tail P (f x) (map f xs) h))
+
+pub get_map : {X Y : Type 0} (f : X → Y) (xs : List X) (i : ℕ) (x : X) → slice_get xs i ≡ Some x → slice_get (map f xs) i ≡ Some (f x)
+get_map f [] i x e = absurd (none-some x e)
+get_map f (z ∷ zs) zero x e = ap (λ y. Some (f y)) (same_Some z x e)
+get_map f (z ∷ zs) (suc i) x e = get_map f zs i x e

@@ -76,3 +76,10 @@ zip_through R S T f [] (y ∷ ys) zs h k = absurd h
 zip_through R S T f (x ∷ xs) [] zs h k = absurd h
 zip_through R S T f (x ∷ xs) (y ∷ ys) [] h k = absurd k
 zip_through R S T f (x ∷ xs) (y ∷ ys) (z ∷ zs) h k = (f x y z h.0 k.0, zip_through R S T f xs ys zs h.1 k.1)
+
+-- what is so place by place
+pub zip_by_place : {A B : Type 0} (R : A → B → Type 0) (xs : List A) (ys : List B) → length xs ≡ length ys → ((i : ℕ) (x : A) (y : B) → slice_get xs i ≡ Some x → slice_get ys i ≡ Some y → R x y) → AllZip R xs ys
+zip_by_place R [] [] e f = tt
+zip_by_place R [] (y ∷ ys) e f = absurd (omega (arith, e))
+zip_by_place R (x ∷ xs) [] e f = absurd (omega (arith, e))
+zip_by_place R (x ∷ xs) (y ∷ ys) e f = (f 0 x y refl refl, zip_by_place R xs ys (omega (arith, e)) (λ i a b g k. f (suc i) a b g k))

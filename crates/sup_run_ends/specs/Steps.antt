@@ -96,6 +96,7 @@ module _ {W : Type 0} {h : WeighGhosts W} where
     pub commands : drive.commands.items ≡ commands_of post.name plan.commands.items
     pub reach : (at : ℕ) (other : SharedNode W h) → slice_get posts at ≡ Some other → at ≢ drive.at → HasLaneTo plan.scripts.items post.name drive.lanes.items at other
     pub only : ends_of drive.lanes.items ≡ others_of drive.at (places (length posts))
+    pub lead : All (LeadsToItsNode plan.scripts.items post.name posts) drive.lanes.items
     pub fresh : IsFresh drive.seat
     pub all_fresh : All (λ l. IsFresh l.seat) drive.lanes.items
 

@@ -101,6 +101,7 @@ fn make_drive<W: Weigh>(
     requires fresh { IsFresh seat }
     requires lanes { IsRowOf plan.now posts.now at lanes.items }
     ensures drive { IfOk result (λ drive. (post : SharedNode W _) → slice_get posts.now at ≡ Some post → IsDriveOf plan.now posts.now post drive) }
+    ensures at { IfOk result (λ drive. drive.at ≡ at) }
     ensures seat { IfOk result (λ drive. drive.seat ≡ seat) }
     ensures lanes { IfOk result (λ drive. drive.lanes ≡ lanes) }
 {
@@ -124,6 +125,7 @@ pub fn make_drives<W: Weigh>(
     requires seats { AllZip IsSeatOf posts.now seats.items }
     requires first { All IsFirst seats.items }
     ensures drives { IfOk result (λ drives. AllZip (IsDriveOf plan.now posts.now) posts.now drives.items) }
+    ensures places { IfOk result (λ drives. map (λ d. d.at) drives.items ≡ places (length posts.now)) }
     ensures whole { IfOk result (λ drives. HaveWhole (map (λ d. d.seat) drives.items) (dealt_by drives.items)) }
 {
     let (seats, rows) = deal(alloc, plan, posts, seats)?;

@@ -16,6 +16,7 @@ returns-clause-drive g c = λ post e.
       commands = subst (λ n. c.in_ok-commands.commands.items ≡ commands_of n c.args.plan.now.commands.items) name c.in_ok-commands.ensures;
       reach = reach_all c.args.plan.now.scripts.items post.name c.args.posts.now c.args.lanes.items c.args.at row.only (row.lead post e);
       only = row.only;
+      lead = row.lead post e;
       fresh = c.requires.fresh;
       all_fresh = row.fresh;
     }
