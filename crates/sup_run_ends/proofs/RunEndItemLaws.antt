@@ -1,7 +1,8 @@
 -- Items of lists.
 use Rattle.std.specs.Prelude.{◌≡◌, ◌⊎◌, ℕ, ◌<◌, ◌+◌, zero, suc, Bool, true, false, cond, List, [], ◌∷◌, ◌++◌, length, map, flat_map, Some, slice_get, slice_index_or, All, Contains, refl}
 use Rattle.std.specs.List.{filter}
-use Rattle.std.proofs.Common.{sym, ap, ◌∙◌, subst, arith, append-nil, inl, inr, ⊎_elim, length-append}
+use Rattle.std.proofs.Common.{sym, ap, ◌∙◌, subst, arith, append-nil, inl, inr, ⊎_elim, length-append, append_assoc, take}
+use Rattle.std.proofs.lemmas.List.{map-append}
 use Rattle.std.proofs.lemmas.Option.{slice_get_within, get_or_from_slice_get, slice_get-get_or, none-some, same_Some}
 use Rattle.std.proofs.lemmas.List.Elements.{All-cons, All-tail, Contains-append_left, Contains-append_right, All-append, filter-append}
 use Rattle.sup_posts.proofs.ItemLaws.{all_none}
@@ -104,3 +105,12 @@ pub get_map : {X Y : Type 0} (f : X → Y) (xs : List X) (i : ℕ) (x : X) → s
 get_map f [] i x e = absurd (none-some x e)
 get_map f (z ∷ zs) zero x e = ap (λ y. Some (f y)) (same_Some z x e)
 get_map f (z ∷ zs) (suc i) x e = get_map f zs i x e
+
+-- one item more was made of what was taken
+pub taken_more : {X Y : Type 0} (f : X → Y) (made made' : List X) (x : X) (rest more all : List Y) (y : Y) → made' ≡ made ++ x ∷ [] → f x ≡ y → rest ≡ y ∷ more → map f made ++ rest ≡ all → map f made' ++ more ≡ all
+taken_more f made made' x rest more all y put is next e =
+    ap (λ l. map f l ++ more) put ∙ ap (λ l. l ++ more) (map-append f made (x ∷ [])) ∙ append_assoc (map f made) (f x ∷ []) more ∙ ap (λ z. map f made ++ z ∷ more) is ∙ ap (λ l. map f made ++ l) (sym next) ∙ e
+
+pub take_all : {X : Type 0} (xs : List X) → take (length xs) xs ≡ xs
+take_all [] = refl
+take_all (x ∷ xs) = ap (λ l. x ∷ l) (take_all xs)
