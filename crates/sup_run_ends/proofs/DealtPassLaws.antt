@@ -132,4 +132,4 @@ module _ {W : Type 0} {h : WeighGhosts W} where
       ends_are (l ∷ ls) = ap (λ rest. l.to ∷ rest) (ends_are ls)
 
   pub drives_long : (drives : List (Drive W h)) (n : ℕ) → map (λ (d : Drive W h). d.at) drives ≡ places n → length drives ≡ n
-  drives_long drives n e = sym (length-map (λ (d : Drive W h). d.at) drives) ∙ ap length e ∙ places_long n
+  drives_long drives n e = sym (length-map drives (λ (d : Drive W h). d.at)) ∙ ap length e ∙ places_long n

@@ -35,21 +35,21 @@ module _ {W : Type 0} {h : WeighGhosts W} where
   -- those that came back to a place
   pub passes_arrived : (j : ℕ) (arrived : List (Arrived W h)) → passes_to j (map of_arrived arrived) ≡ map (λ (a : Arrived W h). a.seat) (filter (λ (a : Arrived W h). a.to == j) arrived)
   passes_arrived j [] = refl
-  passes_arrived j (a ∷ more) = by_test (a.to == j)
+  passes_arrived j (a ∷ more) = by_test (passes_arrived j more) (a.to == j)
     where
-      by_test : (b : Bool) → picked j (of_arrived a) (map of_arrived more) b ≡ map (λ (x : Arrived W h). x.seat) (cond b (a ∷ filter (λ (x : Arrived W h). x.to == j) more) (filter (λ (x : Arrived W h). x.to == j) more))
-      by_test true = ap (λ l. a.seat ∷ l) (passes_arrived j more)
-      by_test false = passes_arrived j more
+      by_test : passes_to j (map of_arrived more) ≡ map (λ (x : Arrived W h). x.seat) (filter (λ (x : Arrived W h). x.to == j) more) → (b : Bool) → picked j (of_arrived a) (map of_arrived more) b ≡ map (λ (x : Arrived W h). x.seat) (cond b (a ∷ filter (λ (x : Arrived W h). x.to == j) more) (filter (λ (x : Arrived W h). x.to == j) more))
+      by_test rest true = ap (λ l. a.seat ∷ l) rest
+      by_test rest false = rest
 
   -- those to another place that are left where the passes to one are taken out
   pub passes_left : (j n : ℕ) (arrived : List (Arrived W h)) → j ≢ n → passes_to j (map of_arrived (filter (λ (a : Arrived W h). not (a.to == n)) arrived)) ≡ passes_to j (map of_arrived arrived)
   passes_left j n [] apart = refl
-  passes_left j n (a ∷ more) apart = by_test (a.to == n) refl
+  passes_left j n (a ∷ more) apart = by_test (passes_left j n more apart) (a.to == n) refl
     where
-      both : (b : Bool) → picked j (of_arrived a) (map of_arrived (filter (λ (x : Arrived W h). not (x.to == n)) more)) b ≡ picked j (of_arrived a) (map of_arrived more) b
-      both true = ap (λ l. a.seat ∷ l) (passes_left j n more apart)
-      both false = passes_left j n more apart
+      both : (passes_to j (map of_arrived (filter (λ (x : Arrived W h). not (x.to == n)) more)) ≡ passes_to j (map of_arrived more)) → (b : Bool) → picked j (of_arrived a) (map of_arrived (filter (λ (x : Arrived W h). not (x.to == n)) more)) b ≡ picked j (of_arrived a) (map of_arrived more) b
+      both rest true = ap (λ l. a.seat ∷ l) rest
+      both rest false = rest
 
-      by_test : (b : Bool) → (a.to == n) ≡ b → passes_to j (map of_arrived (cond (not b) (a ∷ filter (λ (x : Arrived W h). not (x.to == n)) more) (filter (λ (x : Arrived W h). not (x.to == n)) more))) ≡ passes_to j (map of_arrived (a ∷ more))
-      by_test true e = passes_left j n more apart ∙ sym (pass_apart j (of_arrived a) (map of_arrived more) (λ f. apart (sym f ∙ same_is a.to n e)))
-      by_test false e = both (a.to == j)
+      by_test : (passes_to j (map of_arrived (filter (λ (x : Arrived W h). not (x.to == n)) more)) ≡ passes_to j (map of_arrived more)) → (b : Bool) → (a.to == n) ≡ b → passes_to j (map of_arrived (cond (not b) (a ∷ filter (λ (x : Arrived W h). not (x.to == n)) more) (filter (λ (x : Arrived W h). not (x.to == n)) more))) ≡ passes_to j (map of_arrived (a ∷ more))
+      by_test rest true e = rest ∙ sym (pass_apart j (of_arrived a) (map of_arrived more) (λ f. apart (sym f ∙ same_is a.to n e)))
+      by_test rest false e = both rest (a.to == j)

@@ -26,8 +26,8 @@ module _ {X : Type 0} where
   get_left (z ∷ xs) ys (suc i) x e = get_left xs ys i x e
 
   pub get_right : (xs ys : List X) (i : ℕ) → slice_get (xs ++ ys) (length xs + i) ≡ slice_get ys i
-  get_right [] ys i = refl
-  get_right (z ∷ xs) ys i = get_right xs ys i
+  get_right [] ys i = let same : 0 + i ≡ i = omega arith in ap (slice_get ys) same
+  get_right (z ∷ xs) ys i = let next : suc (length xs) + i ≡ suc (length xs + i) = omega arith in ap (slice_get (z ∷ (xs ++ ys))) next ∙ get_right xs ys i
 
   -- a list with an item at a place, cut there
   pub split_place : (xs : List X) (j : ℕ) (x : X) → slice_get xs j ≡ Some x → (before after : List X) × (xs ≡ before ++ x ∷ after) × (length before ≡ j)

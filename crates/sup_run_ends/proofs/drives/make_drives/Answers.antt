@@ -28,29 +28,29 @@ loop-at-init g c =
 
 pub unreachable-requires : goal.unreachable-requires
 unreachable-requires g c = omega (arith, long_both (map (λ (d : Drive g.row.W.Denot g.W.Weigh). d.seat) c.loop-at.drives.items) c.loop-at.seats.rest.items c.into_iter-seats.result.rest.items c.loop-at.invariant.2,
-    length-map (λ (d : Drive g.row.W.Denot g.W.Weigh). d.seat) c.loop-at.drives.items, drives_long c.loop-at.drives.items c.loop-at.at c.loop-at.invariant.1, c.in_default.ensures.cases,
+    length-map c.loop-at.drives.items (λ (d : Drive g.row.W.Denot g.W.Weigh). d.seat), drives_long c.loop-at.drives.items c.loop-at.at c.loop-at.invariant.1, c.in_default.ensures.cases,
     zip_same_length IsSeatOf c.args.posts.now c.in_ok-seats.seats.items c.in_ok-seats.ensures.seats, ap length c.into_iter-seats.ensures.rest)
 
-pub unreachable-2-requires : goal.unreachable-2-requires
-unreachable-2-requires g c = omega (arith, long_both (map (λ (d : Drive g.row.W.Denot g.W.Weigh). d.lanes) c.loop-at.drives.items) c.loop-at.rows.rest.items c.into_iter-rows.result.rest.items c.loop-at.invariant.3,
-    length-map (λ (d : Drive g.row.W.Denot g.W.Weigh). d.lanes) c.loop-at.drives.items, drives_long c.loop-at.drives.items c.loop-at.at c.loop-at.invariant.1, c.in_default-2.ensures.cases,
+pub unreachable-requires-in_default-next : goal.unreachable-requires-in_default-next
+unreachable-requires-in_default-next g c = omega (arith, long_both (map (λ (d : Drive g.row.W.Denot g.W.Weigh). d.lanes) c.loop-at.drives.items) c.loop-at.rows.rest.items c.into_iter-rows.result.rest.items c.loop-at.invariant.3,
+    length-map c.loop-at.drives.items (λ (d : Drive g.row.W.Denot g.W.Weigh). d.lanes), drives_long c.loop-at.drives.items c.loop-at.at c.loop-at.invariant.1, c.in_default-next.ensures.cases,
     zip_same_length (λ (i : ℕ) (v : Vec (Lane g.row.W.Denot g.W.Weigh) Global). IsRowOf c.args.plan.now c.args.posts.now i v.items) (places (length c.args.posts.now)) c.in_ok-seats.rows.items c.in_ok-seats.ensures.rows,
     places_long (length c.args.posts.now), ap length c.into_iter-rows.ensures.rest)
 
 pub make_drive-requires-clause-seat : goal.make_drive-requires-clause-seat
 make_drive-requires-clause-seat g c = zip_right IsSeatOf c.args.posts.now c.in_ok-seats.seats.items c.loop-at.at c.in-Some.seat c.in_ok-seats.ensures.seats
     (next_of (map (λ (d : Drive g.row.W.Denot g.W.Weigh). d.seat) c.loop-at.drives.items) c.loop-at.seats.rest.items c.in_ok-seats.seats.items c.in-Some.seat c.next.new.self.rest.items c.loop-at.at
-    (c.loop-at.invariant.2 ∙ c.into_iter-seats.ensures.rest) c.in-Some.ensures.items (length-map (λ (d : Drive g.row.W.Denot g.W.Weigh). d.seat) c.loop-at.drives.items ∙ drives_long c.loop-at.drives.items c.loop-at.at c.loop-at.invariant.1))
+    (c.loop-at.invariant.2 ∙ c.into_iter-seats.ensures.rest) c.in-Some.ensures.items (length-map c.loop-at.drives.items (λ (d : Drive g.row.W.Denot g.W.Weigh). d.seat) ∙ drives_long c.loop-at.drives.items c.loop-at.at c.loop-at.invariant.1))
 
 pub make_drive-requires-clause-fresh : goal.make_drive-requires-clause-fresh
 make_drive-requires-clause-fresh g c = contained IsFresh c.in_ok-seats.seats.items c.in-Some.seat c.in_ok-seats.ensures.fresh (stands_in c.in_ok-seats.seats.items c.loop-at.at c.in-Some.seat
     (next_of (map (λ (d : Drive g.row.W.Denot g.W.Weigh). d.seat) c.loop-at.drives.items) c.loop-at.seats.rest.items c.in_ok-seats.seats.items c.in-Some.seat c.next.new.self.rest.items c.loop-at.at
-    (c.loop-at.invariant.2 ∙ c.into_iter-seats.ensures.rest) c.in-Some.ensures.items (length-map (λ (d : Drive g.row.W.Denot g.W.Weigh). d.seat) c.loop-at.drives.items ∙ drives_long c.loop-at.drives.items c.loop-at.at c.loop-at.invariant.1)))
+    (c.loop-at.invariant.2 ∙ c.into_iter-seats.ensures.rest) c.in-Some.ensures.items (length-map c.loop-at.drives.items (λ (d : Drive g.row.W.Denot g.W.Weigh). d.seat) ∙ drives_long c.loop-at.drives.items c.loop-at.at c.loop-at.invariant.1)))
 
 pub make_drive-requires-clause-lanes : goal.make_drive-requires-clause-lanes
 make_drive-requires-clause-lanes g c =
-    let at : slice_get c.in_ok-seats.rows.items c.loop-at.at ≡ Some c.in-Some-next.lanes = next_of (map (λ (d : Drive g.row.W.Denot g.W.Weigh). d.lanes) c.loop-at.drives.items) c.loop-at.rows.rest.items c.in_ok-seats.rows.items c.in-Some-next.lanes c.next-2.new.self.rest.items c.loop-at.at
-    (c.loop-at.invariant.3 ∙ c.into_iter-rows.ensures.rest) c.in-Some-next.ensures.items (length-map (λ (d : Drive g.row.W.Denot g.W.Weigh). d.lanes) c.loop-at.drives.items ∙ drives_long c.loop-at.drives.items c.loop-at.at c.loop-at.invariant.1) in
+    let at : slice_get c.in_ok-seats.rows.items c.loop-at.at ≡ Some c.in-Some-next.lanes = next_of (map (λ (d : Drive g.row.W.Denot g.W.Weigh). d.lanes) c.loop-at.drives.items) c.loop-at.rows.rest.items c.in_ok-seats.rows.items c.in-Some-next.lanes c.next-in-loop-at.new.self.rest.items c.loop-at.at
+    (c.loop-at.invariant.3 ∙ c.into_iter-rows.ensures.rest) c.in-Some-next.ensures.items (length-map c.loop-at.drives.items (λ (d : Drive g.row.W.Denot g.W.Weigh). d.lanes) ∙ drives_long c.loop-at.drives.items c.loop-at.at c.loop-at.invariant.1) in
     let r = zip_right (λ (i : ℕ) (v : Vec (Lane g.row.W.Denot g.W.Weigh) Global). IsRowOf c.args.plan.now c.args.posts.now i v.items) (places (length c.args.posts.now)) c.in_ok-seats.rows.items c.loop-at.at c.in-Some-next.lanes c.in_ok-seats.ensures.rows at in
     subst (λ i. IsRowOf c.args.plan.now c.args.posts.now i c.in-Some-next.lanes.items) (same_place (places (length c.args.posts.now)) c.loop-at.at c.loop-at.at r.0 c.loop-at.at r.1 (places_at (length c.args.posts.now) c.loop-at.at c.loop-at-test.true) refl) r.2
 
@@ -60,14 +60,14 @@ loop-at-preserved g c =
     let next : suc at ≡ at + 1 = omega arith in
     let p = zip_right IsSeatOf posts c.in_ok-seats.seats.items at c.in-Some.seat c.in_ok-seats.ensures.seats
     (next_of (map (λ (d : Drive g.row.W.Denot g.W.Weigh). d.seat) c.loop-at.drives.items) c.loop-at.seats.rest.items c.in_ok-seats.seats.items c.in-Some.seat c.next.new.self.rest.items c.loop-at.at
-    (c.loop-at.invariant.2 ∙ c.into_iter-seats.ensures.rest) c.in-Some.ensures.items (length-map (λ (d : Drive g.row.W.Denot g.W.Weigh). d.seat) c.loop-at.drives.items ∙ drives_long c.loop-at.drives.items c.loop-at.at c.loop-at.invariant.1)) in (
+    (c.loop-at.invariant.2 ∙ c.into_iter-seats.ensures.rest) c.in-Some.ensures.items (length-map c.loop-at.drives.items (λ (d : Drive g.row.W.Denot g.W.Weigh). d.seat) ∙ drives_long c.loop-at.drives.items c.loop-at.at c.loop-at.invariant.1)) in (
       subst (AllZip (IsDriveOf c.args.plan.now posts) (take (at + 1) posts)) put
           (zip_taken (IsDriveOf c.args.plan.now posts) posts at p.0 c.loop-at.drives.items c.in_ok-drive.drive c.loop-at-test.true (sym (get_or_from_slice_get posts at p.0 p.0 p.1)) c.loop-at.invariant.0 (c.in_ok-drive.ensures.drive p.0 p.1)),
       ap (map (λ (d : Drive g.row.W.Denot g.W.Weigh). d.at)) c.in_ok-push.ensures.items ∙ map-append (λ (d : Drive g.row.W.Denot g.W.Weigh). d.at) c.loop-at.drives.items (c.in_ok-drive.drive ∷ [])
           ∙ (λ i. c.loop-at.invariant.1 i ++ c.in_ok-drive.ensures.at i ∷ []) ∙ ap places next,
       taken_more (λ (d : Drive g.row.W.Denot g.W.Weigh). d.seat) c.loop-at.drives.items c.push.new.self.items c.in_ok-drive.drive c.loop-at.seats.rest.items c.next.new.self.rest.items c.into_iter-seats.result.rest.items c.in-Some.seat
           c.in_ok-push.ensures.items c.in_ok-drive.ensures.seat c.in-Some.ensures.items c.loop-at.invariant.2,
-      taken_more (λ (d : Drive g.row.W.Denot g.W.Weigh). d.lanes) c.loop-at.drives.items c.push.new.self.items c.in_ok-drive.drive c.loop-at.rows.rest.items c.next-2.new.self.rest.items c.into_iter-rows.result.rest.items c.in-Some-next.lanes
+      taken_more (λ (d : Drive g.row.W.Denot g.W.Weigh). d.lanes) c.loop-at.drives.items c.push.new.self.items c.in_ok-drive.drive c.loop-at.rows.rest.items c.next-in-loop-at.new.self.rest.items c.into_iter-rows.result.rest.items c.in-Some-next.lanes
           c.in_ok-push.ensures.items c.in_ok-drive.ensures.lanes c.in-Some-next.ensures.items c.loop-at.invariant.3,
     )
 
@@ -86,9 +86,9 @@ returns-clause-whole g c =
     let all : c.loop-at.at ≡ length c.args.posts.now = omega arith in
     let made = drives_long c.loop-at.drives.items c.loop-at.at c.loop-at.invariant.1 in
     let seats = c.loop-at.invariant.2 ∙ c.into_iter-seats.ensures.rest in let rows = c.loop-at.invariant.3 ∙ c.into_iter-rows.ensures.rest in
-    let no_seat : length c.loop-at.seats.rest.items ≡ 0 = omega (arith, all, made, length-map (λ (d : Drive g.row.W.Denot g.W.Weigh). d.seat) c.loop-at.drives.items, long_both (map (λ (d : Drive g.row.W.Denot g.W.Weigh). d.seat) c.loop-at.drives.items) c.loop-at.seats.rest.items c.in_ok-seats.seats.items seats,
+    let no_seat : length c.loop-at.seats.rest.items ≡ 0 = omega (arith, all, made, length-map c.loop-at.drives.items (λ (d : Drive g.row.W.Denot g.W.Weigh). d.seat), long_both (map (λ (d : Drive g.row.W.Denot g.W.Weigh). d.seat) c.loop-at.drives.items) c.loop-at.seats.rest.items c.in_ok-seats.seats.items seats,
     zip_same_length IsSeatOf c.args.posts.now c.in_ok-seats.seats.items c.in_ok-seats.ensures.seats) in
-    let no_row : length c.loop-at.rows.rest.items ≡ 0 = omega (arith, all, made, length-map (λ (d : Drive g.row.W.Denot g.W.Weigh). d.lanes) c.loop-at.drives.items, long_both (map (λ (d : Drive g.row.W.Denot g.W.Weigh). d.lanes) c.loop-at.drives.items) c.loop-at.rows.rest.items c.in_ok-seats.rows.items rows,
+    let no_row : length c.loop-at.rows.rest.items ≡ 0 = omega (arith, all, made, length-map c.loop-at.drives.items (λ (d : Drive g.row.W.Denot g.W.Weigh). d.lanes), long_both (map (λ (d : Drive g.row.W.Denot g.W.Weigh). d.lanes) c.loop-at.drives.items) c.loop-at.rows.rest.items c.in_ok-seats.rows.items rows,
     zip_same_length (λ (i : ℕ) (v : Vec (Lane g.row.W.Denot g.W.Weigh) Global). IsRowOf c.args.plan.now c.args.posts.now i v.items) (places (length c.args.posts.now)) c.in_ok-seats.rows.items c.in_ok-seats.ensures.rows, places_long (length c.args.posts.now)) in
     subst (λ (p : List (Seat g.row.W.Denot g.W.Weigh) × List (Vec (Lane g.row.W.Denot g.W.Weigh) Global)). HaveWhole p.0 (dealt_in p.1))
     (λ i. (sym (none_left (map (λ (d : Drive g.row.W.Denot g.W.Weigh). d.seat) c.loop-at.drives.items) c.loop-at.seats.rest.items c.in_ok-seats.seats.items no_seat seats) i,

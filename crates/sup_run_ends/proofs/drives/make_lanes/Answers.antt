@@ -1,4 +1,4 @@
-use Rattle.std.proofs.Common.{rules, ◌≡◌, ℕ, ◌++◌, [], ◌∷◌, map, All, sym, ap, ◌∙◌, subst, append_assoc}
+use Rattle.std.proofs.Common.{rules, arith, refl, ◌≡◌, ℕ, ◌++◌, [], ◌∷◌, map, All, sym, ap, ◌∙◌, subst, append_assoc}
 use Rattle.std.proofs.lemmas.List.{map-append}
 use Rattle.std.proofs.lemmas.List.Elements.{All-rest}
 use Rattle.sup_posts.specs.Jobs.{Seat, IsSeatAt, IsLane}
@@ -6,6 +6,19 @@ use Rattle.sup_posts.proofs.ItemLaws.{all_none, all_snoc, none_left}
 use Rattle.sup_run_ends.specs.Passes.{of_lane}
 use Rattle.sup_run_ends.specs.Steps.{LeadsToItsNode}
 use Rattle.sup_run_ends.proofs.drives.make_lanes.Goals as goal
+
+pub loop-dealt-init : goal.loop-dealt-init
+loop-dealt-init g c =
+    let none = sym c.new-lanes.ensures.items in (
+      refl,
+      subst (All (λ (d : ℕ × Seat g.row.W.Denot g.W.Weigh). IsSeatAt c.args.posts.now d.0 d.1)) (sym c.into_iter-dealt-iterator.ensures.into_iter_gives.0) c.requires,
+      subst (All (IsLane c.args.posts.now)) none (all_none (IsLane c.args.posts.now)),
+      ap (map of_lane) c.new-lanes.ensures.items,
+      subst (All (LeadsToItsNode c.args.plan.now.scripts.items c.args.from.now c.args.posts.now)) none (all_none (LeadsToItsNode c.args.plan.now.scripts.items c.args.from.now c.args.posts.now)),
+    )
+
+pub make_lane-requires : goal.make_lane-requires
+make_lane-requires g c = (subst (All (λ (d : ℕ × Seat g.row.W.Denot g.W.Weigh). IsSeatAt c.args.posts.now d.0 d.1)) c.in-Some.ensures.steps.0 c.loop-dealt.invariant.1) 0 c.in-Some.dealt (omega arith)
 
 pub loop-dealt-preserved : goal.loop-dealt-preserved
 loop-dealt-preserved g c =
