@@ -9,7 +9,7 @@ use Rattle.sup_causal.specs.Dots.{has}
 use Rattle.sup_causal.specs.Cut.{IsVector, IsCloud}
 use Rattle.sup_tables.specs.declared.row.Row.{Row}
 use Rattle.sup_tables.specs.declared.lent.LentRow.{LentRow}
-use Rattle.sup_tables.specs.Lent.{row_lent}
+use Rattle.sup_tables.specs.Lent.{row_lent, rows_lent}
 use Rattle.sup_tables.specs.Rows.{place_cmp}
 use Rattle.sup_array_text.specs.Arrays.{ArrayShown, shown, whole}
 use Rattle.sup_wire.specs.declared.heading.Heading.{Heading}
@@ -53,3 +53,8 @@ next_is old new texts t edits h front fb fc was rows headed is_whole fronted wri
     (all_edited place_cmp IsWritten (map (edit_of row_lent) edits) old (each_written old was.written) written) in
     text_for new t h front fb fc is_whole headed fronted all
     (made old was ∙ ap (λ rows. shown (whole front (map row_text rows) image_back) (map row_text rows)) (sym rows))
+
+pub all_is : (new : Image) (rows : List LentRow) (t : ArrayShown) (h : Heading) (front : Bytes) → h.boot < 2 ^ 64 → h.count < 2 ^ 64 → IsHeaded new h → rows_lent rows ≡ new.state.rows → IsWholeImage new → IsFront h front → AllByRecursion IsWritten (rows_lent rows)
+    → t ≡ shown (whole front (map row_text (rows_lent rows)) image_back) (map row_text (rows_lent rows)) → IsTextFor new t
+all_is new rows t h front fb fc headed same is_whole fronted written made =
+    text_for new t h front fb fc is_whole headed fronted (subst (λ rs. AllByRecursion IsWritten rs) same written) (made ∙ ap (λ rs. shown (whole front (map row_text rs) image_back) (map row_text rs)) same)

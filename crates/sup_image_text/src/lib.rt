@@ -13,10 +13,13 @@
 #![tactic(auto)]
 
 mod editing;
+pub mod messages;
 pub mod next;
 pub mod next_image;
 mod places;
 mod searching;
+mod writing;
 
+pub use messages::delta_text;
 pub use next::{is_few, text_after};
 pub use next_image::{NextImage, RowChange};

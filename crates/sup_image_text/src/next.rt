@@ -1,6 +1,7 @@
 //! The text of the next image.
 ghost use Rattle.std.specs.Prelude.{◌≡◌, ◌↔◌, ◌<◌, ◌/◌, List, IsTrue, IfOk};
 ghost use Rattle.sup_tables.specs.declared.row.Row.{Row};
+ghost use Rattle.sup_tables.specs.Lent.{rows_lent};
 ghost use Rattle.sup_wire.specs.declared.image.Image.{Image as ImageValue};
 ghost use Rattle.sup_wire.specs.Drafts.{IsWholeImage};
 ghost use Rattle.sup_wire.specs.RowTexts.{AreRows};
@@ -9,11 +10,12 @@ ghost use Rattle.sup_image_text.specs.Next.{IsEdited, IsNext};
 
 use crate::editing::edited;
 use crate::next_image::{NextImage, RowChange};
+use crate::writing::written;
 use std::alloc::{AllocError, Global};
 use sup_array_text::ArrayText;
 use sup_edits::Edit;
 use sup_tables::LentRow;
-use sup_wire::{Heading, image_front, image_text};
+use sup_wire::{Heading, image_front};
 
 /// The text of the image that comes of another, of which this is the text. It changes nothing, and takes all memory: what it
 /// gives takes the old text's place by a move.
@@ -34,7 +36,7 @@ pub fn text_after(
             Ok(text)
         }
         RowChange::All(rows) => {
-            let text = image_text(alloc, &next.heading, rows)?;
+            let text = all_text(alloc, rows, &next.heading)?;
             Ok(text)
         }
     }
@@ -54,12 +56,25 @@ fn edited_text(
     Ok(text)
 }
 
-// An edit, with its search, takes as long as some 32 rows that are written.
-const SEARCH: usize = 32;
+// Of these rows, all of them written anew.
+fn all_text(
+    alloc: Global,
+    rows: &[LentRow<'_>],
+    heading: &Heading<'_>,
+) -> Result<ArrayText, AllocError>
+    ensures { IfOk result (λ t. (new : ImageValue) → IsHeaded new heading.now → rows_lent rows.now ≡ new.state.rows → IsWholeImage new → IsTextFor new t) }
+{
+    let front = image_front(alloc, heading)?;
+    let text = written(alloc, rows, front)?;
+    Ok(text)
+}
+
+// An edit, with its search, takes as long as some 8 rows that are written.
+const SEARCH: usize = 8;
 
 /// Whether so few edits come to so many rows that one by one they take less time than all rows written anew.
 pub fn is_few(edits: usize, rows: usize) -> bool
-    ensures { IsTrue result ↔ (edits < rows / 32) }
+    ensures { IsTrue result ↔ (edits < rows / 8) }
 {
     edits < rows / SEARCH
 }

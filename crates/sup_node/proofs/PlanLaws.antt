@@ -1,9 +1,9 @@
 -- From what a replica makes ready to what a node plans.
-use Rattle.std.specs.Prelude.{IfOk, ◌≡◌, ℕ, ◌+◌, ◌-◌, ◌≤◌, Bool, true, false, ◌&&◌, not, nat_lt, List, [], Option, Some, None, Result, Ok, Err, IsOk, refl, if◌then◌else◌}
+use Rattle.std.specs.Prelude.{IfOk, ◌≡◌, ℕ, ◌+◌, ◌-◌, ◌<◌, ◌≤◌, ◌==◌, Bool, true, false, ◌&&◌, not, nat_lt, nat_le, List, [], length, Option, Some, None, Result, Ok, Err, IsOk, refl, if◌then◌else◌}
 use Rattle.std.specs.Option.{unwrap_or}
 use Rattle.std.specs.Cmp.{Equal-is, tied_itself}
 use Rattle.sup_specs.specs.OrderLaws.{text_total, text_tie}
-use Rattle.std.proofs.Common.{sym, ap, ◌∙◌, subst, arith}
+use Rattle.std.proofs.Common.{sym, ap, ap₂, ◌∙◌, subst, arith}
 use mathlib.Core.Logic.{◌⊎◌, inl, inr}
 use mathlib.Core.Bool.{false≢true}
 use Rattle.sup_specs.specs.Values.{Bytes}
@@ -16,6 +16,8 @@ use Rattle.sup_wire.specs.Drafts.{IsDraftOf, IsWholeMessage}
 use Rattle.sup_wire.specs.Faults.{TextSays}
 use Rattle.sup_local_sup.specs.declared.effect.Effect.{Effect}
 use Rattle.sup_replica.specs.Configs.{Config}
+use Rattle.sup_anti_entropy.specs.Joins.{newest_of}
+use Rattle.sup_anti_entropy.specs.Shipments.{joined_deltas}
 use Rattle.sup_anti_entropy.specs.Buffers.{Buffer, Shipment, shipment_of, holds_more, shipped as shipment}
 use Rattle.sup_replica.specs.declared.event.Event.{Event}
 use Rattle.sup_replica.specs.declared.event.Event.TheVariants.{Join, Leave, Drain, Start, Replace, Delete, Register, Unregister, Exit, Ship, Push, Deliver}
@@ -301,6 +303,23 @@ pub shipped-as : (b : Buffer Bytes State) (n : Node State) (to me : Bytes) (x : 
     → shipped by_tables (record { node = n; held = b.held; room = b.room; acked = b.acked }) to ≡ Some (a_delta me to x.number x.whole x.content)
 shipped-as b n to me x e m h =
     (λ i. mail_of_shipment (sym m i) to (shipment_of join_states no_state b.held (e i) n.known (e i - b.acked to))) ∙ ap (mail_of_shipment me to) (sym h)
+
+-- where not all that a peer lacks is held, it is sent all that is known
+pub whole-shipped : (b : Buffer Bytes State) (n : Node State) (to : Bytes) (count acked held missing : ℕ) → n.count ≡ b.count → count ≡ b.count → acked ≡ b.acked to → held ≡ length b.held → missing ≡ count - acked → held < missing
+    → shipped by_tables (record { node = n; held = b.held; room = b.room; acked = b.acked }) to ≡ Some (a_delta n.name to count true n.known)
+whole-shipped b n to count acked held missing e ce ae he me less =
+    let lacks : b.count - b.acked to ≡ missing = sym (me ∙ ap₂ (λ x y. x - y) ce ae) in
+    let some : (b.count - b.acked to == 0) ≡ false = ap (λ m. m == 0) lacks ∙ not-zero missing held less in
+    let more : nat_le (b.count - b.acked to) (length b.held) ≡ false = ap₂ nat_le lacks (sym he) ∙ not-within missing held less in
+    shipped-as b n to n.name (record { content = n.known; number = count; whole = true }) e refl
+    (sym ((λ i. if some i then None else (if more i then Some (record { content = joined_deltas (newest_of (b.count - b.acked to) b.held); number = b.count; whole = false }) else Some (record { content = n.known; number = b.count; whole = true })))
+    ∙ ap (λ k. Some (record { content = n.known; number = k; whole = true })) (sym ce)))
+  where
+    not-zero : (m h : ℕ) → h < m → (m == 0) ≡ false
+    not-zero m h less = grind arith
+
+    not-within : (m h : ℕ) → h < m → nat_le m h ≡ false
+    not-within m h less = grind arith
 
 module _ (g : Weigher) (s : Station State) (to : Bytes) (now : ℕ) (up : s.node.up ≡ true) where
   abbrev ships : Option (Mail State) → Bool → Bool → Result (StationMove State) Refusal

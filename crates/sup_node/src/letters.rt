@@ -1,12 +1,18 @@
 //! Letters, and the answers that have none.
-ghost use Rattle.std.specs.Prelude.{◌≡◌, ◌≢◌, [], None, IfOk};
+ghost use Rattle.std.specs.Prelude.{◌≡◌, ◌≢◌, [], None, true, IfOk};
+ghost use Rattle.sup_tables.specs.States.{State};
+ghost use Rattle.sup_wire.specs.Drafts.{IsWhole};
 ghost use Rattle.sup_wire.specs.Faults.{IsInRange};
 ghost use Rattle.sup_wire.specs.Forms.{IsCount};
+ghost use Rattle.sup_wire.specs.RowTexts.{AreRows};
 ghost use Rattle.sup_replica.specs.Stations.{a_delta, a_push, an_ack};
 ghost use Rattle.sup_node.specs.Texts.{IsLetter, IsMessageText};
 
 use std::alloc::{AllocError, Global};
 use sup_anti_entropy::Shipment;
+use sup_array_text::ArrayText;
+use sup_causal::CausalContext;
+use sup_image_text::delta_text;
 use sup_replica::{Letter, LetterKind, MessageText};
 use sup_specs::NodeName;
 use sup_tables::Tables;
@@ -32,6 +38,27 @@ pub(crate) fn delta_letter(
     let message = Message::Delta { from, to, n, delta };
     let bytes = text_of(alloc, &message)?;
     Ok(Letter { to, kind, bytes })
+}
+
+// All that a node knows, as a letter: the context of its tables, and the texts of its rows.
+pub(crate) fn whole_letter(
+    alloc: Global,
+    from: NodeName,
+    to: NodeName,
+    n: u64,
+    texts: &ArrayText,
+    context: &CausalContext,
+) -> Result<Letter, AllocError>
+    requires differ { from ≢ to }
+    requires number { IsCount n }
+    ensures { IfOk result (λ letter. (s : State) → AreRows s.rows texts.now.items → s.context ≡ context.now → IsWhole s → IsLetter (a_delta from to n true s) letter) }
+{
+    let text = delta_text(alloc, texts, &from, &to, n, context)?;
+    Ok(Letter {
+        to,
+        kind: LetterKind::Whole(n),
+        bytes: MessageText::new(text),
+    })
 }
 
 // An own operation, as a letter.

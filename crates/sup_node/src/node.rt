@@ -1,5 +1,6 @@
 //! A node.
 ghost use Rattle.std.specs.Prelude.{◌≡◌, true, IfOk, IsErr, OnOk, OnErr, MatchResult};
+ghost use Rattle.sup_wire.specs.RowTexts.{AreRows};
 ghost use Rattle.sup_node.specs.NodeStates.{station_in};
 ghost use Rattle.sup_node.specs.Placed.{keeps_placed};
 
@@ -7,6 +8,7 @@ use crate::planned::Planned;
 use crate::state::NodeState;
 use std::alloc::{AllocError, Global};
 use std::marker::PhantomData;
+use sup_array_text::ArrayText;
 use sup_local_sup::Effects;
 use sup_placement::Weigh;
 use sup_replica::{Config, Done, Event, Refusal, Reply};
@@ -77,6 +79,27 @@ impl<W: Weigh> Node<W> {
         ensures { PlansEvent W.weight_of (station_of self.now) event.now now result }
     {
         self.state.plan(event, now, weigher)
+    }
+
+    /// The same as [`Node::plan`], where the texts of the rows that it knows are kept: a ship of all of these copies them.
+    ///
+    /// # Errors
+    ///
+    /// As [`Node::plan`] tells.
+    pub fn plan_with(
+        &self,
+        texts: &ArrayText,
+        event: &Event,
+        now: u64,
+        weigher: &W,
+    ) -> Result<Planned, Refusal>
+        requires { AreRows (station_of self.now).node.known.rows texts.now.items }
+        ensures { PlansEvent W.weight_of (station_of self.now) event.now now result }
+    {
+        match event {
+            Event::Ship(to) => self.state.ship_with(texts, to),
+            _ => self.state.plan(event, now, weigher),
+        }
     }
 
     /// Carries out what was made ready of an event, with the node as it was then.

@@ -1,14 +1,16 @@
 //! What a node sends when it is told to.
 ghost use Rattle.std.specs.Prelude.{◌≡◌, ℕ, true};
 ghost use Rattle.sup_placement.specs.Place.{Weigher};
+ghost use Rattle.sup_wire.specs.RowTexts.{AreRows};
 ghost use Rattle.sup_replica.specs.declared.event.Event.TheVariants.{Ship, Push};
 ghost use Rattle.sup_node.specs.NodeStates.{station_in};
 ghost use Rattle.sup_node.specs.NodeSteps.{PlansEvent};
 ghost use Rattle.sup_node.specs.Placed.{keeps_placed};
 
-use crate::letters::{delta_letter, push_letter};
+use crate::letters::{delta_letter, push_letter, whole_letter};
 use crate::planned::Planned;
 use crate::state::NodeState;
+use sup_array_text::ArrayText;
 use sup_replica::Refusal;
 use sup_specs::NodeName;
 
@@ -31,6 +33,27 @@ impl NodeState {
                 Ok(Planned::sent(replica.alloc(), letter))
             }
         }
+    }
+
+    // The same, where the texts of the rows that it knows are kept: a ship of all of these copies them.
+    pub(crate) fn ship_with(&self, texts: &ArrayText, to: &NodeName) -> Result<Planned, Refusal>
+        requires { AreRows (station_in self.now).node.known.rows texts.now.items }
+        ensures { (g : Weigher) (now : ℕ) → keeps_placed g (station_in self.now).node ≡ true → PlansEvent g (station_in self.now) (Ship to.now) now result }
+    {
+        let replica = &self.replica;
+        if replica.is_named(to) {
+            return Err(Refusal::UnknownNode);
+        }
+        let n = self.buffer.count();
+        let missing = n - self.buffer.acknowledged(to);
+        if missing <= self.buffer.held() as u64 {
+            return self.ship(to);
+        }
+        let context = replica.tables().context();
+        // For the letter: the counters of known dots are in their limits.
+        context.counted();
+        let letter = whole_letter(replica.alloc(), *replica.name(), *to, n, texts, context)?;
+        Ok(Planned::sent(replica.alloc(), letter))
     }
 
     // A peer is sent the newest own operation.
