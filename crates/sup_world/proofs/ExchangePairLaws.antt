@@ -21,8 +21,7 @@ use Rattle.sup_world.specs.Exchanges.{ends, running}
 use Rattle.sup_world.specs.declared.settling.Way.TheVariants.{In, Out}
 use Rattle.sup_world.specs.Runs.{StepGoes, RanSteps}
 use Rattle.sup_world.specs.SeenNodes.{SeenNode}
-use Rattle.sup_world.specs.SettledSites.{pairs_of}
-use Rattle.sup_world.specs.Settlements.{Answered, sends, messages_in, effects_with, effects_in, IsToldOn, IsBrought, IsExchange, AreExchanges, StepEnds, EndsAtShip, EndsAtArrival, EndsAtLast, EndsIn, EndsAmong, NotesAll, IsNotedAs, IsShipNotedAs, MakesOne, ShipsOne, PairsCome, MakesPairs, AreRunning, IsToldBy, SettlesBy}
+use Rattle.sup_world.specs.Settlements.{Answered, sends, messages_in, effects_with, effects_in, IsToldOn, IsBrought, IsExchange, AreExchanges, StepEnds, EndsIn, EndsAmong, NotesAll, IsNotedAs, IsShipNotedAs, MakesOne, ShipsOne, PairsCome, MakesPairs, IsToldBy, SettlesBy}
 use Rattle.sup_world.specs.Tallies.{numbers_with, effects_by}
 use Rattle.sup_world.proofs.ExchangeListLaws.{done, refused}
 use Rattle.sup_world.proofs.ReachedWorldLaws.{leads_on}

@@ -1,5 +1,5 @@
 -- A step of the world that is an act at a node, from what the act of that node answers.
-use Rattle.std.specs.Prelude.{◌≡◌, ℕ, ◌<◌, Bool, true, false, List, length, is_some, slice_index_or, slice_set, Option, Some, None, Result, Ok, Err}
+use Rattle.std.specs.Prelude.{◌≡◌, ℕ, ◌<◌, Bool, true, false, List, length, is_some, slice_index_or, slice_set, Some, None, Result, Ok, Err}
 use Rattle.std.specs.Result.{IsErrAnd}
 use Rattle.std.proofs.Common.{sym, ap, ◌∙◌, subst}
 use mathlib.Core.Logic.{inl}
@@ -13,7 +13,7 @@ use Rattle.sup_replica.specs.declared.event.Act.TheVariants.{Event as Of, Stop, 
 use Rattle.sup_replica.specs.declared.refusal.Refusal.{Refusal}
 use Rattle.sup_replica.specs.declared.refusal.Refusal.TheVariants.{UnknownNode}
 use Rattle.sup_replica.specs.ByTables.{by_tables}
-use Rattle.sup_replica.specs.Stations.{Mail, StationMove, station_step}
+use Rattle.sup_replica.specs.Stations.{StationMove, station_step}
 use Rattle.sup_node.specs.Texts.{reads_as}
 use Rattle.sup_model.specs.declared.step.Step.{Step}
 use Rattle.sup_model.specs.declared.step.Step.TheVariants.{Node as AtNode}
