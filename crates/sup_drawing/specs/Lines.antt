@@ -37,7 +37,7 @@ with_answer n caption step (Err refusal) = refused n caption step refusal
 
 -- the log with what settling told
 abbrev pub with_settling : Noted → List ℕ → Result Settled Refusal → Noted
-with_settling n caption (Ok told) = settled n caption told.messages told.effects.items
+with_settling n caption (Ok told) = settled n caption told.messages told.effects
 with_settling n caption (Err refusal) = unsettled n caption refusal
 
 -- a line's step is no act that brings bytes: in a script these come by deliveries, and raw

@@ -166,6 +166,7 @@ module _ {K : Type 0} (k : Knowledge K) (view : StateView K) (laws : StateLaws k
     carries s here (a_delta by to n whole content) m sent also e =
         let comes = λ (t : NodeTrio K) (there : OccursIn j.trios t). let c : Comes k view laws j s t s.site.node.name (a_delta by to n whole content) m = record { sender = here; receiver = there; named = refl; sent = sent; also = also; stands = e } in c in (
           e.1,
+          e.2,
           λ p is_in same.
               let c = in-map pair_of j.trios p is_in in
               let u = c.0 in
@@ -177,6 +178,7 @@ module _ {K : Type 0} (k : Knowledge K) (view : StateView K) (laws : StateLaws k
     carries s here (a_push by to content) m sent also e =
         let comes = λ (t : NodeTrio K) (there : OccursIn j.trios t). let c : Comes k view laws j s t s.site.node.name (a_push by to content) m = record { sender = here; receiver = there; named = refl; sent = sent; also = also; stands = e } in c in (
           e.1,
+          e.2,
           λ p is_in same.
               let c = in-map pair_of j.trios p is_in in
               let u = c.0 in
@@ -184,7 +186,7 @@ module _ {K : Type 0} (k : Knowledge K) (view : StateView K) (laws : StateLaws k
               subst (λ (x : NodePair K). view.stands (k.with_more x.post.station.node.known content) (x.site.node.known ++ m.content)) (sym c.2)
               (brought k view laws u.post.station.node u.site.node content m.content (h.each u c.1).node.state b),
         )
-    carries s here (an_ack by to n) m sent also e = e.1
+    carries s here (an_ack by to n) m sent also e = (e.1, e.2)
 
     carries_all : (s : NodeTrio K) → OccursIn j.trios s → (xs : List (Mail K)) (ms : List (Message Ops)) → ((x : Mail K) → OccursIn xs x → OccursIn s.post.sent x) → ((m : Message Ops) → OccursIn ms m → OccursIn s.site.sent m)
         → AllMailStands view s.post.station.node.name s.post.station.node.count s.past xs ms → LettersCarry k view pairs xs ms

@@ -3,7 +3,7 @@ use Rattle.std.specs.Prelude.{ℕ, ◌≡◌, List, [], ◌∷◌, ◌++◌, map
 use Rattle.sup_specs.specs.Values.{Bytes}
 use Rattle.sup_replica.specs.declared.refusal.Refusal.{Refusal}
 use Rattle.sup_model.specs.Worlds.{WorldSetting, Ops, ModelWorld, ModelSite, ModelAnswer, new}
-use Rattle.sup_replica.specs.Nodes.{Knowledge, Message}
+use Rattle.sup_replica.specs.Nodes.{Knowledge, Message, delta as is_delta, push as is_push, ack as is_ack}
 use Rattle.sup_model.specs.declared.step.Step.{Step}
 use Rattle.sup_model.specs.Runs.{ModelRun}
 use Rattle.sup_anti_entropy.specs.Peers.{OccursIn}
@@ -42,10 +42,10 @@ module _ {K : Type 0} (k : Knowledge K) (view : StateView K) where
   -- a letter beside its message: the same receiver and kind; a delta or a push joined to its receiver's state, whoever that is now, stands for the receiver's operations and then the message's
   abbrev pub LetterCarries : List (NodePair K) → Mail K → Message Ops → Type 0
   LetterCarries pairs (a_delta from to number whole content) m =
-      (to ≡ m.to) × ((p : NodePair K) → OccursIn pairs p → to ≡ p.site.node.name → view.stands (k.with_more p.post.station.node.known content) (p.site.node.known ++ m.content))
+      (to ≡ m.to) × (m.kind ≡ is_delta) × ((p : NodePair K) → OccursIn pairs p → to ≡ p.site.node.name → view.stands (k.with_more p.post.station.node.known content) (p.site.node.known ++ m.content))
   LetterCarries pairs (a_push from to content) m =
-      (to ≡ m.to) × ((p : NodePair K) → OccursIn pairs p → to ≡ p.site.node.name → view.stands (k.with_more p.post.station.node.known content) (p.site.node.known ++ m.content))
-  LetterCarries pairs (an_ack from to number) m = to ≡ m.to
+      (to ≡ m.to) × (m.kind ≡ is_push) × ((p : NodePair K) → OccursIn pairs p → to ≡ p.site.node.name → view.stands (k.with_more p.post.station.node.known content) (p.site.node.known ++ m.content))
+  LetterCarries pairs (an_ack from to number) m = (to ≡ m.to) × (m.kind ≡ is_ack)
 
   abbrev pub LettersCarry : List (NodePair K) → List (Mail K) → List (Message Ops) → Type 0
   LettersCarry pairs [] [] = Unit {0}

@@ -52,7 +52,7 @@ pub record PrintsStep (weigher : Weigher) (s : Scene) (step : Step) (said : List
 
 -- what is printed of settling
 abbrev pub said_settled : Result Settled Refusal → List ℕ
-said_settled (Ok settled) = settled_text settled.messages settled.effects.items
+said_settled (Ok settled) = settled_text settled.messages settled.effects
 said_settled (Err refusal) = refusal_text refusal
 
 -- the running nodes settled, or began to, by steps of the world: how many messages their exchanges sent, and what is to be done; or why they ended early

@@ -1,5 +1,5 @@
 -- A step of the world that is a delivery, from what the act of its receiver answers.
-use Rattle.std.specs.Prelude.{◌≡◌, ℕ, ◌-◌, ◌<◌, ◌==◌, Bool, true, false, List, [], length, slice_get, slice_index_or, slice_set, Option, Some, None, Result, Err, refl, if◌then◌else◌}
+use Rattle.std.specs.Prelude.{◌≡◌, ℕ, ◌-◌, ◌<◌, ◌==◌, Bool, true, false, List, [], length, map, slice_get, slice_index_or, slice_set, Option, Some, None, Result, Err, IsErrAnd, refl, if◌then◌else◌}
 use Rattle.std.specs.Option.{option_map, option_and_then, unwrap_or}
 use Rattle.std.specs.List.{AllZip}
 use Rattle.std.proofs.Common.{sym, ap, ◌∙◌, subst}
@@ -23,13 +23,13 @@ use Rattle.sup_world.specs.Moves.{ReadsIn}
 use Rattle.sup_world.specs.CarriedSteps.{holds, failures_at, letter_of, receiver, seen_at, carried}
 use Rattle.sup_world.specs.ComingLetters.{IsComing, IsNotComing}
 use Rattle.sup_world.specs.SeenNodes.{SeenNode}
-use Rattle.sup_world.specs.ToldAnswers.{SiteStands, ShowsReal, NodeAnswers}
+use Rattle.sup_world.specs.ToldAnswers.{AnswersStep, SiteStands, ShowsReal, NodeAnswers}
 use Rattle.sup_world.specs.FollowedSteps.{MakesRealStep}
 use Rattle.sup_world.proofs.SitePlaceLaws.{place}
-use Rattle.sup_world.proofs.SeenListLaws.{seen_place}
+use Rattle.sup_world.proofs.SeenListLaws.{seen_place, within_seen, at_seen}
 use Rattle.sup_world.proofs.WorldStepLaws.{next, refuses}
 use Rattle.sup_world.proofs.LetterBytesLaws.{cut_text, as_read, reads_as_cut, letter_found, letter_absent, no_sender, no_letter, no_receiver, comes}
-use Rattle.sup_world.proofs.NodeActLaws.{Here, here, absent, acted, failures_here}
+use Rattle.sup_world.proofs.NodeActLaws.{Here, here, absent, acted, failures_here, told_on}
 
 mail_absent : (sent : List (Mail State)) (letters : List Letter) (k : ℕ) → AllZip IsLetter sent letters → (if k == 0 then None else slice_get letters (k - 1)) ≡ None → (if k == 0 then None else slice_get sent (k - 1)) ≡ None
 mail_absent sent letters k h =
@@ -101,10 +101,24 @@ module _ (g : Weigher) (real : RealWorld State) (sites : List SeenNode) (h : Sho
   -- a delivery, from a node in one place to one in another
   pub deliver_steps : (saves : Bool) (i : ℕ) (s : SeenNode) → i ≡ place sites from → i < length sites → s ≡ slice_index_or sites i s → (name : Bytes) (act : Act) → IsComing s k at drop name act
       → (j : ℕ) (old new : SeenNode) → j ≡ place sites name → j < length sites → old ≡ slice_index_or sites j old → new.name ≡ old.name → (result : Result Answer Refusal)
-      → ((post : StationPost State) (mail : Option (Mail State)) → SiteStands old post → ReadsIn act mail → NodeAnswers (station_step by_tables (reads_as mail) g post.station act now (holds saves old.failures)) post act result new)
+      → AnswersStep g old act now saves result new
       → MakesRealStep g real (carried sites (Delivery from k at drop now saves)) result (slice_set sites j new)
   deliver_steps saves i s is lt elem name act c j old new is' lt' elem' same result answers =
       let p = here g real sites h from i s is lt elem in
       let fails : failures_at sites (receiver sites from k at) ≡ old.failures = ap (failures_at sites) (receiver_is sites from k at drop s name act c i is lt elem) ∙ failures_here g real sites h name j old is' lt' elem' in
       subst (λ n. MakesRealStep g real (Delivery from k at drop now (holds saves n)) result (slice_set sites j new)) (sym fails)
       (delivered s p name act c (holds saves old.failures) j old new is' lt' elem' same result answers)
+
+-- a delivery that isn't made, from the list of nodes that the code has: its letter doesn't come, or there is no such receiver
+module _ {A : Type 0} (f : A → SeenNode) (xs : List A) (from : Bytes) {g : Weigher} {real : RealWorld State} (h : ShowsReal g (map f xs) real) (i : ℕ) (s : A) (at_place : i ≡ place (map f xs) from) (lt : i < length xs) (is : s ≡ slice_index_or xs i s) where
+  sender : Here real (f s) from
+  sender = here g real (map f xs) h from i (f s) at_place (within_seen f xs i s lt is) (at_seen f xs i s lt is)
+
+  pub tells_not_coming : {k : ℕ} {at : Option Bytes} {drop now : ℕ} {saves : Bool} {result : Result Answer Refusal} (r : Refusal) → IsErrAnd result (λ q. q ≡ r) → IsNotComing (f s) k r → MakesRealStep g real (Delivery from k at drop now saves) result (map f xs)
+  tells_not_coming {k} {at} {drop} {now} {saves} {result} r e c =
+      told_on g real (Delivery from k at drop now saves) (map f xs) result r r e refl (not_coming g real (map f xs) h from k at drop now (f s) sender saves r c)
+
+  pub tells_unreceived : {k : ℕ} {at : Option Bytes} {drop now : ℕ} {saves : Bool} {result : Result Answer Refusal} (r : Refusal) → IsErrAnd result (λ q. q ≡ r) → r ≡ UnknownNode → (name : Bytes) (act : Act) → IsComing (f s) k at drop name act
+      → place (map f xs) name ≡ length (map f xs) → MakesRealStep g real (Delivery from k at drop now saves) result (map f xs)
+  tells_unreceived {k} {at} {drop} {now} {saves} {result} r e unknown name act c away =
+      told_on g real (Delivery from k at drop now saves) (map f xs) result r UnknownNode e unknown (unreceived g real (map f xs) h from k at drop now (f s) sender name act c saves away)

@@ -20,6 +20,9 @@ use Rattle.sup_world.proofs.TallyLaws.{notes_none, notes_then}
 abbrev pub done : Result (Unit {0}) Refusal
 done = Ok tt
 
+abbrev pub refused : Refusal → Result (Unit {0}) Refusal
+refused r = Err r
+
 -- with the exchanges of more pairs behind
 exchanged_then : (w mid after : ModelWorld) (pairs more : List (Bytes × Bytes)) (xs ys : List (Result Expected Refusal)) → AllExchanged w pairs xs mid → AllExchanged mid more ys after → AllExchanged w (pairs ++ more) (xs ++ ys) after
 exchanged_then w mid after [] more xs ys h g =
@@ -86,6 +89,22 @@ module _ (weigher : Weigher) where
         → ((mid : ModelWorld) → StandsFor weigher sites mid → ExchangesPairs weigher mid (f name ∷ []) u result v new) → ExchangesPairs weigher model (map f (take (i + 1) names)) t result v new
     goes_more model t u v result sites new h g =
         subst (λ pairs. ExchangesPairs weigher model pairs t result v new) (sym taken) (goes_on model (map f (take i names)) (f name ∷ []) t u v result sites new h g)
+
+    -- the same, where the pair is told otherwise: it ended early; or it exchanged, and here are the notes and the world then
+    module _ {pair : Bytes × Bytes} (own : pair ≡ f name) {model : ModelWorld} {t u : Tally} {sites : List SeenNode} (before : ExchangesPairs weigher model (map f (take i names)) t done u sites) where
+      own_goes : (result : Result (Unit {0}) Refusal) (v : Tally) (new : List SeenNode) → ((mid : ModelWorld) → StandsFor weigher sites mid → ExchangesPairs weigher mid (pair ∷ []) u result v new)
+          → ExchangesPairs weigher model (map f (take (i + 1) names)) t result v new
+      own_goes result v new here = goes_more model t u v result sites new before (λ mid s. subst (λ p. ExchangesPairs weigher mid (p ∷ []) u result v new) own (here mid s))
+
+      pub goes_ended : {r : Refusal} {result : Result (Unit {0}) Refusal} {v : Tally} {new : List SeenNode} → IsErrAnd result (λ q. q ≡ r)
+          → ((mid : ModelWorld) → StandsFor weigher sites mid → ExchangesPairs weigher mid (pair ∷ []) u (refused r) v new) → ExchangesPairs weigher model (map f names) t result v new
+      goes_ended {r} {result} {v} {new} e here = goes_off model f names (i + 1) t v new (refused r) result r refl e (own_goes (refused r) v new here)
+
+      pub goes_further : {v w : Tally} {new after : List SeenNode} → w ≡ v → after ≡ new → ((mid : ModelWorld) → StandsFor weigher sites mid → ExchangesPairs weigher mid (pair ∷ []) u done v new)
+          → ExchangesPairs weigher model (map f (take (i + 1) names)) t done w after
+      goes_further {v} {w} {new} {after} e f' here =
+          subst (λ y. ExchangesPairs weigher model (map f (take (i + 1) names)) t done y after) (sym e)
+          (subst (λ s. ExchangesPairs weigher model (map f (take (i + 1) names)) t done v s) (sym f') (own_goes done v new here))
 
 -- no keeper failed in two calls
 pub no_more_then : (old mid new : List SeenNode) → AllZip FailedNoMore old mid → AllZip FailedNoMore mid new → AllZip FailedNoMore old new

@@ -21,10 +21,9 @@ use Rattle.sup_world.specs.Exchanges.{ends, running}
 use Rattle.sup_world.specs.declared.settling.Way.TheVariants.{In, Out}
 use Rattle.sup_world.specs.Runs.{StepGoes, RanSteps}
 use Rattle.sup_world.specs.SeenNodes.{SeenNode}
-use Rattle.sup_world.specs.SettledSites.{pairs_of}
-use Rattle.sup_world.specs.Settlements.{Answered, sends, messages_in, effects_with, effects_in, IsToldOn, IsBrought, IsExchange, AreExchanges, StepEnds, EndsAtShip, EndsAtArrival, EndsAtLast, EndsIn, EndsAmong, NotesAll, IsNotedAs, IsShipNotedAs, MakesOne, ShipsOne, PairsCome, MakesPairs, AreRunning, IsToldBy, SettlesBy}
+use Rattle.sup_world.specs.Settlements.{Answered, sends, messages_in, effects_with, effects_in, IsToldOn, IsBrought, IsExchange, AreExchanges, StepEnds, EndsIn, EndsAmong, NotesAll, IsNotedAs, IsShipNotedAs, MakesOne, ShipsOne, PairsCome, MakesPairs, IsToldBy, SettlesBy}
 use Rattle.sup_world.specs.Tallies.{numbers_with, effects_by}
-use Rattle.sup_world.proofs.ExchangeListLaws.{done}
+use Rattle.sup_world.proofs.ExchangeListLaws.{done, refused}
 use Rattle.sup_world.proofs.ReachedWorldLaws.{leads_on}
 use Rattle.sup_world.proofs.SettlementLaws.{IsBegun}
 
@@ -182,6 +181,19 @@ module _ (g : Weigher) where
     pairs_more t u v result sites mid new h k =
         subst (λ pairs. MakesPairs g sites pairs t result v new) (sym taken) (pairs_on (map f (take i names)) (f name ∷ []) t u v result sites mid new h k)
 
+    -- the same, where the pair is told otherwise: it ended early; or it exchanged, and here are the notes and the world then
+    module _ {pair : Bytes × Bytes} (own : pair ≡ f name) {t u : Tally} {sites mid : List SeenNode} (before : MakesPairs g sites (map f (take i names)) t done u mid) where
+      own_pair : (result : Result (Unit {0}) Refusal) (v : Tally) (new : List SeenNode) → MakesPairs g mid (pair ∷ []) u result v new → MakesPairs g sites (map f (take (i + 1) names)) t result v new
+      own_pair result v new here = pairs_more t u v result sites mid new before (subst (λ p. MakesPairs g mid (p ∷ []) u result v new) own here)
+
+      pub pairs_ended : {r : Refusal} {result : Result (Unit {0}) Refusal} {v : Tally} {new : List SeenNode} → IsErrAnd result (λ q. q ≡ r) → MakesPairs g mid (pair ∷ []) u (refused r) v new → MakesPairs g sites (map f names) t result v new
+      pairs_ended {r} {result} {v} {new} e here = pairs_off f names (i + 1) t v sites new (refused r) result r refl e (own_pair (refused r) v new here)
+
+      pub pairs_further : {v w : Tally} {new after : List SeenNode} → w ≡ v → after ≡ new → MakesPairs g mid (pair ∷ []) u done v new → MakesPairs g sites (map f (take (i + 1) names)) t done w after
+      pairs_further {v} {w} {new} {after} e f' here =
+          subst (λ y. MakesPairs g sites (map f (take (i + 1) names)) t done y after) (sym e)
+          (subst (λ s. MakesPairs g sites (map f (take (i + 1) names)) t done v s) (sym f') (own_pair done v new here))
+
   -- one exchange, by where it ends
   module _ (a b : Bytes) (t : Tally) (sites : List SeenNode) where
     pair_of : {X : Type 0} (steps : List Step) (answers : List Answered) (x : X) (u : Tally) (new : List SeenNode) → RanSteps g sites steps answers new → IsExchange a b steps answers → NotesAll answers t u → MakesPairs g sites ((a, b) ∷ []) t (Ok x) u new
@@ -191,16 +203,6 @@ module _ (g : Weigher) where
         → MakesPairs g sites ((a, b) ∷ []) t result u new
     ended steps answers r result u new e ran is = record { steps = steps; answers = answers; ran = ran; come = come_as ((a, b) ∷ []) steps answers t u result r e (inl is) }
 
-    ends_ship : (answer : Answered) (u : Tally) (r : Refusal) → IsShipNotedAs answer t (Err r) u → StepEnds answer r × (r ≢ UpToDate)
-    ends_ship (Ok x) u r h = (h, λ e. memory_is_not (sym h ∙ e))
-    ends_ship (Err q) u r h = h
-
-    -- the ship ended it
-    pub pair_unsent : {X : Type 0} (u : Tally) (r : Refusal) (result : Result X Refusal) (new : List SeenNode) → IsErrAnd result (λ q. q ≡ r) → ShipsOne g sites a b t (Err r) u new → MakesPairs g sites ((a, b) ∷ []) t result u new
-    pair_unsent u r result new e s =
-        let k = ends_ship s.answer u r s.noted in
-        ended (ship_of a b ∷ []) (s.answer ∷ []) r result u new e (new, s.goes, refl) (inl (record { last = s.answer; steps_are = refl; answers_are = refl; ends = k.0; not_passed = k.1 }))
-
     passed : (answer : Answered) (u : Tally) (new : List SeenNode) → StepGoes g sites (ship_of a b) answer new → IsShipNotedAs answer t (Ok None) u → MakesPairs g sites ((a, b) ∷ []) t done u new
     passed (Ok x) u new goes h =
         pair_of (ship_of a b ∷ []) (Ok x ∷ []) tt u new (new, goes, refl)
@@ -209,12 +211,8 @@ module _ (g : Weigher) where
         pair_of (ship_of a b ∷ []) (Err q ∷ []) tt u new (new, goes, refl)
         (inl (refl, ap (λ (p : Refusal). let rs : List Answered = Err p ∷ [] in rs) h.0)) (notes_passed t u q h.2)
 
-    -- it was up to date
-    pub pair_passed : (u : Tally) (new : List SeenNode) → ShipsOne g sites a b t (Ok None) u new → MakesPairs g sites ((a, b) ∷ []) t done u new
-    pair_passed u new s = passed s.answer u new s.goes s.noted
-
     -- a ship that was numbered
-    pub record Sent (k : ℕ) (u : Tally) (mid : List SeenNode) : Type 0 where
+    record Sent (k : ℕ) (u : Tally) (mid : List SeenNode) : Type 0 where
       pub shipped : Answer
       pub goes : StepGoes g sites (ship_of a b) (Ok shipped) mid
       pub number : shipped.number ≡ Some k
@@ -224,22 +222,12 @@ module _ (g : Weigher) where
     sent_as (Ok x) k u mid goes h = record { shipped = x; goes = goes; number = sym h.0; notes = h.1 }
     sent_as (Err q) k u mid goes h = absurd (none-some k (sym h.1))
 
-    pub sent : (k : ℕ) (u : Tally) (mid : List SeenNode) → ShipsOne g sites a b t (Ok (Some k)) u mid → Sent k u mid
-    sent k u mid s = sent_as s.answer k u mid s.goes s.noted
-
     module _ (k : ℕ) (u : Tally) (mid : List SeenNode) (s : Sent k u mid) where
-      ends_one : (answer : Answered) (u v : Tally) (r : Refusal) → IsNotedAs answer u (Err r) v → StepEnds answer r
-      ends_one (Ok x) u v r h = h
-      ends_one (Err q) u v r h = h.0
-
-      -- its delivery ended it
-      pub pair_unbrought : {X : Type 0} (v : Tally) (r : Refusal) (result : Result X Refusal) (new : List SeenNode) → IsErrAnd result (λ q. q ≡ r) → MakesOne g mid (arrival a k) u (Err r) v new → MakesPairs g sites ((a, b) ∷ []) t result v new
-      pair_unbrought v r result new e m =
-          ended (ship_of a b ∷ arrival a k ∷ []) (Ok s.shipped ∷ m.answer ∷ []) r result v new e (mid, s.goes, (new, m.goes, refl))
-          (inr (inl (record { shipped = s.shipped; k = k; number = s.number; last = m.answer; steps_are = refl; answers_are = refl; ends = ends_one m.answer u v r m.noted })))
+      brought : (x : Answer) (more : List Step) (rest : List Answered) → IsToldOn b x.number more rest → IsBrought a b s.shipped.number (arrival a k ∷ more) (Ok x ∷ rest)
+      brought x more rest h = subst (λ (o : Option ℕ). IsBrought a b o (arrival a k ∷ more) (Ok x ∷ rest)) (sym s.number) (x, more, rest, refl, refl, h)
 
       -- a delivery that was answered
-      pub record Came (o : Option ℕ) (v : Tally) (near : List SeenNode) : Type 0 where
+      record Came (o : Option ℕ) (v : Tally) (near : List SeenNode) : Type 0 where
         pub came : Answer
         pub goes : StepGoes g mid (arrival a k) (Ok came) near
         pub number : came.number ≡ o
@@ -249,35 +237,72 @@ module _ (g : Weigher) where
       came_as (Ok x) o v near goes h = record { came = x; goes = goes; number = sym h.0; notes = notes_then (Ok s.shipped ∷ []) (Ok x ∷ []) t u v s.notes h.1 }
       came_as (Err q) o v near goes h = absurd h
 
-      pub came : (o : Option ℕ) (v : Tally) (near : List SeenNode) → MakesOne g mid (arrival a k) u (Ok o) v near → Came o v near
-      came o v near m = came_as m.answer o v near m.goes m.noted
+      told : (n : ℕ) (v : Tally) (near : List SeenNode) (c : Came (Some n) v near) (answer : Answered) (o : Option ℕ) (z : Tally) (new : List SeenNode) → StepGoes g near (arrival b n) answer new → IsNotedAs answer v (Ok o) z
+          → MakesPairs g sites ((a, b) ∷ []) t done z new
+      told n v near c (Ok y) o z new goes h =
+          pair_of (ship_of a b ∷ arrival a k ∷ arrival b n ∷ []) (Ok s.shipped ∷ Ok c.came ∷ Ok y ∷ []) tt z new (mid, s.goes, (near, c.goes, (new, goes, refl)))
+          (inr (s.shipped, arrival a k ∷ arrival b n ∷ [], Ok c.came ∷ Ok y ∷ [], refl, refl, brought c.came (arrival b n ∷ []) (Ok y ∷ []) (subst (λ (p : Option ℕ). IsToldOn b p (arrival b n ∷ []) (Ok y ∷ [])) (sym c.number) (y, refl, refl))))
+          (notes_then (Ok s.shipped ∷ Ok c.came ∷ []) (Ok y ∷ []) t v z c.notes h.1)
+      told n v near c (Err q) o z new goes h = absurd h
 
-      brought : (x : Answer) (more : List Step) (rest : List Answered) → IsToldOn b x.number more rest → IsBrought a b s.shipped.number (arrival a k ∷ more) (Ok x ∷ rest)
-      brought x more rest h = subst (λ (o : Option ℕ). IsBrought a b o (arrival a k ∷ more) (Ok x ∷ rest)) (sym s.number) (x, more, rest, refl, refl, h)
+  ends_ship : (answer : Answered) (t u : Tally) (r : Refusal) → IsShipNotedAs answer t (Err r) u → StepEnds answer r × (r ≢ UpToDate)
+  ends_ship (Ok x) t u r h = (h, λ e. memory_is_not (sym h ∙ e))
+  ends_ship (Err q) t u r h = h
 
-      -- no message left with it
-      pub pair_silent : (v : Tally) (new : List SeenNode) → Came None v new → MakesPairs g sites ((a, b) ∷ []) t done v new
-      pair_silent v new c =
-          pair_of (ship_of a b ∷ arrival a k ∷ []) (Ok s.shipped ∷ Ok c.came ∷ []) tt v new (mid, s.goes, (new, c.goes, refl))
-          (inr (s.shipped, arrival a k ∷ [], Ok c.came ∷ [], refl, refl, brought c.came [] [] (subst (λ (o : Option ℕ). IsToldOn b o [] []) (sym c.number) (refl, refl)))) c.notes
+  ends_one : (answer : Answered) (u v : Tally) (r : Refusal) → IsNotedAs answer u (Err r) v → StepEnds answer r
+  ends_one (Ok x) u v r h = h
+  ends_one (Err q) u v r h = h.0
 
-      module _ (n : ℕ) (v : Tally) (near : List SeenNode) (c : Came (Some n) v near) where
-        -- the acknowledgement's delivery ended it
-        pub pair_untold : {X : Type 0} (z : Tally) (r : Refusal) (result : Result X Refusal) (new : List SeenNode) → IsErrAnd result (λ q. q ≡ r) → MakesOne g near (arrival b n) v (Err r) z new → MakesPairs g sites ((a, b) ∷ []) t result z new
-        pair_untold z r result new e m =
-            ended (ship_of a b ∷ arrival a k ∷ arrival b n ∷ []) (Ok s.shipped ∷ Ok c.came ∷ m.answer ∷ []) r result z new e (mid, s.goes, (near, c.goes, (new, m.goes, refl)))
-            (inr (inr (record { shipped = s.shipped; k = k; number = s.number; came = c.came; n = n; acknowledges = c.number; last = m.answer; steps_are = refl; answers_are = refl; ends = ends_one m.answer v z r m.noted })))
+  -- the same, from what the steps of an exchange gave
+  module _ {a b : Bytes} {t u : Tally} {sites mid : List SeenNode} where
+    -- the ship ended it
+    pub pair_unsent : {X : Type 0} {r : Refusal} {result : Result X Refusal} → IsErrAnd result (λ q. q ≡ r) → ShipsOne g sites a b t (Err r) u mid → MakesPairs g sites ((a, b) ∷ []) t result u mid
+    pair_unsent {X} {r} {result} e s =
+        let k = ends_ship s.answer t u r s.noted in
+        ended a b t sites (ship_of a b ∷ []) (s.answer ∷ []) r result u mid e (mid, s.goes, refl) (inl (record { last = s.answer; steps_are = refl; answers_are = refl; ends = k.0; not_passed = k.1 }))
 
-        told : (answer : Answered) (o : Option ℕ) (z : Tally) (new : List SeenNode) → StepGoes g near (arrival b n) answer new → IsNotedAs answer v (Ok o) z → MakesPairs g sites ((a, b) ∷ []) t done z new
-        told (Ok y) o z new goes h =
-            pair_of (ship_of a b ∷ arrival a k ∷ arrival b n ∷ []) (Ok s.shipped ∷ Ok c.came ∷ Ok y ∷ []) tt z new (mid, s.goes, (near, c.goes, (new, goes, refl)))
-            (inr (s.shipped, arrival a k ∷ arrival b n ∷ [], Ok c.came ∷ Ok y ∷ [], refl, refl, brought c.came (arrival b n ∷ []) (Ok y ∷ []) (subst (λ (p : Option ℕ). IsToldOn b p (arrival b n ∷ []) (Ok y ∷ [])) (sym c.number) (y, refl, refl))))
-            (notes_then (Ok s.shipped ∷ Ok c.came ∷ []) (Ok y ∷ []) t v z c.notes h.1)
-        told (Err q) o z new goes h = absurd h
+    -- it was up to date
+    pub pair_passed : {o : Option ℕ} → o ≡ None → ShipsOne g sites a b t (Ok o) u mid → MakesPairs g sites ((a, b) ∷ []) t done u mid
+    pair_passed is s =
+        let p = subst (λ (q : Option ℕ). ShipsOne g sites a b t (Ok q) u mid) is s in
+        passed a b t sites p.answer u mid p.goes p.noted
 
-        -- all three were made
-        pub pair_done : (o : Option ℕ) (z : Tally) (new : List SeenNode) → MakesOne g near (arrival b n) v (Ok o) z new → MakesPairs g sites ((a, b) ∷ []) t done z new
-        pair_done o z new m = told m.answer o z new m.goes m.noted
+    module _ {o : Option ℕ} {k : ℕ} (is : o ≡ Some k) (s : ShipsOne g sites a b t (Ok o) u mid) where
+      sending : Sent a b t sites k u mid
+      sending =
+          let p = subst (λ (q : Option ℕ). ShipsOne g sites a b t (Ok q) u mid) is s in
+          sent_as a b t sites p.answer k u mid p.goes p.noted
+
+      -- its delivery ended it
+      pub pair_unbrought : {X : Type 0} {v : Tally} {r : Refusal} {result : Result X Refusal} {new : List SeenNode} → IsErrAnd result (λ q. q ≡ r) → MakesOne g mid (arrival a k) u (Err r) v new → MakesPairs g sites ((a, b) ∷ []) t result v new
+      pair_unbrought {X} {v} {r} {result} {new} e m =
+          ended a b t sites (ship_of a b ∷ arrival a k ∷ []) (Ok sending.shipped ∷ m.answer ∷ []) r result v new e (mid, sending.goes, (new, m.goes, refl))
+          (inr (inl (record { shipped = sending.shipped; k = k; number = sending.number; last = m.answer; steps_are = refl; answers_are = refl; ends = ends_one m.answer u v r m.noted })))
+
+      module _ {v : Tally} {near : List SeenNode} {p : Option ℕ} (m : MakesOne g mid (arrival a k) u (Ok p) v near) where
+        arriving : (q : Option ℕ) → p ≡ q → Came a b t sites k u mid sending q v near
+        arriving q e =
+            let n = subst (λ (x : Option ℕ). MakesOne g mid (arrival a k) u (Ok x) v near) e m in
+            came_as a b t sites k u mid sending n.answer q v near n.goes n.noted
+
+        -- no message left with it
+        pub pair_silent : p ≡ None → MakesPairs g sites ((a, b) ∷ []) t done v near
+        pair_silent e =
+            let c = arriving None e in
+            pair_of a b t sites (ship_of a b ∷ arrival a k ∷ []) (Ok sending.shipped ∷ Ok c.came ∷ []) tt v near (mid, sending.goes, (near, c.goes, refl))
+            (inr (sending.shipped, arrival a k ∷ [], Ok c.came ∷ [], refl, refl, brought a b t sites k u mid sending c.came [] [] (subst (λ (x : Option ℕ). IsToldOn b x [] []) (sym c.number) (refl, refl)))) c.notes
+
+        module _ {n : ℕ} (e : p ≡ Some n) where
+          -- the acknowledgement's delivery ended it
+          pub pair_untold : {X : Type 0} {z : Tally} {r : Refusal} {result : Result X Refusal} {new : List SeenNode} → IsErrAnd result (λ q. q ≡ r) → MakesOne g near (arrival b n) v (Err r) z new → MakesPairs g sites ((a, b) ∷ []) t result z new
+          pair_untold {X} {z} {r} {result} {new} f l =
+              let c = arriving (Some n) e in
+              ended a b t sites (ship_of a b ∷ arrival a k ∷ arrival b n ∷ []) (Ok sending.shipped ∷ Ok c.came ∷ l.answer ∷ []) r result z new f (mid, sending.goes, (near, c.goes, (new, l.goes, refl)))
+              (inr (inr (record { shipped = sending.shipped; k = k; number = sending.number; came = c.came; n = n; acknowledges = c.number; last = l.answer; steps_are = refl; answers_are = refl; ends = ends_one l.answer v z r l.noted })))
+
+          -- all three were made
+          pub pair_done : {q : Option ℕ} {z : Tally} {new : List SeenNode} → MakesOne g near (arrival b n) v (Ok q) z new → MakesPairs g sites ((a, b) ∷ []) t done z new
+          pair_done {q} {z} {new} l = told a b t sites k u mid sending n v near (arriving (Some n) e) l.answer q z new l.goes l.noted
 
   -- settling
   cut : (sites : List SeenNode) (steps : List Step) (answers : List Answered) (result : Result Settled Refusal) (r : Refusal) → IsErrAnd result (λ q. q ≡ r) → IsToldBy sites steps answers (Err r) → IsToldBy sites steps answers result
@@ -292,24 +317,24 @@ module _ (g : Weigher) where
   settles_unnamed sites result e = settles sites sites [] [] result refl (cut sites [] [] result OutOfMemory e (inl (refl, refl, refl)))
 
   -- no node runs
-  pub settles_none : (sites : List SeenNode) (t : Tally) (settled : Settled) → IsSorted text_cmp [] → IsPermutation (running sites) [] → IsBegun t → settled.messages ≡ length t.sent.items → settled.effects.items ≡ t.effects.items
+  pub settles_none : (sites : List SeenNode) (t : Tally) (settled : Settled) → IsSorted text_cmp [] → IsPermutation (running sites) [] → IsBegun t → settled.messages ≡ length t.sent.items → settled.effects ≡ t.effects.items
       → SettlesBy g sites (Ok settled) sites
   settles_none sites t settled sorted all b m e = settles sites sites [] [] (Ok settled) refl ([], record { sorted = sorted; all = all }, (refl, refl), m ∙ ap length b.0, e ∙ b.1)
 
   module _ (first : Bytes) (others : List Bytes) (t u v : Tally) (sites mid new : List SeenNode) (sorted : IsSorted text_cmp (first ∷ others)) (all : IsPermutation (running sites) (first ∷ others)) where
-    pub settles_in : (r : Refusal) (result : Result Settled Refusal) → IsErrAnd result (λ q. q ≡ r) → MakesPairs g sites (map (ends In first) others) t (let x : Result (Unit {0}) Refusal = Err r in x) u new → SettlesBy g sites result new
+    pub settles_in : (r : Refusal) (result : Result Settled Refusal) → IsErrAnd result (λ q. q ≡ r) → MakesPairs g sites (map (ends In first) others) t (refused r) u new → SettlesBy g sites result new
     settles_in r result e h =
         settles sites new h.steps h.answers result h.ran
         (cut sites h.steps h.answers result r e (inr (first ∷ others, record { sorted = sorted; all = all }, ends_more (map (ends In first) others) (map (ends Out first) others) h.steps h.answers r h.come)))
 
     pub settles_out : (r : Refusal) (result : Result Settled Refusal) → IsErrAnd result (λ q. q ≡ r) → MakesPairs g sites (map (ends In first) others) t done u mid
-        → MakesPairs g mid (map (ends Out first) others) u (let x : Result (Unit {0}) Refusal = Err r in x) v new → SettlesBy g sites result new
+        → MakesPairs g mid (map (ends Out first) others) u (refused r) v new → SettlesBy g sites result new
     settles_out r result e h k =
-        let both = pairs_on (map (ends In first) others) (map (ends Out first) others) t u v (let x : Result (Unit {0}) Refusal = Err r in x) sites mid new h k in
+        let both = pairs_on (map (ends In first) others) (map (ends Out first) others) t u v (refused r) sites mid new h k in
         settles sites new both.steps both.answers result both.ran (cut sites both.steps both.answers result r e (inr (first ∷ others, record { sorted = sorted; all = all }, both.come)))
 
     pub settles_both : (settled : Settled) → IsBegun t → MakesPairs g sites (map (ends In first) others) t done u mid → MakesPairs g mid (map (ends Out first) others) u done v new
-        → settled.messages ≡ length v.sent.items → settled.effects.items ≡ v.effects.items → SettlesBy g sites (Ok settled) new
+        → settled.messages ≡ length v.sent.items → settled.effects ≡ v.effects.items → SettlesBy g sites (Ok settled) new
     settles_both settled b h k m e =
         let both = pairs_on (map (ends In first) others) (map (ends Out first) others) t u v done sites mid new h k in
         let none : length t.sent.items ≡ 0 = ap length b.0 in

@@ -1,8 +1,10 @@
 -- A step of the code's world follows the model, by the law of the definitions.
-use Rattle.std.specs.Prelude.{◌≡◌, not, Bool, true, false, List, is_some, Option, Some, None, Result, Ok, Err, unwrap_or, refl}
+use Rattle.std.specs.Prelude.{◌≡◌, not, Bool, true, false, List, map, is_some, Option, Some, None, Result, Ok, Err, OnErr, unwrap_or, refl}
+use Rattle.std.specs.List.{AllZip}
 use Rattle.std.proofs.Common.{sym, ap, ◌∙◌, subst}
 use mathlib.Core.Logic.{inl, inr}
 use Rattle.sup_specs.specs.Values.{Bytes}
+use Rattle.sup_causal.proofs.DotLemmas.{on_err}
 use Rattle.sup_tables.specs.States.{State}
 use Rattle.sup_placement.specs.Place.{Weigher}
 use Rattle.sup_replica.specs.declared.refusal.Refusal.{Refusal}
@@ -21,10 +23,12 @@ use Rattle.sup_model.specs.TableViews.{table_view}
 use Rattle.sup_model.specs.Follows.{StepMakes, WorldStandsFor, StepFollows as IsFollowing}
 use Rattle.sup_model.proofs.FollowLaws.{steps_follow}
 use Rattle.sup_world.specs.declared.answer.Answer.{Answer}
-use Rattle.sup_world.specs.CarriedSteps.{carried, KnowsBytes}
-use Rattle.sup_world.specs.SeenNodes.{SeenNode}
+use Rattle.sup_world.specs.CarriedSteps.{carried, lets_save, KnowsBytes, OthersStay}
+use Rattle.sup_world.specs.Runs.{StepGoes}
+use Rattle.sup_world.specs.SeenNodes.{SeenNode, IsAsBefore, FailedOnceAtMost, FailedNoMore, IsTold}
 use Rattle.sup_world.specs.ToldAnswers.{ShowsReal, TellsOf}
-use Rattle.sup_world.specs.FollowedSteps.{MakesRealStep, StandsFor, IsAsOf, FollowsModel}
+use Rattle.sup_world.specs.FollowedSteps.{CarriesOut, MakesRealStep, StandsFor, IsAsOf, FollowsModel}
+use Rattle.sup_world.proofs.SeenListLaws.{all_same, as_before, once_at_most, no_more, untold}
 
 -- a letter has a number exactly where it is there
 abbrev Lettered : Result (RealStepped State) Refusal → Type 0
@@ -108,3 +112,34 @@ pub steps_as : (g : Weigher) (sites new : List SeenNode) (model : ModelWorld) (s
 steps_as g sites new model step result steps s knows =
     let e : model.is_message ≡ reads s.real.codec = ap (λ (m : ModelWorld). m.is_message) s.stands.model_is ∙ ap (λ (r : RealWorld State). reads r.codec) (sym s.stands.real_is) in
     follows g s.real model (carried sites step) result new s.stands (steps s.real s.shows (knows_by model.is_message s.real step e knows))
+
+-- a step that a world makes on its nodes, which are lent and come back
+pub goes_lent : {A : Type 0} (f : A → SeenNode) (g : Weigher) (lent all new back : List A) (step told : Step) (answer : Result Answer Refusal) → lent ≡ all → back ≡ new → step ≡ told → CarriesOut g (map f lent) told answer (map f new)
+    → OnErr answer (AllZip IsAsBefore (map f lent) (map f new)) → AllZip FailedOnceAtMost (map f lent) (map f new) → (lets_save told ≡ true → AllZip FailedNoMore (map f lent) (map f new))
+    → AllZip (IsTold answer) (map f lent) (map f new) → OthersStay (map f lent) told (map f new) → StepGoes g (map f all) step answer (map f back)
+goes_lent f g lent all new back step told answer is ends named makes refused counted uncounted tells others =
+    let goes : StepGoes g (map f lent) told answer (map f new) = record {
+      steps = λ real h knows. makes real h;
+      follows = λ model s knows. steps_as g (map f lent) (map f new) model told answer (λ real h k. makes real h) s knows;
+      refused = refused;
+      counted = counted;
+      uncounted = uncounted;
+      told = tells;
+      others = others;
+    } in
+    subst (λ (s : Step). StepGoes g (map f all) s answer (map f back)) (sym named)
+    (subst (λ xs. StepGoes g (map f all) told answer (map f xs)) (sym ends)
+    (subst (λ xs. StepGoes g (map f xs) told answer (map f new)) is goes))
+
+-- one that changes nothing, since its bytes are refused
+pub raw_goes : (g : Weigher) (sites : List SeenNode) (step : Step) (answer : Result Answer Refusal)
+    → ((real : RealWorld State) → ShowsReal g sites real → KnowsBytes (reads real.codec) step → MakesRealStep g real (carried sites step) answer sites) → StepGoes g sites step answer sites
+raw_goes g sites step answer steps = record {
+  steps = steps;
+  follows = λ model s knows. steps_as g sites sites model step answer steps s knows;
+  refused = on_err answer (all_same IsAsBefore as_before sites);
+  counted = all_same FailedOnceAtMost once_at_most sites;
+  uncounted = λ e. all_same FailedNoMore no_more sites;
+  told = all_same (IsTold answer) (untold answer) sites;
+  others = λ name other. refl;
+}

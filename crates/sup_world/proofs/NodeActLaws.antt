@@ -1,5 +1,5 @@
 -- A step of the world that is an act at a node, from what the act of that node answers.
-use Rattle.std.specs.Prelude.{◌≡◌, ℕ, ◌<◌, Bool, true, false, List, length, is_some, slice_index_or, slice_set, Option, Some, None, Result, Ok, Err}
+use Rattle.std.specs.Prelude.{◌≡◌, ℕ, ◌<◌, Bool, true, false, List, length, is_some, slice_index_or, slice_set, Some, None, Result, Ok, Err}
 use Rattle.std.specs.Result.{IsErrAnd}
 use Rattle.std.proofs.Common.{sym, ap, ◌∙◌, subst}
 use mathlib.Core.Logic.{inl}
@@ -13,7 +13,7 @@ use Rattle.sup_replica.specs.declared.event.Act.TheVariants.{Event as Of, Stop, 
 use Rattle.sup_replica.specs.declared.refusal.Refusal.{Refusal}
 use Rattle.sup_replica.specs.declared.refusal.Refusal.TheVariants.{UnknownNode}
 use Rattle.sup_replica.specs.ByTables.{by_tables}
-use Rattle.sup_replica.specs.Stations.{Mail, StationMove, station_step}
+use Rattle.sup_replica.specs.Stations.{StationMove, station_step}
 use Rattle.sup_node.specs.Texts.{reads_as}
 use Rattle.sup_model.specs.declared.step.Step.{Step}
 use Rattle.sup_model.specs.declared.step.Step.TheVariants.{Node as AtNode}
@@ -23,7 +23,7 @@ use Rattle.sup_model.specs.Runs.{may_want}
 use Rattle.sup_world.specs.Moves.{ReadsIn, wants}
 use Rattle.sup_world.specs.CarriedSteps.{brings_bytes, holds, failures_at, carried}
 use Rattle.sup_world.specs.SeenNodes.{SeenNode}
-use Rattle.sup_world.specs.ToldAnswers.{SiteStands, ShowsReal, NodeAnswers}
+use Rattle.sup_world.specs.ToldAnswers.{AnswersStep, SiteStands, ShowsReal, NodeAnswers}
 use Rattle.sup_world.specs.FollowedSteps.{MakesRealStep}
 use Rattle.sup_world.proofs.SitePlaceLaws.{place, name_of, at_place, no_place}
 use Rattle.sup_world.proofs.SeenListLaws.{failures_place, element}
@@ -85,7 +85,7 @@ module _ (g : Weigher) (real : RealWorld State) (sites : List SeenNode) (h : Sho
   -- an act at a node
   pub act_steps : (at : Bytes) (act : Act) (now : ℕ) (saves : Bool) (i : ℕ) (old new : SeenNode) → i ≡ place sites at → i < length sites → old ≡ slice_index_or sites i old → new.name ≡ old.name
       → brings_bytes act ≡ false → target_here real act ≡ true → (result : Result Answer Refusal)
-      → ((post : StationPost State) (mail : Option (Mail State)) → SiteStands old post → ReadsIn act mail → NodeAnswers (station_step by_tables (reads_as mail) g post.station act now (holds saves old.failures)) post act result new)
+      → AnswersStep g old act now saves result new
       → MakesRealStep g real (carried sites (AtNode at act now saves)) result (slice_set sites i new)
   act_steps at act now saves i old new is lt elem same plain target result answers =
       let p = here at i old is lt elem in

@@ -1,9 +1,9 @@
 -- Steps from a new world lead to a run of the model, of which the headline holds.
 use Rattle.std.specs.Prelude.{◌≡◌, ◌≤◌, ◌<◌, ◌+◌, ℕ, Bool, All, List, [], ◌∷◌, ◌++◌, length, map, IfSome, is_some, Option, Some, None, Result, refl}
 use Rattle.std.specs.List.{AllZip, AllByRecursion}
-use Rattle.std.proofs.Common.{sym, ap, ◌∙◌, subst, arith, append_assoc}
+use Rattle.std.proofs.Common.{sym, ◌∙◌, subst, arith, append_assoc}
 use Rattle.std.proofs.lemmas.List.{append-nil, length-append}
-use Rattle.std.proofs.lemmas.List.Elements.{recursion_from_All, All-from_recursion}
+use Rattle.std.proofs.lemmas.List.Elements.{recursion_from_All}
 use mathlib.Core.Logic.{inl, inr}
 use Rattle.sup_specs.specs.Values.{Bytes}
 use Rattle.sup_tables.specs.States.{State}
@@ -19,7 +19,7 @@ use Rattle.sup_model.specs.Refines.{NodePair}
 use Rattle.sup_model.specs.Stands.{NodeStands}
 use Rattle.sup_model.specs.TableViews.{table_view}
 use Rattle.sup_model.specs.declared.step.Step.{Step}
-use Rattle.sup_model.specs.Runs.{ModelAllows, ModelRun, all_issued}
+use Rattle.sup_model.specs.Runs.{ModelAllows, ModelRun}
 use Rattle.sup_model.specs.Worlds.{ModelWorld, ModelAnswer as Expected, new}
 use Rattle.sup_model.proofs.Messages.{run_same}
 use Rattle.sup_model.proofs.RunLists.{runs_append}
@@ -30,7 +30,7 @@ use Rattle.sup_world.specs.CarriedSteps.{carried, KnowsBytes}
 use Rattle.sup_world.specs.FollowedSteps.{IsAsOf, StandsFor, FollowsModel}
 use Rattle.sup_world.specs.Newness.{setting_in}
 use Rattle.sup_world.specs.Runs.{StepGoes, RanSteps}
-use Rattle.sup_world.specs.ReachedWorlds.{HasAbsorbed, ReachedByRun, LeadsOn, LeadsFromNew, RunsLeadOn}
+use Rattle.sup_world.specs.ReachedWorlds.{HasAbsorbed, ReachedByRun, LeadsFromNew, RunsLeadOn}
 use Rattle.sup_world.specs.StandingStations.{IsNodeOf}
 use Rattle.sup_world.specs.ToldAnswers.{SiteStands}
 use Rattle.sup_world.specs.SeenNodes.{SeenNode}

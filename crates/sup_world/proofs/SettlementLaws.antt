@@ -20,7 +20,7 @@ use Rattle.sup_world.specs.SettledSites.{effects_of, AreUpNames, IsCutShort, IsT
 use Rattle.sup_world.specs.Tallies.{NotesAnswers}
 use Rattle.sup_world.specs.Pairs.{AllExchanged}
 use Rattle.sup_world.specs.Exchanges.{ExchangesPairsTo, ExchangesPairs, ends, running}
-use Rattle.sup_world.proofs.ExchangeListLaws.{done, stops_more, goes_then, goes_on}
+use Rattle.sup_world.proofs.ExchangeListLaws.{done, refused, stops_more, goes_then, goes_on}
 use Rattle.sup_world.proofs.TallyLaws.{notes_none}
 use Rattle.sup_world.proofs.UpNameLaws.{running_up, names_differ, first_known}
 
@@ -41,7 +41,7 @@ empty_is (n ∷ ns) e = absurd (omega (arith, e))
 abbrev pub IsBegun : Tally → Type 0
 IsBegun t = (t.sent.items ≡ []) × (t.effects.items ≡ [])
 
-tallied : (answers : List (Result Expected Refusal)) (t u : Tally) (settled : Settled) → IsBegun t → NotesAnswers answers t u → settled.messages ≡ length u.sent.items → settled.effects.items ≡ u.effects.items → IsToldOf answers settled
+tallied : (answers : List (Result Expected Refusal)) (t u : Tally) (settled : Settled) → IsBegun t → NotesAnswers answers t u → settled.messages ≡ length u.sent.items → settled.effects ≡ u.effects.items → IsToldOf answers settled
 tallied answers t u settled b n m e =
     let none : length t.sent.items ≡ 0 = ap length b.0 in
     record { messages = omega (arith, m, n.messages, none); effects = e ∙ n.effects ∙ ap (λ (xs : List (Bytes × Effect)). xs ++ effects_of answers) b.1 }
@@ -59,7 +59,7 @@ module _ (weigher : Weigher) (model : ModelWorld) where
   names_up names sites h sorted all = record { sorted = sorted; all = subst (λ (ns : List Bytes). IsPermutation ns names) (running_up weigher sites model h) all }
 
   -- no node runs
-  pub none_settles : (sites : List SeenNode) (t : Tally) (settled : Settled) → StandsFor weigher sites model → IsSorted text_cmp [] → IsPermutation (running sites) [] → IsBegun t → settled.messages ≡ length t.sent.items → settled.effects.items ≡ t.effects.items
+  pub none_settles : (sites : List SeenNode) (t : Tally) (settled : Settled) → StandsFor weigher sites model → IsSorted text_cmp [] → IsPermutation (running sites) [] → IsBegun t → settled.messages ≡ length t.sent.items → settled.effects ≡ t.effects.items
       → SettlesTo weigher model (Ok settled) sites
   none_settles sites t settled h sorted all b m e = record {
     after = model;
@@ -69,7 +69,7 @@ module _ (weigher : Weigher) (model : ModelWorld) where
 
   module _ (first : Bytes) (others : List Bytes) (t u v : Tally) (sites mid new : List SeenNode) (h : StandsFor weigher sites model) (sorted : IsSorted text_cmp (first ∷ others)) (all : IsPermutation (running sites) (first ∷ others)) where
     -- a step of the first pass is refused
-    pub gather_refused : (r : Refusal) (result : Result Settled Refusal) → IsErrAnd result (λ q. q ≡ r) → ExchangesPairs weigher model (map (ends In first) others) t (let x : Result (Unit {0}) Refusal = Err r in x) u new → SettlesTo weigher model result new
+    pub gather_refused : (r : Refusal) (result : Result Settled Refusal) → IsErrAnd result (λ q. q ≡ r) → ExchangesPairs weigher model (map (ends In first) others) t (refused r) u new → SettlesTo weigher model result new
     gather_refused r result e g = record {
       after = g.after;
       ends = cut_short model g.after result r e (inr (first ∷ others, names_up (first ∷ others) sites h sorted all, stops_more model g.after (map (ends In first) others) (map (ends Out first) others) r g.goes));
@@ -78,14 +78,14 @@ module _ (weigher : Weigher) (model : ModelWorld) where
 
     -- one of the second
     pub spread_refused : (r : Refusal) (result : Result Settled Refusal) → IsErrAnd result (λ q. q ≡ r) → ExchangesPairs weigher model (map (ends In first) others) t done u mid
-        → ((w : ModelWorld) → StandsFor weigher mid w → ExchangesPairs weigher w (map (ends Out first) others) u (let x : Result (Unit {0}) Refusal = Err r in x) v new) → SettlesTo weigher model result new
+        → ((w : ModelWorld) → StandsFor weigher mid w → ExchangesPairs weigher w (map (ends Out first) others) u (refused r) v new) → SettlesTo weigher model result new
     spread_refused r result e g s =
-        let both = goes_on weigher model (map (ends In first) others) (map (ends Out first) others) t u v (let x : Result (Unit {0}) Refusal = Err r in x) mid new g s in
+        let both = goes_on weigher model (map (ends In first) others) (map (ends Out first) others) t u v (refused r) mid new g s in
         record { after = both.after; ends = cut_short model both.after result r e (inr (first ∷ others, names_up (first ∷ others) sites h sorted all, both.goes)); stands = both.stands }
 
     -- both are made
     pub settled : (done_by : Settled) → IsBegun t → ExchangesPairs weigher model (map (ends In first) others) t done u mid → ((w : ModelWorld) → StandsFor weigher mid w → ExchangesPairs weigher w (map (ends Out first) others) u done v new)
-        → done_by.messages ≡ length v.sent.items → done_by.effects.items ≡ v.effects.items → SettlesTo weigher model (Ok done_by) new
+        → done_by.messages ≡ length v.sent.items → done_by.effects ≡ v.effects.items → SettlesTo weigher model (Ok done_by) new
     settled done_by b g s m e =
         let next = s g.after g.stands in
         let both : ExchangesPairsTo model (map (ends In first) others ++ map (ends Out first) others) t done v next.after =

@@ -30,6 +30,10 @@ failures_at sites name = unwrap_or (option_map (λ s. s.failures) (seen_at sites
 abbrev pub letter_of : SeenNode → ℕ → Option Letter
 letter_of s k = if k == 0 then None else slice_get s.letters (k - 1)
 
+-- the text of the k-th message that a node has sent, from 1
+abbrev pub text_sent : List SeenNode → Bytes → ℕ → Option Bytes
+text_sent sites from k = option_map (λ (l : Letter). l.bytes) (option_and_then (λ (s : SeenNode). letter_of s k) (seen_at sites from))
+
 -- the node that a delivery comes to: the one that is told, or the letter's receiver
 abbrev pub receiver : List SeenNode → Bytes → ℕ → Option Bytes → Bytes
 receiver sites from k at = unwrap_or at (unwrap_or (option_map (λ l. l.to) (option_and_then (λ s. letter_of s k) (seen_at sites from))) [])

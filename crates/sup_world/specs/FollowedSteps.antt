@@ -9,6 +9,7 @@ use Rattle.sup_model.specs.Worlds.{ModelWorld, ModelAnswer as Expected}
 use Rattle.sup_model.specs.Runs.{ModelAllows}
 use Rattle.sup_model.specs.Follows.{StepMakes, WorldStandsFor}
 use Rattle.sup_world.specs.declared.answer.Answer.{Answer}
+use Rattle.sup_world.specs.CarriedSteps.{carried}
 use Rattle.sup_world.specs.SeenNodes.{SeenNode}
 use Rattle.sup_world.specs.ToldAnswers.{ShowsReal, TellsOf}
 
@@ -19,6 +20,10 @@ pub record MakesRealStep (weigher : Weigher) (real : RealWorld State) (step : St
   pub makes : StepMakes real step told after
   pub tells : TellsOf told result
   pub shows : ShowsReal weigher new after
+
+-- whatever world of the definitions the nodes show, it makes the step
+abbrev pub CarriesOut : Weigher → List SeenNode → Step → Result Answer Refusal → List SeenNode → Type 0
+CarriesOut g sites step result new = (real : RealWorld State) → ShowsReal g sites real → MakesRealStep g real (carried sites step) result new
 
 -- the world stands for one of the model
 pub record StandsFor (weigher : Weigher) (sites : List SeenNode) (model : ModelWorld) : Type 0 where

@@ -1,5 +1,5 @@
 -- A world that steps led to from a new one: the run of the model that they are, and the headline, which holds of it whole.
-use Rattle.std.specs.Prelude.{◌≡◌, ◌≤◌, ◌+◌, ℕ, Bool, All, List, [], ◌++◌, length, IfSome, is_some, Result}
+use Rattle.std.specs.Prelude.{◌≡◌, ◌≤◌, ◌+◌, Bool, All, List, [], ◌++◌, length, IfSome, is_some, Result}
 use Rattle.std.specs.List.{AllZip}
 use Rattle.sup_specs.specs.Values.{Bytes}
 use Rattle.sup_placement.specs.Place.{Weigher}

@@ -19,8 +19,11 @@ pub record SeenNode : Type 0 where
 abbrev pub seen_node_of : {W : Type 0} {h : _} → SimulatedNode W h → SeenNode
 seen_node_of s = record { name = s.name; kept_station = kept_station_of kept_by s.station; failures = (keeper_of s.station).failures; letters = s.letters.items }
 
+abbrev pub seen_all : {W : Type 0} {h : _} → List (SimulatedNode W h) → List SeenNode
+seen_all sites = map seen_node_of sites
+
 abbrev pub sites_of : {W : Type 0} {h : _} → World W h → List SeenNode
-sites_of w = map seen_node_of w.sites.items
+sites_of w = seen_all w.sites.items
 
 -- with a letter more, if there is one
 abbrev pub with_letter : List Letter → Option Letter → List Letter

@@ -61,7 +61,7 @@ IsCutShort w refusal w' =
 -- what is told of these answers
 pub record IsToldOf (answers : List (Result Expected Refusal)) (settled : Settled) : Type 0 where
   pub messages : settled.messages ≡ messages_of answers
-  pub effects : settled.effects.items ≡ effects_of answers
+  pub effects : settled.effects ≡ effects_of answers
 
 -- the nodes settled, and what is told is that of their exchanges; or settling was cut short, and why is told
 abbrev pub EndsSettling : ModelWorld → Result Settled Refusal → ModelWorld → Type 0

@@ -157,7 +157,7 @@ pub record AreRunning (sites : List SeenNode) (names : List Bytes) : Type 0 wher
 abbrev pub IsToldBy : List SeenNode → List Step → List Answered → Result Settled Refusal → Type 0
 IsToldBy sites steps answers (Ok settled) =
     (names : List Bytes) × AreRunning sites names × AreExchanges (pairs_of names) steps answers
-    × (settled.messages ≡ messages_in answers) × (settled.effects.items ≡ effects_in answers)
+    × (settled.messages ≡ messages_in answers) × (settled.effects ≡ effects_in answers)
 IsToldBy sites steps answers (Err r) =
     ((r ≡ OutOfMemory) × (steps ≡ []) × (answers ≡ []))
     ⊎ ((names : List Bytes) × AreRunning sites names × EndsAmong (pairs_of names) steps answers r)

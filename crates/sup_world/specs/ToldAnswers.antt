@@ -1,17 +1,19 @@
 -- The code's world and its answers beside those of the definitions, letter by letter.
-use Rattle.std.specs.Prelude.{◌≡◌, List, map, Result, Ok, Err}
+use Rattle.std.specs.Prelude.{◌≡◌, ℕ, Bool, List, map, Option, Result, Ok, Err}
 use Rattle.std.specs.List.{AllZip}
 use Rattle.sup_tables.specs.States.{State}
 use Rattle.sup_placement.specs.Place.{Weigher}
 use Rattle.sup_replica.specs.declared.event.Act.{Act}
 use Rattle.sup_replica.specs.declared.refusal.Refusal.{Refusal}
-use Rattle.sup_replica.specs.Stations.{StationMove}
-use Rattle.sup_node.specs.Texts.{IsLetter, IsLetterOf}
-use Rattle.sup_model.specs.Posts.{StationPost, RealWorld, RealAnswer, mailed, mail_number}
+use Rattle.sup_replica.specs.ByTables.{by_tables}
+use Rattle.sup_replica.specs.Stations.{Mail, StationMove, station_step}
+use Rattle.sup_node.specs.Texts.{IsLetter, IsLetterOf, reads_as}
+use Rattle.sup_model.specs.Posts.{StationPost, RealWorld, RealAnswer, mailed, mail_number, target_here}
 use Rattle.sup_model.specs.Follows.{NamesAllDiffer}
 use Rattle.sup_world.specs.declared.answer.Answer.{Answer}
+use Rattle.sup_world.specs.CarriedSteps.{holds}
 use Rattle.sup_world.specs.StandingStations.{StationStands}
-use Rattle.sup_world.specs.Moves.{IsRefusedAs}
+use Rattle.sup_world.specs.Moves.{IsRefusedAs, ReadsIn}
 use Rattle.sup_world.specs.SeenNodes.{SeenNode}
 
 -- a node: its station stands for the definitions', and each letter is the text of its mail
@@ -50,3 +52,13 @@ post_after post move = record { station = move.station; sent = mailed post.sent 
 abbrev pub NodeAnswers : Result (StationMove State) Refusal → StationPost State → Act → Result Answer Refusal → SeenNode → Type 0
 NodeAnswers step post act (Ok answer) s = (move : StationMove State) × (step ≡ Ok move) × TellsAnswer (told_by post move) answer × SiteStands s (post_after post move)
 NodeAnswers step post act (Err r) s = IsRefusedAs step act r × SiteStands s post
+
+-- whatever the node stands for, its answer to the act, and what it is after it, are those of the definitions' step
+abbrev pub AnswersStep : Weigher → SeenNode → Act → ℕ → Bool → Result Answer Refusal → SeenNode → Type 0
+AnswersStep g old act now saves result new =
+    (post : StationPost State) (mail : Option (Mail State)) → SiteStands old post → ReadsIn act mail
+    → NodeAnswers (station_step by_tables (reads_as mail) g post.station act now (holds saves old.failures)) post act result new
+
+-- whether the target of a ship or a push is a node here
+abbrev pub HasTarget : Weigher → List SeenNode → Act → Bool → Type 0
+HasTarget g sites act here = (real : RealWorld State) → ShowsReal g sites real → target_here real act ≡ here

@@ -61,7 +61,8 @@ impl<W: Weigh> World<W> {
     ) -> Result<(), Refusal>
         ensures goes { (model : Model) → StandsFor W.weight_of (sites_of self.old) model
             → ExchangesPairs W.weight_of model (map (ends way first.now) others.now) tally.old result tally.new (sites_of self.new) }
-        ensures steps { MakesPairs W.weight_of (sites_of self.old) (map (ends way first.now) others.now) tally.old result tally.new (sites_of self.new) }
+        ensures steps { MakesPairs W.weight_of (sites_of self.old) (map (ends way first.now) others.now)
+            tally.old result tally.new (sites_of self.new) }
         ensures counted { AllZip FailedNoMore (sites_of self.old) (sites_of self.new) }
     {
         for other in others {

@@ -2,6 +2,7 @@
 use crate::given::{name, world};
 use crate::seen::{held, stored};
 use crate::stage::world_after;
+use sup_world::still;
 
 const PUSHED: &str =
     "nodes a b\nstart a x\npush a b\nstart a y\npush a b\nstart a z\npush a b\ndeliver a 3\ndeliver a 1\n";
@@ -61,6 +62,23 @@ fn a_member_with_its_child_is_kept(rt: HostRuntime) {
     let told = "ok (a,1)\nok (a,2)\n  a start web 1.1\n";
     let world = world_after(&rt, script, told);
     assert!(rt; stored(&rt, &world, &name(&rt, "a")) == MEMBER.as_bytes());
+}
+
+// Where memory is refused it is looked at once more.
+#[test]
+fn a_kept_image_is_looked_at_as_it_is(rt: HostRuntime) {
+    let script = "nodes a\njoin a\nstart a web\nstop a\n";
+    let told = "ok (a,1)\nok (a,2)\n  a start web 1.1\nok stopped\n";
+    let world = world_after(&rt, script, told);
+    let a = name(&rt, "a");
+    let text = stored(&rt, &world, &a);
+    let image = still(rt.alloc(), text)
+        .or_else(|_| still(rt.alloc(), text))
+        .expect(&rt, "an image");
+    assert!(rt; *image.node() == a);
+    assert!(rt; image.boot() == 1);
+    assert!(rt; image.count() == 2);
+    assert!(rt; image.tables().row_count() == 2);
 }
 
 #[test]

@@ -6,7 +6,7 @@ use Rattle.sup_drawing.proofs.play.play_settling.Goals as goal
 
 pub returns-in-Ok : goal.returns-in-Ok
 returns-in-Ok g c =
-    let effects = c.as_slice.ensures.value in
+    let effects = c.as_slice.ensures in
     settling_noted g.G.Weigh.weight_of c.args.caption.now (sites_of c.args.world.now) (sites_of c.settle.new.self) (noted_of c.args.log.now) (noted_of c.note_settling.new.log) (Ok c.in-Ok.settled) c.note_settling.result
     c.in-Ok.ensures.follows c.in-Ok.ensures.counted
     (rw effects at c.note_settling.ensures.rows) c.note_settling.ensures.posts (rw effects at c.note_settling.ensures.changes)
