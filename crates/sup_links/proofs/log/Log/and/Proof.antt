@@ -32,9 +32,7 @@ use Rattle.sup_links.proofs.log.Log.and.Code as code
 
 pub and_spec : {M : Type 1} → stated.statement M
 and_spec 𝓤 𝓛 𝓜 𝓡 wired A B LA LB =
-    let H = 𝓛.H in
-    let C = (tables 𝓤 H 𝓜 𝓡 𝓡.env).C in
-    let Λ = (tables 𝓤 H 𝓜 𝓡 𝓡.env).Λ in
+    let 𝓣 = tables 𝓤 𝓛.H 𝓜 𝓡 𝓡.env in
     let pair = Tuple (param 0 A ∷ param 1 B ∷ []) in
     let args : Args = layouts (a_type ∷ a_type ∷ []) (A, (B, tt)) in
     let function : Fn = inst_fn args code.function in
@@ -51,7 +49,7 @@ and_spec 𝓤 𝓛 𝓜 𝓡 wired A B LA LB =
         (Goes-dropped 𝓛 5 (RefOf (2 ∷ []) tt (plain (λ _. param 1 B)) (λ _. tt)) yes (λ κs x f. refl), tt),
       ),
     ) in
-    proved_at 𝓛 ended shown held 𝓜 𝓡 go (#self args) function (code.unfolded 𝓤 H 𝓜 𝓡 wired (A, (B, tt))) (λ z _.
+    proved_at 𝓛 ended shown held 𝓜 𝓡 go (#self args) function (code.unfolded 𝓤 𝓛.H 𝓜 𝓡 wired (A, (B, tt))) (λ z _.
     let Post : Val → SProp 𝓤 = (walk_of 𝓛 ended shown held).post z in
     let a = z.0.3 in
     let vss = z.0.4 in
@@ -62,10 +60,10 @@ and_spec 𝓤 𝓛 𝓜 𝓡 wired A B LA LB =
     let p = vptr a.0.ref_ptr.0 a.0.ref_ptr.1 in
     let q = vptr a.1.0.ref_ptr.0 a.1.0.ref_ptr.1 in
     let r = vptr a.1.1.0.ref_ptr.0 a.1.1.0.ref_ptr.1 in
-    regoal ! (λ (us : List Val). prop (WpFn 𝓤 H C Λ function (us ++ (vss.1.0 ++ (vss.1.1.0 ++ []))) Post)) is₀ refl $
-    regoal ! (λ (us : List Val). prop (WpFn 𝓤 H C Λ function ((p ∷ []) ++ (us ++ (vss.1.1.0 ++ []))) Post)) is₁ refl $
-    regoal ! (λ (us : List Val). prop (WpFn 𝓤 H C Λ function ((p ∷ []) ++ ((q ∷ []) ++ (us ++ []))) Post)) is₂ refl $
-    enter ! C Λ function (p ∷ q ∷ r ∷ []) Post $ alloc_all ! (λ l. pass_all ! refl ((tt, tt), ((tt, tt), ((tt, tt), tt))) $
+    regoal ! (λ (us : List Val). prop (WpFn 𝓤 𝓛.H 𝓣.C 𝓣.Λ function (us ++ (vss.1.0 ++ (vss.1.1.0 ++ []))) Post)) is₀ refl $
+    regoal ! (λ (us : List Val). prop (WpFn 𝓤 𝓛.H 𝓣.C 𝓣.Λ function ((p ∷ []) ++ (us ++ (vss.1.1.0 ++ []))) Post)) is₁ refl $
+    regoal ! (λ (us : List Val). prop (WpFn 𝓤 𝓛.H 𝓣.C 𝓣.Λ function ((p ∷ []) ++ ((q ∷ []) ++ (us ++ []))) Post)) is₂ refl $
+    enter ! 𝓣.C 𝓣.Λ function (p ∷ q ∷ r ∷ []) Post $ alloc_all ! (λ l. pass_all ! refl ((tt, tt), ((tt, tt), ((tt, tt), tt))) $
     sets ! (agg ! (no_more !)) refl (tt, tt) $
     sets ! (agg ! (and_then ! (get ! refl) (no_more !))) refl (tt, (tt, tt)) $
     nothing ! $ owned ! (Mark.the_row pair) (Is (Mark.the_row pair)) (makes (Mark.the_type pair) tt 𝓛) (record {}) (none ∷ []) (tt, (refl, tt)) $

@@ -29,22 +29,20 @@ use Rattle.sup_links.proofs.log.Log.new.Code as code
 
 pub new_spec : {M : Type 1} → stated.statement M
 new_spec 𝓤 𝓛 𝓜 𝓡 wired A B LA LB =
-    let H = 𝓛.H in
-    let C = (tables 𝓤 H 𝓜 𝓡 𝓡.env).C in
-    let Λ = (tables 𝓤 H 𝓜 𝓡 𝓡.env).Λ in
+    let 𝓣 = tables 𝓤 𝓛.H 𝓜 𝓡 𝓡.env in
     let pair = Tuple (param 0 A ∷ param 1 B ∷ []) in
     let args : Args = layouts (a_type ∷ a_type ∷ []) (A, (B, tt)) in
     let function : Fn = inst_fn args code.function in
     let ended = F.ended A B in
     let held = F.clauses A B 𝓛 𝓜.mem 𝓡.returns in
-    proved_at 𝓛 ended tt held 𝓜 𝓡 tt (#self args) function (code.unfolded 𝓤 H 𝓜 𝓡 wired (A, (B, tt))) (λ z _.
+    proved_at 𝓛 ended tt held 𝓜 𝓡 tt (#self args) function (code.unfolded 𝓤 𝓛.H 𝓜 𝓡 wired (A, (B, tt))) (λ z _.
     let Post : Val → SProp 𝓤 = (walk_of 𝓛 ended tt held).post z in
     let a = z.0.3 in
     let vss = z.0.4 in
     let made : (Log.the_row (param 0 A) (param 1 B)).Denot = record { of = record {}; items = [] } in
     qed 𝓛 ((raw (alive 𝓛 ended.signature z.0.0 z.0.1) ⊛ ‵ (owns (types_at ended.signature.params z.0.0) a vss)) ∷ raw ((held z.0.0 a).requires z.1) ∷ []) ∵
     keep ! (0 ∷ []) $ split ! $ keep ! (0 ∷ []) $
-    enter ! C Λ function [] Post $ alloc_all ! (λ l. pass_all ! refl tt $
+    enter ! 𝓣.C 𝓣.Λ function [] Post $ alloc_all ! (λ l. pass_all ! refl tt $
     sets ! (agg ! (no_more !)) refl (tt, tt) $
     sets ! (agg ! (and_then ! (get ! refl) (no_more !))) refl (tt, (tt, tt)) $
     nothing ! $ owned ! (Mark.the_row pair) (Is (Mark.the_row pair)) (makes (Mark.the_type pair) tt 𝓛) (record {}) (none ∷ []) (tt, (refl, tt)) $
