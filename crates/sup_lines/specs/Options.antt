@@ -6,7 +6,7 @@ use Rattle.std.specs.Str.{bytes_eq}
 use Rattle.sup_specs.specs.declared.child.ChildSpec.{ChildSpec}
 use Rattle.sup_specs.specs.Values.{Bytes}
 use Rattle.sup_lines.specs.Words.{Word, ◌>>=◌}
-use Rattle.sup_lines.specs.Values.{kind_of, text_of, restart_of, shutdown_of}
+use Rattle.sup_lines.specs.Values.{child_id_of, kind_of, text_of, restart_of, shutdown_of}
 
 -- what stands after the key that a word begins with
 unfoldable pub value_after : List ℕ → Word → Option Word
@@ -48,3 +48,11 @@ spec_of words = do
   restart ← restart_of restart_word.0
   shutdown ← shutdown_of shutdown_word.0
   Some (record { kind = kind; arg = arg; restart = restart; shutdown = shutdown }, shutdown_word.1)
+
+-- ID and the options of a specification, and the words after them
+unfoldable pub child_of : List Word → Option ((Word × ChildSpec) × List Word)
+child_of (word ∷ options) = do
+  id ← child_id_of word
+  spec ← spec_of options
+  Some ((id, spec.0), spec.1)
+child_of _ = None

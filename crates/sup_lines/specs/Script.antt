@@ -6,6 +6,7 @@ use Rattle.sup_lines.specs.Opening.{nodes_of}
 use Rattle.sup_lines.specs.Lines.{form_of}
 use Rattle.sup_lines.specs.declared.line.Line.{Line}
 use Rattle.sup_lines.specs.declared.fault.LineFault.{LineFault}
+use Rattle.sup_lines.specs.declared.fault.LineFault.TheVariants as fault
 use Rattle.sup_lines.specs.declared.fault.ScriptFault.{ScriptFault}
 use Rattle.sup_lines.specs.declared.fault.ScriptFault.TheVariants.{BadLine, OutOfMemory}
 
@@ -32,6 +33,11 @@ line_of bytes = if is_plain bytes then form_of (words_of bytes) else None
 -- the nodes that the bytes of the first line say
 unfoldable pub opening_of : List ℕ → Option (List Name)
 opening_of bytes = if is_plain bytes then nodes_of (words_of bytes) else None
+
+-- the fault of a script whose line of this number was not read
+abbrev pub fault_at : ℕ → LineFault → ScriptFault
+fault_at number fault.Bad = BadLine number
+fault_at number fault.OutOfMemory = OutOfMemory
 
 -- each line that isn't skipped, behind its number from 1; skipped lines are counted
 abbrev pub numbered_lines : List ℕ → List (ℕ × List ℕ)

@@ -1,11 +1,11 @@
-//! The lines of runs that end, of messages, and of nodes that stop and begin anew, each by its
-//! form, and the words that it leaves.
+//! The lines of runs that end and of messages, each by its form, and the words that it leaves. But
+//! for a delivery these are the words behind the node's name.
 
 ghost use Rattle.std.specs.Prelude.{◌≡◌, IfErr, option_map};
 ghost use Rattle.sup_lines.specs.Words.{Reads, and_rest, texts};
 ghost use Rattle.sup_lines.specs.Values.{node_name_of, number_of};
 ghost use Rattle.sup_lines.specs.Options.{if_there};
-ghost use Rattle.sup_lines.specs.Forms.{deliver_of, exit_of, push_of, reboot_of, ship_of, stop_of};
+ghost use Rattle.sup_lines.specs.Forms.{deliver_of, exit_of, push_of, ship_of};
 
 use crate::deed::Deed;
 use crate::fault::LineFault;
@@ -19,21 +19,16 @@ use sup_specs::{MAX, NodeName};
 
 /// A run of a child has ended. All of the form is judged before memory is taken.
 #[tactic(auto, unfolding(crate::specs::Forms::exit_of))]
-pub fn read_exit<'a>(
-    alloc: Global,
-    words: &'a [&'a str],
-) -> Result<(Deed, &'a [&'a str]), LineFault>
+pub fn read_exit<'a>(alloc: Global, words: &'a [&'a str]) -> Result<(Act, &'a [&'a str]), LineFault>
     ensures { Reads and_rest result (exit_of (texts words.entry.now)) }
 {
     match words {
-        [node, id, run, reason, rest @ ..] => {
-            let node = read_node_name(node)?;
+        [id, run, reason, rest @ ..] => {
             check_child_id(id)?;
             let inc = read_incarnation(run)?;
             let reason = read_reason(alloc, reason)?;
             let id = read_child_id(alloc, id)?;
-            let act = Act::Event(Event::Exit { id, inc, reason });
-            Ok((Deed::At { node, act }, rest))
+            Ok((Act::Event(Event::Exit { id, inc, reason }), rest))
         }
         _ => Err(LineFault::Bad),
     }
@@ -41,34 +36,24 @@ pub fn read_exit<'a>(
 
 /// Another node is sent what it lacks.
 #[tactic(auto, unfolding(crate::specs::Forms::ship_of))]
-pub fn read_ship<'a>(words: &'a [&'a str]) -> Result<(Deed, &'a [&'a str]), LineFault>
-    ensures deed { Reads and_rest result (ship_of (texts words.entry.now)) }
+pub fn read_ship<'a>(words: &'a [&'a str]) -> Result<(Act, &'a [&'a str]), LineFault>
+    ensures act { Reads and_rest result (ship_of (texts words.entry.now)) }
     ensures bad { IfErr result (λ e. e ≡ LineFault.Bad) }
 {
     match words {
-        [node, to, rest @ ..] => {
-            let node = read_node_name(node)?;
-            let to = read_node_name(to)?;
-            let act = Act::Event(Event::Ship(to));
-            Ok((Deed::At { node, act }, rest))
-        }
+        [to, rest @ ..] => Ok((Act::Event(Event::Ship(read_node_name(to)?)), rest)),
         _ => Err(LineFault::Bad),
     }
 }
 
 /// Another node is sent the newest own operation.
 #[tactic(auto, unfolding(crate::specs::Forms::push_of))]
-pub fn read_push<'a>(words: &'a [&'a str]) -> Result<(Deed, &'a [&'a str]), LineFault>
-    ensures deed { Reads and_rest result (push_of (texts words.entry.now)) }
+pub fn read_push<'a>(words: &'a [&'a str]) -> Result<(Act, &'a [&'a str]), LineFault>
+    ensures act { Reads and_rest result (push_of (texts words.entry.now)) }
     ensures bad { IfErr result (λ e. e ≡ LineFault.Bad) }
 {
     match words {
-        [node, to, rest @ ..] => {
-            let node = read_node_name(node)?;
-            let to = read_node_name(to)?;
-            let act = Act::Event(Event::Push(to));
-            Ok((Deed::At { node, act }, rest))
-        }
+        [to, rest @ ..] => Ok((Act::Event(Event::Push(read_node_name(to)?)), rest)),
         _ => Err(LineFault::Bad),
     }
 }
@@ -110,37 +95,5 @@ fn read_cut(word: Option<&str>) -> Result<Option<u64>, LineFault>
     match word {
         Some(word) => Ok(Some(read_number(word, MAX)?)),
         None => Ok(None),
-    }
-}
-
-/// A node ends.
-#[tactic(auto, unfolding(crate::specs::Forms::stop_of))]
-pub fn read_stop<'a>(words: &'a [&'a str]) -> Result<(Deed, &'a [&'a str]), LineFault>
-    ensures deed { Reads and_rest result (stop_of (texts words.entry.now)) }
-    ensures bad { IfErr result (λ e. e ≡ LineFault.Bad) }
-{
-    match words {
-        [node, rest @ ..] => {
-            let node = read_node_name(node)?;
-            let act = Act::Stop;
-            Ok((Deed::At { node, act }, rest))
-        }
-        _ => Err(LineFault::Bad),
-    }
-}
-
-/// A node begins a new boot.
-#[tactic(auto, unfolding(crate::specs::Forms::reboot_of))]
-pub fn read_reboot<'a>(words: &'a [&'a str]) -> Result<(Deed, &'a [&'a str]), LineFault>
-    ensures deed { Reads and_rest result (reboot_of (texts words.entry.now)) }
-    ensures bad { IfErr result (λ e. e ≡ LineFault.Bad) }
-{
-    match words {
-        [node, rest @ ..] => {
-            let node = read_node_name(node)?;
-            let act = Act::Restart;
-            Ok((Deed::At { node, act }, rest))
-        }
-        _ => Err(LineFault::Bad),
     }
 }

@@ -47,6 +47,20 @@ impl From<TextFault> for LineFault {
     }
 }
 
+impl LineFault {
+    ghost use Rattle.sup_lines.specs.Script.{fault_at};
+
+    /// The fault of a script whose line of this number was not read.
+    pub fn at(self, number: u64) -> ScriptFault
+        ensures { result ≡ fault_at number self }
+    {
+        match self {
+            LineFault::Bad => ScriptFault::BadLine(number),
+            LineFault::OutOfMemory => ScriptFault::OutOfMemory,
+        }
+    }
+}
+
 /// Why a script was not read.
 #[derive(Clone, Copy, Debug, PartialEq, Eq, Error)]
 pub enum ScriptFault {

@@ -2,12 +2,14 @@
 
 ghost use Rattle.std.specs.Prelude.{◌≡◌, IfErr, option_map};
 ghost use Rattle.sup_lines.specs.Words.{Reads, and_rest, texts};
-ghost use Rattle.sup_lines.specs.Options.{label_of, option_at, spec_of, value_after, word_behind};
+ghost use Rattle.sup_lines.specs.Options.{child_of, label_of, option_at, spec_of, value_after, word_behind};
 
 use crate::fault::LineFault;
-use crate::values::{check_text, read_kind, read_restart, read_shutdown, read_text};
+use crate::values::{
+    check_child_id, check_text, read_child_id, read_kind, read_restart, read_shutdown, read_text,
+};
 use std::alloc::Global;
-use sup_specs::{ChildSpec, Text};
+use sup_specs::{ChildId, ChildSpec, Text};
 
 /// An option's value where its key begins the next word, else what it is by default; and the words
 /// after it.
@@ -82,4 +84,24 @@ pub fn read_spec<'a>(
         shutdown,
     };
     Ok((spec, words))
+}
+
+/// The id of a child and its specification; and the words after them. All of it is judged before
+/// memory is taken.
+#[tactic(auto, unfolding(crate::specs::Options::child_of))]
+pub fn read_child<'a>(
+    alloc: Global,
+    words: &'a [&'a str],
+) -> Result<((ChildId, ChildSpec), &'a [&'a str]), LineFault>
+    ensures { Reads and_rest result (child_of (texts words.entry.now)) }
+{
+    match words {
+        [id, options @ ..] => {
+            check_child_id(id)?;
+            let (spec, rest) = read_spec(alloc, options)?;
+            let id = read_child_id(alloc, id)?;
+            Ok(((id, spec), rest))
+        }
+        _ => Err(LineFault::Bad),
+    }
 }

@@ -3,7 +3,7 @@
 ghost use Rattle.std.specs.Prelude.{map};
 ghost use Rattle.sup_lines.specs.Script.{ReadsAll, each_of, line_of, script_of};
 
-use crate::fault::{LineFault, ScriptFault};
+use crate::fault::ScriptFault;
 use crate::line::{Line, read_line};
 use crate::numbered::{NumberedLine, number_lines};
 use crate::opening::read_opening;
@@ -37,8 +37,7 @@ pub fn read_script(alloc: Global, bytes: &[u8]) -> Result<Script, ScriptFault>
                 let lines = read_lines(alloc, others)?;
                 Ok(Script { nodes, lines })
             }
-            Err(LineFault::Bad) => Err(ScriptFault::BadLine(first.number)),
-            Err(LineFault::OutOfMemory) => Err(ScriptFault::OutOfMemory),
+            Err(fault) => Err(fault.at(first.number)),
         },
     }
 }
@@ -51,8 +50,7 @@ fn read_lines(alloc: Global, lines: &[NumberedLine]) -> Result<Vec<Line>, Script
     for line in lines {
         match read_line(alloc, line.bytes) {
             Ok(said) => read.push(said)?,
-            Err(LineFault::Bad) => return Err(ScriptFault::BadLine(line.number)),
-            Err(LineFault::OutOfMemory) => return Err(ScriptFault::OutOfMemory),
+            Err(fault) => return Err(fault.at(line.number)),
         }
     }
     Ok(read)

@@ -27,15 +27,11 @@ spent_verdict : (script : List Verdict) (n : ℕ) → verdict script (min n (len
 spent_verdict script n = let a : min n (length script) + 1 - 1 ≡ min n (length script) = omega arith in let b : n ≡ n + 1 - 1 = omega arith in
     ap (λ o. unwrap_or o Pass) (ap (slice_get script) a ∙ (same_get script n ∙ ap (slice_get script) b))
 
-pub sent_more : (before after : Log (Vec ℕ Global) (Unit {0})) (m : Vec ℕ Global) → after.items ≡ before.items ++ (m, tt) ∷ [] → sent_of after ≡ sent_of before ++ m.items ∷ []
+sent_more : (before after : Log (Vec ℕ Global) (Unit {0})) (m : Vec ℕ Global) → after.items ≡ before.items ++ (m, tt) ∷ [] → sent_of after ≡ sent_of before ++ m.items ∷ []
 sent_more before after m e = let says : Vec ℕ Global × Unit {0} → Bytes = λ p. p.0.items in let last : Vec ℕ Global × Unit {0} = (m, tt) in ap (map says) e ∙ map_push says before.items last
 
-pub told_at : (script : List Verdict) (sent : List Bytes) (place : ℕ) (v : Verdict) → place ≡ min (length sent) (length script) → v ≡ verdict script (place + 1) → v ≡ verdict script (length sent + 1)
+told_at : (script : List Verdict) (sent : List Bytes) (place : ℕ) (v : Verdict) → place ≡ min (length sent) (length script) → v ≡ verdict script (place + 1) → v ≡ verdict script (length sent + 1)
 told_at script sent place v spent told = told ∙ (ap (λ n. verdict script (n + 1)) spent ∙ spent_verdict script (length sent))
-
-pub spends : (script : List Verdict) (sent after : List Bytes) (m : Bytes) (place : ℕ) → place ≡ min (length sent) (length script) → after ≡ sent ++ m ∷ []
-    → min (place + 1) (length script) ≡ min (length after) (length script)
-spends script sent after m place spent more = let e : length after ≡ length sent + 1 = ap length more ∙ length_push sent m in omega arith
 
 pub text_more : (sent : List (Vec ℕ Global)) (i : ℕ) (text : Vec ℕ Global) (m : Bytes) → i < length sent → text ≡ get_or sent i text → m ≡ text.items → texts (take (i + 1) sent) ≡ texts (take i sent) ++ m ∷ []
 text_more sent i text m lt at is = let says : Vec ℕ Global → Bytes = λ v. v.items in
@@ -52,7 +48,23 @@ pub record Step (script : List Verdict) (sent after : List Bytes) (m : Bytes) (v
   pub leaves : going ≡ copies v (m ∷ [])
   pub stays : waits ≡ held_of script sent ++ held_back v m
 
+-- of what a put says of its log, its verdict, what leaves and who waits
+pub put_step : (script : List Verdict) (before after : Log (Vec ℕ Global) (Unit {0})) (m : Vec ℕ Global) (place : ℕ) (v : Verdict) {going : List Bytes} {old new : List (ℕ × Bytes)}
+    → after.items ≡ before.items ++ (m, tt) ∷ [] → place ≡ min (length (sent_of before)) (length script) → v ≡ verdict script (place + 1)
+    → going ≡ copies v (m.items ∷ []) → new ≡ old ++ held_back v m.items → old ≡ held_of script (sent_of before)
+    → Step script (sent_of before) (sent_of after) m.items v going new
+put_step script before after m place v more spent told leaves waits held = record {
+  more = sent_more before after m more;
+  told = told_at script (sent_of before) place v spent told;
+  leaves = leaves;
+  stays = waits ∙ ap (λ l. l ++ held_back v m.items) held;
+}
+
 module _ {script : List Verdict} {sent after : List Bytes} {m : Bytes} {v : Verdict} {going : List Bytes} {waits : List (ℕ × Bytes)} (step : Step script sent after m v going waits) where
+  -- the verdicts spent, behind this message too
+  pub spends : (place now most : ℕ) → place ≡ min (length sent) (length script) → most ≡ length script → now ≡ min (place + 1) most → now ≡ min (length after) (length script)
+  spends place now most spent is_most is_now = let e : length after ≡ length sent + 1 = ap length step.more ∙ length_push sent m in omega arith
+
   is_waits : waits ≡ held_of script sent ++ held_back (verdict script (length sent + 1)) m
   is_waits = step.stays ∙ ap (λ u. held_of script sent ++ held_back u m) step.told
 

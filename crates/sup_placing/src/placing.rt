@@ -32,8 +32,7 @@ pub fn read_placing(alloc: Global, bytes: &[u8]) -> Result<Placing, ScriptFault>
                 let ids = read_ids(alloc, others)?;
                 Ok(Placing { members, ids })
             }
-            Err(LineFault::Bad) => Err(ScriptFault::BadLine(first.number)),
-            Err(LineFault::OutOfMemory) => Err(ScriptFault::OutOfMemory),
+            Err(fault) => Err(fault.at(first.number)),
         },
     }
 }
@@ -46,8 +45,7 @@ fn read_ids(alloc: Global, lines: &[NumberedLine]) -> Result<Vec<ChildId>, Scrip
     for line in lines {
         match read_id(alloc, line.bytes) {
             Ok(id) => ids.push(id)?,
-            Err(LineFault::Bad) => return Err(ScriptFault::BadLine(line.number)),
-            Err(LineFault::OutOfMemory) => return Err(ScriptFault::OutOfMemory),
+            Err(fault) => return Err(fault.at(line.number)),
         }
     }
     Ok(ids)

@@ -6,15 +6,17 @@ use Rattle.std.proofs.Common.{subst}
 use Rattle.std.proofs.lemmas.List.Elements.{All-from_recursion}
 use Rattle.sup_specs.specs.declared.limits.TheConstants.{MAX}
 use Rattle.sup_specs.specs.Reasons.{reason_of}
+use Rattle.sup_replica.specs.declared.event.Act.{Act}
+use Rattle.sup_replica.specs.declared.event.Act.TheVariants.{Stop, Restart}
 use Rattle.sup_model.specs.declared.step.Step.{Step}
 use Rattle.sup_world.specs.CarriedSteps.{brings_bytes, has_bytes}
 use Rattle.sup_lines.specs.declared.deed.Deed.{Deed}
 use Rattle.sup_lines.specs.declared.deed.Deed.TheVariants.{At, Delivery}
 use Rattle.sup_lines.specs.Words.{Word, ◌>>=◌}
 use Rattle.sup_lines.specs.Values.{node_name_of, child_id_of, registered_name_of, number_of, incarnation_of}
-use Rattle.sup_lines.specs.Options.{label_of, spec_of, word_behind, if_there, option_at}
+use Rattle.sup_lines.specs.Options.{label_of, child_of, word_behind, if_there, option_at}
 use Rattle.sup_lines.specs.Endings.{step_at, saves_of, ended}
-use Rattle.sup_lines.specs.Forms.{join_of, leave_of, drain_of, start_of, replace_of, delete_of, register_of, unregister_of, exit_of, ship_of, push_of, deliver_of, stop_of, reboot_of, deed_of}
+use Rattle.sup_lines.specs.Forms.{join_of, leave_of, drain_of, start_of, replace_of, delete_of, register_of, unregister_of, exit_of, ship_of, push_of, act_of, told_of, deliver_of, deed_of}
 use Rattle.sup_lines.specs.Lines.{step_of, raw_of, settle_of, show_of, inspect_of, image_of, where_of, message_of, form_of}
 use Rattle.sup_lines.specs.Script.{ScriptText, is_plain, words_of, line_of, opening_of, in_front, each_of, behind, numbered_lines, opened, script_of}
 use Rattle.sup_program.specs.PlayedLines.{BringsNoBytes}
@@ -44,73 +46,85 @@ IsDry (Delivery from k at drop) = Unit {0}
 abbrev Dry : Deed × List Word → Type 0
 Dry d = IsDry d.0
 
-join_dry : (words : List Word) → IfSome (join_of words) Dry
-unfolding join_of
-join_dry [] = tt
-join_dry (node ∷ options) = next Dry (node_name_of node) _ (λ name. next Dry (label_of options) _ (λ label. refl))
+abbrev DryAct : Act × List Word → Type 0
+DryAct a = brings_bytes a.0 ≡ false
 
-leave_dry : (words : List Word) → IfSome (leave_of words) Dry
+join_dry : (words : List Word) → IfSome (join_of words) DryAct
+unfolding join_of
+join_dry words = next DryAct (label_of words) _ (λ label. refl)
+
+leave_dry : (words : List Word) → IfSome (leave_of words) DryAct
 unfolding leave_of
 leave_dry [] = tt
-leave_dry (node ∷ []) = tt
-leave_dry (node ∷ member ∷ words) = next Dry (node_name_of node) _ (λ name. next Dry (node_name_of member) _ (λ gone. refl))
+leave_dry (member ∷ words) = next DryAct (node_name_of member) _ (λ read. refl)
 
-drain_dry : (words : List Word) → IfSome (drain_of words) Dry
+drain_dry : (words : List Word) → IfSome (drain_of words) DryAct
 unfolding drain_of
 drain_dry [] = tt
-drain_dry (node ∷ []) = tt
-drain_dry (node ∷ member ∷ words) = next Dry (node_name_of node) _ (λ name. next Dry (node_name_of member) _ (λ emptied. refl))
+drain_dry (member ∷ words) = next DryAct (node_name_of member) _ (λ read. refl)
 
-start_dry : (words : List Word) → IfSome (start_of words) Dry
+start_dry : (words : List Word) → IfSome (start_of words) DryAct
 unfolding start_of
-start_dry [] = tt
-start_dry (node ∷ []) = tt
-start_dry (node ∷ id ∷ options) = next Dry (node_name_of node) _ (λ name. next Dry (child_id_of id) _ (λ child. next Dry (spec_of options) _ (λ spec. refl)))
+start_dry words = next DryAct (child_of words) _ (λ child. refl)
 
-replace_dry : (words : List Word) → IfSome (replace_of words) Dry
+replace_dry : (words : List Word) → IfSome (replace_of words) DryAct
 unfolding replace_of
-replace_dry [] = tt
-replace_dry (node ∷ []) = tt
-replace_dry (node ∷ id ∷ options) = next Dry (node_name_of node) _ (λ name. next Dry (child_id_of id) _ (λ child. next Dry (spec_of options) _ (λ spec. refl)))
+replace_dry words = next DryAct (child_of words) _ (λ child. refl)
 
-delete_dry : (words : List Word) → IfSome (delete_of words) Dry
+delete_dry : (words : List Word) → IfSome (delete_of words) DryAct
 unfolding delete_of
 delete_dry [] = tt
-delete_dry (node ∷ []) = tt
-delete_dry (node ∷ id ∷ words) = next Dry (node_name_of node) _ (λ name. next Dry (child_id_of id) _ (λ child. refl))
+delete_dry (id ∷ words) = next DryAct (child_id_of id) _ (λ read. refl)
 
-register_dry : (words : List Word) → IfSome (register_of words) Dry
+register_dry : (words : List Word) → IfSome (register_of words) DryAct
 unfolding register_of
 register_dry [] = tt
-register_dry (node ∷ []) = tt
-register_dry (node ∷ registered ∷ []) = tt
-register_dry (node ∷ registered ∷ id ∷ words) = next Dry (node_name_of node) _ (λ name. next Dry (registered_name_of registered) _ (λ taken. next Dry (child_id_of id) _ (λ child. refl)))
+register_dry (registered ∷ []) = tt
+register_dry (registered ∷ id ∷ words) = next DryAct (registered_name_of registered) _ (λ taken. next DryAct (child_id_of id) _ (λ child. refl))
 
-unregister_dry : (words : List Word) → IfSome (unregister_of words) Dry
+unregister_dry : (words : List Word) → IfSome (unregister_of words) DryAct
 unfolding unregister_of
 unregister_dry [] = tt
-unregister_dry (node ∷ []) = tt
-unregister_dry (node ∷ registered ∷ words) = next Dry (node_name_of node) _ (λ name. next Dry (registered_name_of registered) _ (λ taken. refl))
+unregister_dry (registered ∷ words) = next DryAct (registered_name_of registered) _ (λ read. refl)
 
-exit_dry : (words : List Word) → IfSome (exit_of words) Dry
+exit_dry : (words : List Word) → IfSome (exit_of words) DryAct
 unfolding exit_of
 exit_dry [] = tt
-exit_dry (node ∷ []) = tt
-exit_dry (node ∷ id ∷ []) = tt
-exit_dry (node ∷ id ∷ run ∷ []) = tt
-exit_dry (node ∷ id ∷ run ∷ reason ∷ words) = next Dry (node_name_of node) _ (λ name. next Dry (child_id_of id) _ (λ child. next Dry (incarnation_of run) _ (λ inc. next Dry (reason_of reason) _ (λ why. refl))))
+exit_dry (id ∷ []) = tt
+exit_dry (id ∷ run ∷ []) = tt
+exit_dry (id ∷ run ∷ reason ∷ words) = next DryAct (child_id_of id) _ (λ child. next DryAct (incarnation_of run) _ (λ inc. next DryAct (reason_of reason) _ (λ why. refl)))
 
-ship_dry : (words : List Word) → IfSome (ship_of words) Dry
+ship_dry : (words : List Word) → IfSome (ship_of words) DryAct
 unfolding ship_of
 ship_dry [] = tt
-ship_dry (node ∷ []) = tt
-ship_dry (node ∷ to ∷ words) = next Dry (node_name_of node) _ (λ name. next Dry (node_name_of to) _ (λ target. refl))
+ship_dry (to ∷ words) = next DryAct (node_name_of to) _ (λ read. refl)
 
-push_dry : (words : List Word) → IfSome (push_of words) Dry
+push_dry : (words : List Word) → IfSome (push_of words) DryAct
 unfolding push_of
 push_dry [] = tt
-push_dry (node ∷ []) = tt
-push_dry (node ∷ to ∷ words) = next Dry (node_name_of node) _ (λ name. next Dry (node_name_of to) _ (λ target. refl))
+push_dry (to ∷ words) = next DryAct (node_name_of to) _ (λ read. refl)
+
+act_dry : (verb : Word) (words : List Word) → IfSome (act_of verb words) DryAct
+unfolding act_of
+act_dry verb words =
+    either DryAct (bytes_eq verb (codes "join")) (join_of words) _ (join_dry words)
+    (either DryAct (bytes_eq verb (codes "leave")) (leave_of words) _ (leave_dry words)
+    (either DryAct (bytes_eq verb (codes "drain")) (drain_of words) _ (drain_dry words)
+    (either DryAct (bytes_eq verb (codes "start")) (start_of words) _ (start_dry words)
+    (either DryAct (bytes_eq verb (codes "replace")) (replace_of words) _ (replace_dry words)
+    (either DryAct (bytes_eq verb (codes "delete")) (delete_of words) _ (delete_dry words)
+    (either DryAct (bytes_eq verb (codes "register")) (register_of words) _ (register_dry words)
+    (either DryAct (bytes_eq verb (codes "unregister")) (unregister_of words) _ (unregister_dry words)
+    (either DryAct (bytes_eq verb (codes "exit")) (exit_of words) _ (exit_dry words)
+    (either DryAct (bytes_eq verb (codes "ship")) (ship_of words) _ (ship_dry words)
+    (either DryAct (bytes_eq verb (codes "push")) (push_of words) _ (push_dry words)
+    (either DryAct (bytes_eq verb (codes "stop")) (Some (Stop, words)) _ refl
+    (either DryAct (bytes_eq verb (codes "restart")) (Some (Restart, words)) None refl tt))))))))))))
+
+told_dry : (verb : Word) (words : List Word) → IfSome (told_of verb words) Dry
+unfolding told_of
+told_dry verb [] = tt
+told_dry verb (node ∷ words) = next Dry (node_name_of node) _ (λ name. after DryAct Dry (act_of verb words) _ (act_dry verb words) (λ act dry. dry))
 
 deliver_dry : (words : List Word) → IfSome (deliver_of words) Dry
 unfolding deliver_of
@@ -121,34 +135,10 @@ deliver_dry (sender ∷ number ∷ options) =
     let cut = word_behind (codes "drop") receiver.1 in
     next Dry (node_name_of sender) _ (λ name. next Dry (number_of MAX number) _ (λ k. next Dry (if_there node_name_of receiver.0) _ (λ at. next Dry (if_there (number_of MAX) cut.0) _ (λ drop. tt))))
 
-stop_dry : (words : List Word) → IfSome (stop_of words) Dry
-unfolding stop_of
-stop_dry [] = tt
-stop_dry (node ∷ words) = next Dry (node_name_of node) _ (λ name. refl)
-
-reboot_dry : (words : List Word) → IfSome (reboot_of words) Dry
-unfolding reboot_of
-reboot_dry [] = tt
-reboot_dry (node ∷ words) = next Dry (node_name_of node) _ (λ name. refl)
-
 deed_dry : (words : List Word) → IfSome (deed_of words) Dry
 unfolding deed_of
 deed_dry [] = tt
-deed_dry (verb ∷ words) =
-    either Dry (bytes_eq verb (codes "join")) (join_of words) _ (join_dry words)
-    (either Dry (bytes_eq verb (codes "leave")) (leave_of words) _ (leave_dry words)
-    (either Dry (bytes_eq verb (codes "drain")) (drain_of words) _ (drain_dry words)
-    (either Dry (bytes_eq verb (codes "start")) (start_of words) _ (start_dry words)
-    (either Dry (bytes_eq verb (codes "replace")) (replace_of words) _ (replace_dry words)
-    (either Dry (bytes_eq verb (codes "delete")) (delete_of words) _ (delete_dry words)
-    (either Dry (bytes_eq verb (codes "register")) (register_of words) _ (register_dry words)
-    (either Dry (bytes_eq verb (codes "unregister")) (unregister_of words) _ (unregister_dry words)
-    (either Dry (bytes_eq verb (codes "exit")) (exit_of words) _ (exit_dry words)
-    (either Dry (bytes_eq verb (codes "ship")) (ship_of words) _ (ship_dry words)
-    (either Dry (bytes_eq verb (codes "push")) (push_of words) _ (push_dry words)
-    (either Dry (bytes_eq verb (codes "deliver")) (deliver_of words) _ (deliver_dry words)
-    (either Dry (bytes_eq verb (codes "stop")) (stop_of words) _ (stop_dry words)
-    (either Dry (bytes_eq verb (codes "restart")) (reboot_of words) None (reboot_dry words) tt)))))))))))))
+deed_dry (verb ∷ words) = either Dry (bytes_eq verb (codes "deliver")) (deliver_of words) _ (deliver_dry words) (told_dry verb words)
 
 step_dry : (now : ℕ) (saves : Bool) (deed : Deed) → IsDry deed → has_bytes (step_at now saves deed) ≡ false
 step_dry now saves (At node act) h = h
