@@ -69,10 +69,10 @@ fn each_later_save_behind_a_failed_one_fails_in_turn(rt: HostRuntime) {
 // `bench/refused_stories.sh` runs these two and the rows with each growth refused in turn.
 #[test]
 fn an_interval_after_a_restart_is_sent_over_a_refused_growth(rt: HostRuntime) {
-    plays(&rt, Config::default(), INTERVAL, INTERVAL_TOLD);
+    plays(&rt, INTERVAL, INTERVAL_TOLD);
 }
 
 #[test]
 fn an_add_goes_on_beside_a_removal_over_a_refused_growth(rt: HostRuntime) {
-    plays(&rt, Config::default(), REMOVAL, REMOVAL_TOLD);
+    plays(&rt, REMOVAL, REMOVAL_TOLD);
 }

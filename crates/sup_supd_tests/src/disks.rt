@@ -1,6 +1,8 @@
 //! Stories of a keeper over a disk.
 
+use std::fs::File;
 use std::process::Abort;
+use std::rt::Files;
 use sup_disk::{DiskKeeper, FileLock, ImageKeeper, LockFault, MemDisk, Next, SystemDisk};
 use sup_keeper::{KeepFault, Keeper};
 
@@ -106,27 +108,31 @@ fn a_loss_of_power_leaves_what_the_disk_had_and_nothing_beside_it(rt: HostRuntim
 }
 
 // A keeper over the file at this path.
-fn over_file(rt: &HostRuntime, path: &str) -> DiskKeeper<SystemDisk<HostRuntime>> {
-    let handle = rt.clone().expect(rt, "a handle");
-    let disk = SystemDisk::at(rt.alloc(), handle, path).expect(rt, "room");
+fn over_file<R: Files + Drop>(
+    rt: &(impl Abort + AllocGlobal),
+    files: R,
+    path: &str,
+) -> DiskKeeper<SystemDisk<R>> {
+    let disk = SystemDisk::at(rt.alloc(), files, path).expect(rt, "room");
     DiskKeeper::open(rt.alloc(), disk).expect(rt, "it opens")
 }
 
 // Expects a file that isn't there where the old text is empty, or has it; and saves another text.
-fn reads_and_saves(rt: &HostRuntime, old: &str, text: &str) {
-    let mut keeper = over_file(rt, "kept.image");
+fn reads_and_saves<R: Files + Drop>(
+    rt: &(impl Abort + AllocGlobal),
+    files: R,
+    old: &str,
+    text: &str,
+) {
+    let mut keeper = over_file(rt, files, "kept.image");
     assert!(rt; keeper.is_new() == old.is_empty());
     let loaded = keeper.load().expect(rt, "bytes");
     assert!(rt; loaded.as_slice() == old.as_bytes());
     assert!(rt; keeper.save(text.as_bytes()) == Ok(()));
 }
 
-fn lock(rt: &HostRuntime) -> Result<FileLock, LockFault> {
+fn lock(rt: &(impl AllocGlobal + Files<File = File>)) -> Result<FileLock, LockFault> {
     FileLock::beside(rt.alloc(), rt, "kept.image")
-}
-
-fn expect_taken(rt: &HostRuntime) {
-    assert!(rt; matches!(lock(rt), Err(LockFault::Taken)));
 }
 
 #[test]
@@ -134,17 +140,18 @@ fn what_was_saved_in_a_file_is_read_by_the_next_keeper_and_two_never_hold_its_lo
     rt: HostRuntime,
 ) {
     let first = lock(&rt).expect(&rt, "the lock");
-    expect_taken(&rt);
-    reads_and_saves(&rt, "", "one");
-    reads_and_saves(&rt, "one", "another");
-    reads_and_saves(&rt, "another", "last");
+    assert!(rt; matches!(lock(&rt), Err(LockFault::Taken)));
+    reads_and_saves(&rt, rt.clone().expect(&rt, "a handle"), "", "one");
+    reads_and_saves(&rt, rt.clone().expect(&rt, "a handle"), "one", "another");
+    reads_and_saves(&rt, rt.clone().expect(&rt, "a handle"), "another", "last");
     drop(first);
     assert!(rt; lock(&rt).is_ok());
 }
 
 #[test]
 fn a_file_in_a_folder_that_is_not_there_keeps_nothing(rt: HostRuntime) {
-    let mut keeper = over_file(&rt, "nowhere/kept.image");
+    let handle = rt.clone().expect(&rt, "a handle");
+    let mut keeper = over_file(&rt, handle, "nowhere/kept.image");
     assert!(rt; keeper.save(b"one") == Err(KeepFault::Failed));
     assert!(rt; keeper.is_new() && !keeper.is_lost());
 }
