@@ -22,15 +22,17 @@ pub(crate) fn answered(
     done: &Done,
     number: Option<u64>,
 ) -> String {
-    answer_text(rt.alloc(), at, done, number)
-        .or_else(|_| answer_text(rt.alloc(), at, done, number))
-        .expect(rt, "room")
+    match answer_text(rt.alloc(), at, done, number) {
+        Ok(text) => text,
+        Err(_) => answer_text(rt.alloc(), at, done, number).expect(rt, "room"),
+    }
 }
 
 pub(crate) fn refused(rt: &(impl Abort + AllocGlobal), refusal: Refusal) -> String {
-    refusal_text(rt.alloc(), refusal)
-        .or_else(|_| refusal_text(rt.alloc(), refusal))
-        .expect(rt, "room")
+    match refusal_text(rt.alloc(), refusal) {
+        Ok(text) => text,
+        Err(_) => refusal_text(rt.alloc(), refusal).expect(rt, "room"),
+    }
 }
 
 /// What a node shows, or that it is down.
@@ -39,9 +41,18 @@ pub(crate) fn shown(
     at: &NodeName,
     node: Option<&Node<FlatWeigh>>,
 ) -> String {
-    show_text(rt.alloc(), at, node, &FlatWeigh)
-        .or_else(|_| show_text(rt.alloc(), at, node, &FlatWeigh))
-        .expect(rt, "room")
+    match show_text(rt.alloc(), at, node, &FlatWeigh) {
+        Ok(text) => text,
+        Err(_) => show_text(rt.alloc(), at, node, &FlatWeigh).expect(rt, "room"),
+    }
+}
+
+/// The boot of a node that runs.
+pub(crate) fn boot_of(node: Option<&Node<FlatWeigh>>) -> Option<u64> {
+    match node {
+        Some(node) => Some(node.boot()),
+        None => None,
+    }
 }
 
 /// Where a name leads at a node.
@@ -51,9 +62,10 @@ pub(crate) fn led(
     node: Option<&Node<FlatWeigh>>,
     sought: &Name,
 ) -> String {
-    where_text(rt.alloc(), at, node, sought, &FlatWeigh)
-        .or_else(|_| where_text(rt.alloc(), at, node, sought, &FlatWeigh))
-        .expect(rt, "room")
+    match where_text(rt.alloc(), at, node, sought, &FlatWeigh) {
+        Ok(text) => text,
+        Err(_) => where_text(rt.alloc(), at, node, sought, &FlatWeigh).expect(rt, "room"),
+    }
 }
 
 /// The bytes of a message or an image, as a line.
