@@ -130,28 +130,31 @@ module _ {W : Type 0} {h : WeighGhosts W} where
         = lane_script plan posts p.0 d.0 is one.lane one.stands j one.to q.0 q.1
         ∙ ap (λ n. script_between n q.0.name plan.scripts.items) (sym p.2.named) ∙ ap (λ n. script_between from.node n plan.scripts.items) (sym q.2.named) in
         let o = zip_left (λ (x : Driven W h) (k : History). BeginsWithSeen x.seat k) driven all i r own at_r in
-        let begins : BeginsWithSeen r.seat from = subst (λ (k : History). BeginsWithSeen r.seat k) (same_place all i i o.0 from o.1 at_from refl) o.2 in
-        (c.made.rounds,
-            record {
-              entries = d.2.entries;
-              calls = d.2.calls ∙ ap (map asked) is.commands ∙ ap (λ n. map asked (commands_of n plan.commands.items)) (sym p.2.named);
-              stand = in_history d.2.entries (view_of r.seat).seen from.entries.items begins d.2.seen;
-              put = c.put;
-              letters = subst (λ n. Sublist (letters_to n d.2.entries) c.put) (ap (λ (x : SharedNode W h). x.name) same ∙ sym q.2.named) c.letters;
-              delivered = subst (λ (l : List Verdict). AllZip IsRound (map delivery (image l c.put)) c.made.rounds) script c.made.are;
-            },
-            ap calls_by one.only ∙ ap (λ l. l ∷ []) (c.made.own ∙ ap (λ l. l ++ flat_map (map some) c.made.rounds) (fresh_calls one.lane.seat (contained (λ (l : Lane W h). IsFresh l.seat) d.0.lanes.items one.lane is.all_fresh one.stands))
-            ∙ row_image some c.made.rounds))
+        let begins : BeginsWithSeen r.seat from = subst (λ (k : History). BeginsWithSeen r.seat k) (same_place all i i o.0 from o.1 at_from refl) o.2 in (
+          c.made.rounds,
+          record {
+            entries = d.2.entries;
+            calls = d.2.calls ∙ ap (map asked) is.commands ∙ ap (λ n. map asked (commands_of n plan.commands.items)) (sym p.2.named);
+            stand = in_history d.2.entries (view_of r.seat).seen from.entries.items begins d.2.seen;
+            put = c.put;
+            letters = subst (λ n. Sublist (letters_to n d.2.entries) c.put) (ap (λ (x : SharedNode W h). x.name) same ∙ sym q.2.named) c.letters;
+            delivered = subst (λ (l : List Verdict). AllZip IsRound (map delivery (image l c.put)) c.made.rounds) script c.made.are;
+          },
+          ap calls_by one.only ∙ ap (λ l. l ∷ []) (c.made.own ∙ ap (λ l. l ++ flat_map (map some) c.made.rounds) (fresh_calls one.lane.seat (contained (λ (l : Lane W h). IsFresh l.seat) d.0.lanes.items one.lane is.all_fresh one.stands))
+              ∙ row_image some c.made.rounds),
+        )
 
     all_sent : (j : ℕ) (to : History) (rs : List (Driven W h)) (ks : List History) → AllZip (Sends j to) rs ks
         → (received : List (List (List Entry))) × AllZip (CameFrom plan to) ks received × (calls_by (passes_to j (map of_arrived (passes_of rs))) ≡ map (map some) (map in_a_row received))
     all_sent j to [] [] z = ([], tt, refl)
     all_sent j to [] (k ∷ ks) z = absurd z
     all_sent j to (r ∷ rs) [] z = absurd z
-    all_sent j to (r ∷ rs) (k ∷ ks) z = let more = all_sent j to rs ks z.1 in
-        (z.0.0 ∷ more.0, (z.0.1, more.1),
-        ap calls_by (passes_both posts j r.arrived.items (passes_of rs)) ∙ map-append (λ (s : Seat W h). calls_of (view_of s)) (passes_to j (map of_arrived r.arrived.items)) (passes_to j (map of_arrived (passes_of rs)))
-        ∙ ap (λ l. l ++ calls_by (passes_to j (map of_arrived (passes_of rs)))) z.0.2 ∙ ap (λ l. map some (in_a_row z.0.0) ∷ l) more.2)
+    all_sent j to (r ∷ rs) (k ∷ ks) z = let more = all_sent j to rs ks z.1 in (
+      z.0.0 ∷ more.0,
+      (z.0.1, more.1),
+      ap calls_by (passes_both posts j r.arrived.items (passes_of rs)) ∙ map-append (λ (s : Seat W h). calls_of (view_of s)) (passes_to j (map of_arrived r.arrived.items)) (passes_to j (map of_arrived (passes_of rs)))
+          ∙ ap (λ l. l ++ calls_by (passes_to j (map of_arrived (passes_of rs)))) z.0.2 ∙ ap (λ l. map some (in_a_row z.0.0) ∷ l) more.2,
+    )
 
     module _ (whole : HaveWhole (map (λ (d : Drive W h). d.seat) drives) (dealt_by drives)) (made : AreMadeBy (map (λ (d : Driven W h). d.seat) driven) (passes_of driven) all) where
       rounds_at : (before : List History) (x : History) (after : List History) → all ≡ before ++ x ∷ after → IsMadeOfRounds plan (before ++ after) x

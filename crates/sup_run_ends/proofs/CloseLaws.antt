@@ -93,9 +93,12 @@ module _ {W : Type 0} {h : WeighGhosts W} where
       → AllZip BeginsWithSeen gone histories → BeginsWithSeen seat history
       → (arrived : List (Arrived W h)) → n ≡ length histories → IsMadeBy seat (passes_to n (map of_arrived arrived)) history → AreMadeBy gone arrived histories
       → (gone' : List (Seat W h)) × (gone' ++ rest' ≡ all) × AllZip BeginsWithSeen gone' (histories ++ history ∷ []) × AreMadeBy gone' arrived (histories ++ history ∷ [])
-  own_more n gone seat rest rest' all histories history is e z b arrived at made before =
-      (gone ++ seat ∷ [], append_assoc gone (seat ∷ []) rest' ∙ ap (λ l. gone ++ l) (sym is) ∙ e, all_zipped_more BeginsWithSeen gone histories seat history z b,
-      made_more gone seat arrived histories history n (zip_same_length BeginsWithSeen gone histories z ∙ sym at) (sym at) made before)
+  own_more n gone seat rest rest' all histories history is e z b arrived at made before = (
+    gone ++ seat ∷ [],
+    append_assoc gone (seat ∷ []) rest' ∙ ap (λ l. gone ++ l) (sym is) ∙ e,
+    all_zipped_more BeginsWithSeen gone histories seat history z b,
+    made_more gone seat arrived histories history n (zip_same_length BeginsWithSeen gone histories z ∙ sym at) (sym at) made before,
+  )
 
   pub each_left : (histories : List History) (all : List (Arrived W h)) → All (λ (a : Arrived W h). EndsHistory histories a ⊎ Contains all a) all
   each_left histories all = all_at (λ (a : Arrived W h). EndsHistory histories a ⊎ Contains all a) all (λ i a e. inr (stands_in all i a e))

@@ -54,15 +54,17 @@ loop-to-preserved g c =
           (λ d x. let e = x.0 in (omega (arith, e), (s.0, ap (slice_get posts) e ∙ s.1, subst (λ (p : SharedNode g.row.W.Denot g.W.Weigh). IsSeatOf p d.1) here x.1), x.2)) cut.cut cut.of)),
       ap (map (λ (d : ℕ × Seat g.row.W.Denot g.W.Weigh). d.0)) cut.row ∙ map-append (λ (d : ℕ × Seat g.row.W.Denot g.W.Weigh). d.0) c.loop-to.row.items cut.cut
           ∙ ap (λ l. l ++ map (λ (d : ℕ × Seat g.row.W.Denot g.W.Weigh). d.0) cut.cut) c.loop-to.invariant.3 ∙ ap (λ l. others_of c.args.at (places to) ++ l) cut.ends ∙ sym (others_more c.args.at to),
-      (old.0 ++ c.in-Some.seat ∷ [],
-          append_assoc old.0 (c.in-Some.seat ∷ []) c.next.new.self.rest.items ∙ ap (λ l. old.0 ++ l) (sym c.in-Some.ensures.items) ∙ old.1,
-          omega (arith, length-append old.0 (c.in-Some.seat ∷ []), old.2),
-          ap length (sym put) ∙ omega (arith, length-append c.loop-to.kept.items (c.in_ok-rest.rest ∷ []), old.3),
-          subst (λ (p : List (Seat g.row.W.Denot g.W.Weigh) × List (ℕ × Seat g.row.W.Denot g.W.Weigh)). AreCutOff (old.0 ++ c.in-Some.seat ∷ []) p.0 p.1) (λ i. (put i, row i))
-          (cut_more to old.0 c.loop-to.kept.items c.loop-to.row.items cut.cut c.in-Some.seat c.in_ok-rest.rest old.2 old.3
-          (all_weaken (λ (d : ℕ × Seat g.row.W.Denot g.W.Weigh). (d.0 < to) × IsSeatAt posts d.0 d.1 × IsFresh d.1) (λ (d : ℕ × Seat g.row.W.Denot g.W.Weigh). d.0 < to) (λ d x. x.0) c.loop-to.row.items c.loop-to.invariant.2)
-          (all_weaken (λ (d : ℕ × Seat g.row.W.Denot g.W.Weigh). (d.0 ≡ to) × IsSeatOf c.index-posts-to.result d.1 × IsFresh d.1) (λ (d : ℕ × Seat g.row.W.Denot g.W.Weigh). d.0 ≡ to) (λ d x. x.0) cut.cut cut.of)
-          cut.off old.4)),
+      (
+        old.0 ++ c.in-Some.seat ∷ [],
+        append_assoc old.0 (c.in-Some.seat ∷ []) c.next.new.self.rest.items ∙ ap (λ l. old.0 ++ l) (sym c.in-Some.ensures.items) ∙ old.1,
+        omega (arith, length-append old.0 (c.in-Some.seat ∷ []), old.2),
+        ap length (sym put) ∙ omega (arith, length-append c.loop-to.kept.items (c.in_ok-rest.rest ∷ []), old.3),
+        subst (λ (p : List (Seat g.row.W.Denot g.W.Weigh) × List (ℕ × Seat g.row.W.Denot g.W.Weigh)). AreCutOff (old.0 ++ c.in-Some.seat ∷ []) p.0 p.1) (λ i. (put i, row i))
+            (cut_more to old.0 c.loop-to.kept.items c.loop-to.row.items cut.cut c.in-Some.seat c.in_ok-rest.rest old.2 old.3
+            (all_weaken (λ (d : ℕ × Seat g.row.W.Denot g.W.Weigh). (d.0 < to) × IsSeatAt posts d.0 d.1 × IsFresh d.1) (λ (d : ℕ × Seat g.row.W.Denot g.W.Weigh). d.0 < to) (λ d x. x.0) c.loop-to.row.items c.loop-to.invariant.2)
+            (all_weaken (λ (d : ℕ × Seat g.row.W.Denot g.W.Weigh). (d.0 ≡ to) × IsSeatOf c.index-posts-to.result d.1 × IsFresh d.1) (λ (d : ℕ × Seat g.row.W.Denot g.W.Weigh). d.0 ≡ to) (λ d x. x.0) cut.cut cut.of)
+            cut.off old.4),
+      ),
     )
 
 pub returns-clause-kept : goal.returns-clause-kept

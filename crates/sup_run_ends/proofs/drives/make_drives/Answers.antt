@@ -27,15 +27,27 @@ loop-at-init g c =
     )
 
 pub unreachable-requires : goal.unreachable-requires
-unreachable-requires g c = omega (arith, long_both (map (λ (d : Drive g.row.W.Denot g.W.Weigh). d.seat) c.loop-at.drives.items) c.loop-at.seats.rest.items c.into_iter-seats.result.rest.items c.loop-at.invariant.2,
-    length-map c.loop-at.drives.items (λ (d : Drive g.row.W.Denot g.W.Weigh). d.seat), drives_long c.loop-at.drives.items c.loop-at.at c.loop-at.invariant.1, c.in_default.ensures.cases,
-    zip_same_length IsSeatOf c.args.posts.now c.in_ok-seats.seats.items c.in_ok-seats.ensures.seats, ap length c.into_iter-seats.ensures.rest)
+unreachable-requires g c = omega (
+  arith,
+  long_both (map (λ (d : Drive g.row.W.Denot g.W.Weigh). d.seat) c.loop-at.drives.items) c.loop-at.seats.rest.items c.into_iter-seats.result.rest.items c.loop-at.invariant.2,
+  length-map c.loop-at.drives.items (λ (d : Drive g.row.W.Denot g.W.Weigh). d.seat),
+  drives_long c.loop-at.drives.items c.loop-at.at c.loop-at.invariant.1,
+  c.in_default.ensures.cases,
+  zip_same_length IsSeatOf c.args.posts.now c.in_ok-seats.seats.items c.in_ok-seats.ensures.seats,
+  ap length c.into_iter-seats.ensures.rest,
+)
 
 pub unreachable-requires-in_default-next : goal.unreachable-requires-in_default-next
-unreachable-requires-in_default-next g c = omega (arith, long_both (map (λ (d : Drive g.row.W.Denot g.W.Weigh). d.lanes) c.loop-at.drives.items) c.loop-at.rows.rest.items c.into_iter-rows.result.rest.items c.loop-at.invariant.3,
-    length-map c.loop-at.drives.items (λ (d : Drive g.row.W.Denot g.W.Weigh). d.lanes), drives_long c.loop-at.drives.items c.loop-at.at c.loop-at.invariant.1, c.in_default-next.ensures.cases,
-    zip_same_length (λ (i : ℕ) (v : Vec (Lane g.row.W.Denot g.W.Weigh) Global). IsRowOf c.args.plan.now c.args.posts.now i v.items) (places (length c.args.posts.now)) c.in_ok-seats.rows.items c.in_ok-seats.ensures.rows,
-    places_long (length c.args.posts.now), ap length c.into_iter-rows.ensures.rest)
+unreachable-requires-in_default-next g c = omega (
+  arith,
+  long_both (map (λ (d : Drive g.row.W.Denot g.W.Weigh). d.lanes) c.loop-at.drives.items) c.loop-at.rows.rest.items c.into_iter-rows.result.rest.items c.loop-at.invariant.3,
+  length-map c.loop-at.drives.items (λ (d : Drive g.row.W.Denot g.W.Weigh). d.lanes),
+  drives_long c.loop-at.drives.items c.loop-at.at c.loop-at.invariant.1,
+  c.in_default-next.ensures.cases,
+  zip_same_length (λ (i : ℕ) (v : Vec (Lane g.row.W.Denot g.W.Weigh) Global). IsRowOf c.args.plan.now c.args.posts.now i v.items) (places (length c.args.posts.now)) c.in_ok-seats.rows.items c.in_ok-seats.ensures.rows,
+  places_long (length c.args.posts.now),
+  ap length c.into_iter-rows.ensures.rest,
+)
 
 pub make_drive-requires-clause-seat : goal.make_drive-requires-clause-seat
 make_drive-requires-clause-seat g c = zip_right IsSeatOf c.args.posts.now c.in_ok-seats.seats.items c.loop-at.at c.in-Some.seat c.in_ok-seats.ensures.seats
@@ -86,10 +98,25 @@ returns-clause-whole g c =
     let all : c.loop-at.at ≡ length c.args.posts.now = omega arith in
     let made = drives_long c.loop-at.drives.items c.loop-at.at c.loop-at.invariant.1 in
     let seats = c.loop-at.invariant.2 ∙ c.into_iter-seats.ensures.rest in let rows = c.loop-at.invariant.3 ∙ c.into_iter-rows.ensures.rest in
-    let no_seat : length c.loop-at.seats.rest.items ≡ 0 = omega (arith, all, made, length-map c.loop-at.drives.items (λ (d : Drive g.row.W.Denot g.W.Weigh). d.seat), long_both (map (λ (d : Drive g.row.W.Denot g.W.Weigh). d.seat) c.loop-at.drives.items) c.loop-at.seats.rest.items c.in_ok-seats.seats.items seats,
-    zip_same_length IsSeatOf c.args.posts.now c.in_ok-seats.seats.items c.in_ok-seats.ensures.seats) in
-    let no_row : length c.loop-at.rows.rest.items ≡ 0 = omega (arith, all, made, length-map c.loop-at.drives.items (λ (d : Drive g.row.W.Denot g.W.Weigh). d.lanes), long_both (map (λ (d : Drive g.row.W.Denot g.W.Weigh). d.lanes) c.loop-at.drives.items) c.loop-at.rows.rest.items c.in_ok-seats.rows.items rows,
-    zip_same_length (λ (i : ℕ) (v : Vec (Lane g.row.W.Denot g.W.Weigh) Global). IsRowOf c.args.plan.now c.args.posts.now i v.items) (places (length c.args.posts.now)) c.in_ok-seats.rows.items c.in_ok-seats.ensures.rows, places_long (length c.args.posts.now)) in
+    let no_seat : length c.loop-at.seats.rest.items ≡ 0 = omega (
+      arith,
+      all,
+      made,
+      length-map c.loop-at.drives.items (λ (d : Drive g.row.W.Denot g.W.Weigh). d.seat),
+      long_both (map (λ (d : Drive g.row.W.Denot g.W.Weigh). d.seat) c.loop-at.drives.items) c.loop-at.seats.rest.items c.in_ok-seats.seats.items seats,
+      zip_same_length IsSeatOf c.args.posts.now c.in_ok-seats.seats.items c.in_ok-seats.ensures.seats,
+    ) in
+    let no_row : length c.loop-at.rows.rest.items ≡ 0 = omega (
+      arith,
+      all,
+      made,
+      length-map c.loop-at.drives.items (λ (d : Drive g.row.W.Denot g.W.Weigh). d.lanes),
+      long_both (map (λ (d : Drive g.row.W.Denot g.W.Weigh). d.lanes) c.loop-at.drives.items) c.loop-at.rows.rest.items c.in_ok-seats.rows.items rows,
+      zip_same_length (λ (i : ℕ) (v : Vec (Lane g.row.W.Denot g.W.Weigh) Global). IsRowOf c.args.plan.now c.args.posts.now i v.items) (places (length c.args.posts.now)) c.in_ok-seats.rows.items c.in_ok-seats.ensures.rows,
+      places_long (length c.args.posts.now),
+    ) in
     subst (λ (p : List (Seat g.row.W.Denot g.W.Weigh) × List (Vec (Lane g.row.W.Denot g.W.Weigh) Global)). HaveWhole p.0 (dealt_in p.1))
-    (λ i. (sym (none_left (map (λ (d : Drive g.row.W.Denot g.W.Weigh). d.seat) c.loop-at.drives.items) c.loop-at.seats.rest.items c.in_ok-seats.seats.items no_seat seats) i,
-    sym (none_left (map (λ (d : Drive g.row.W.Denot g.W.Weigh). d.lanes) c.loop-at.drives.items) c.loop-at.rows.rest.items c.in_ok-seats.rows.items no_row rows) i)) c.in_ok-seats.ensures.whole
+    (λ i. (
+      sym (none_left (map (λ (d : Drive g.row.W.Denot g.W.Weigh). d.seat) c.loop-at.drives.items) c.loop-at.seats.rest.items c.in_ok-seats.seats.items no_seat seats) i,
+      sym (none_left (map (λ (d : Drive g.row.W.Denot g.W.Weigh). d.lanes) c.loop-at.drives.items) c.loop-at.rows.rest.items c.in_ok-seats.rows.items no_row rows) i,
+    )) c.in_ok-seats.ensures.whole
