@@ -59,11 +59,11 @@ one_other at j (suc n) lt apart = one_more at j n ∙ dite (ℕ_discrete j n)
 -- and the place itself is none of them
 pub not_itself : (j : ℕ) (xs : List ℕ) → those j (others_of j xs) ≡ []
 not_itself j [] = refl
-not_itself j (x ∷ xs) = by_test (x == j) refl
+not_itself j (x ∷ xs) = by_test (not_itself j xs) (x == j) refl
   where
-    by_test : (b : Bool) → (x == j) ≡ b → those j (cond (not b) (x ∷ others_of j xs) (others_of j xs)) ≡ []
-    by_test true e = not_itself j xs
-    by_test false e = ap (λ b. cond b (x ∷ those j (others_of j xs)) (those j (others_of j xs))) e ∙ not_itself j xs
+    by_test : those j (others_of j xs) ≡ [] → (b : Bool) → (x == j) ≡ b → those j (cond (not b) (x ∷ others_of j xs) (others_of j xs)) ≡ []
+    by_test rest true e = rest
+    by_test rest false e = ap (λ b. cond b (x ∷ those j (others_of j xs)) (those j (others_of j xs))) e ∙ rest
 
 module _ {W : Type 0} {h : WeighGhosts W} (posts : List (SharedNode W h)) where
   module _ (es : List Entry) where
