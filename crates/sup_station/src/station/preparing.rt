@@ -2,6 +2,7 @@
 ghost use Rattle.std.specs.Prelude.{◌≡◌, ◌≤◌, ◌+◌, Some, None, IfOk, MatchResult};
 ghost use Rattle.sup_replica.specs.declared.event.Act.TheVariants.{Event as Of, Stop, Restart};
 ghost use Rattle.sup_specs.specs.declared.limits.TheConstants.{MAX as MOST};
+ghost use Rattle.sup_wire.specs.RowTexts.{AreRows};
 ghost use Rattle.sup_node.specs.Changes.{image_after};
 ghost use Rattle.sup_node.specs.Contents.{station_of};
 ghost use Rattle.sup_node.specs.NodeSteps.{FitsNode};
@@ -35,7 +36,7 @@ impl<K: Keeper, W: Weigh> Station<K, W> {
         let Some(node) = &self.node else {
             return Err(Refusal::Down);
         };
-        let planned = node.plan(event, now, weigher)?;
+        let planned = node.plan_with(self.texts_of(node), event, now, weigher)?;
         let text = self.text_after(node, &planned)?;
         Ok(Prepared {
             next: Next::Changes(planned),
@@ -52,11 +53,19 @@ impl<K: Keeper, W: Weigh> Station<K, W> {
         let Some(next) = node.next_image(planned)? else {
             return Ok(None);
         };
+        let text = text_after(self.alloc, self.texts_of(node), &next)?;
+        Ok(Some(text))
+    }
+
+    // The texts of the rows that its node knows.
+    fn texts_of(&self, node: &Node<W>) -> &ArrayText
+        requires { (kept_station_of K.kept self.now).node ≡ Some (station_of node.now) }
+        ensures { AreRows (station_of node.now).node.known.rows result.now.items }
+    {
         let Some(texts) = &self.texts else {
             unreachable!();
         };
-        let text = text_after(self.alloc, texts, &next)?;
-        Ok(Some(text))
+        texts
     }
 
     // Makes a stop ready.
