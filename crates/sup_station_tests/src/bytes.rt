@@ -57,11 +57,6 @@ fn seen(rt: &(impl Abort + AllocGlobal), station: &Kept, of: &str) -> String {
     text
 }
 
-// The node shows and keeps what it did before.
-fn expect_as_before(rt: &(impl Abort + AllocGlobal), station: &Kept, of: &str, before: &str) {
-    assert!(rt; seen(rt, station, of).as_str() == before);
-}
-
 // Why these bytes are refused.
 fn refusal(rt: &(impl Abort + AllocGlobal), station: &mut Kept, bytes: &[u8]) -> Option<Refusal> {
     let text = message(rt.alloc(), bytes).expect(rt, "room");
@@ -76,7 +71,9 @@ fn text_in(rt: &(impl Abort + AllocGlobal), front: &str, version: u64) -> String
 
 // The message is none in version 9.
 fn expect_no_version_9(rt: &(impl Abort + AllocGlobal), station: &mut Kept, front: &str) {
-    expect_none(rt, station, text_in(rt, front, 9).as_str());
+    let text = text_in(rt, front, 9);
+    let refused = refusal(rt, station, text.as_bytes());
+    assert!(rt; refused == Some(Refusal::BadMessage), "{front}");
 }
 
 // The message without its last bytes, one to all, is none.
@@ -110,18 +107,16 @@ fn expect_misdirected(
     assert!(rt; refused == Some(Refusal::WrongReceiver), "{front}");
 }
 
-fn expect_none_in_version_9(rt: &(impl Abort + AllocGlobal), station: &mut Kept, fronts: &[&str]) {
-    for front in fronts {
-        expect_no_version_9(rt, station, front);
-    }
-}
-
 fn no_version_9_at(rt: &(impl Abort + AllocGlobal), of: &str) {
     let mut station = begun(rt, of);
     let before = seen(rt, &station, of);
-    expect_none_in_version_9(rt, &mut station, &FRONTS_OF_1);
-    expect_none_in_version_9(rt, &mut station, &FRONTS_OF_2);
-    expect_as_before(rt, &station, of, before.as_str());
+    for front in FRONTS_OF_1 {
+        expect_no_version_9(rt, &mut station, front);
+    }
+    for front in FRONTS_OF_2 {
+        expect_no_version_9(rt, &mut station, front);
+    }
+    assert!(rt; seen(rt, &station, of).as_str() == before.as_str());
 }
 
 #[test]
@@ -130,23 +125,16 @@ fn a_message_of_version_9_is_none(rt: HostRuntime) {
     no_version_9_at(&rt, "b");
 }
 
-fn expect_no_cuts_in(
-    rt: &(impl Abort + AllocGlobal),
-    station: &mut Kept,
-    fronts: &[&str],
-    version: u64,
-) {
-    for front in fronts {
-        expect_no_cut_in(rt, station, front, version);
-    }
-}
-
 fn no_cut_at(rt: &(impl Abort + AllocGlobal), of: &str) {
     let mut station = begun(rt, of);
     let before = seen(rt, &station, of);
-    expect_no_cuts_in(rt, &mut station, &FRONTS_OF_1, 1);
-    expect_no_cuts_in(rt, &mut station, &FRONTS_OF_2, 2);
-    expect_as_before(rt, &station, of, before.as_str());
+    for front in FRONTS_OF_1 {
+        expect_no_cut_in(rt, &mut station, front, 1);
+    }
+    for front in FRONTS_OF_2 {
+        expect_no_cut_in(rt, &mut station, front, 2);
+    }
+    assert!(rt; seen(rt, &station, of).as_str() == before.as_str());
 }
 
 #[test]
@@ -155,18 +143,14 @@ fn a_message_that_lacks_bytes_is_none(rt: HostRuntime) {
     no_cut_at(&rt, "b");
 }
 
-fn expect_none(rt: &(impl Abort + AllocGlobal), station: &mut Kept, text: &str) {
-    let refused = refusal(rt, station, text.as_bytes());
-    assert!(rt; refused == Some(Refusal::BadMessage), "{text}");
-}
-
 fn no_backwards_at(rt: &(impl Abort + AllocGlobal), of: &str) {
     let mut station = begun(rt, of);
     let before = seen(rt, &station, of);
     for text in BACKWARDS {
-        expect_none(rt, &mut station, text);
+        let refused = refusal(rt, &mut station, text.as_bytes());
+        assert!(rt; refused == Some(Refusal::BadMessage), "{text}");
     }
-    expect_as_before(rt, &station, of, before.as_str());
+    assert!(rt; seen(rt, &station, of).as_str() == before.as_str());
 }
 
 #[test]
@@ -175,23 +159,16 @@ fn a_message_whose_rows_or_dots_stand_backwards_is_none(rt: HostRuntime) {
     no_backwards_at(&rt, "b");
 }
 
-fn expect_all_misdirected(
-    rt: &(impl Abort + AllocGlobal),
-    station: &mut Kept,
-    fronts: &[&str],
-    version: u64,
-) {
-    for front in fronts {
-        expect_misdirected(rt, station, front, version);
-    }
-}
-
 // In its own version each is a message: a third node misses no byte of it.
 #[test]
 fn the_messages_of_the_rows_are_messages(rt: HostRuntime) {
     let mut station = begun(&rt, "c");
     let before = seen(&rt, &station, "c");
-    expect_all_misdirected(&rt, &mut station, &FRONTS_OF_1, 1);
-    expect_all_misdirected(&rt, &mut station, &FRONTS_OF_2, 2);
-    expect_as_before(&rt, &station, "c", before.as_str());
+    for front in FRONTS_OF_1 {
+        expect_misdirected(&rt, &mut station, front, 1);
+    }
+    for front in FRONTS_OF_2 {
+        expect_misdirected(&rt, &mut station, front, 2);
+    }
+    assert!(rt; seen(&rt, &station, "c").as_str() == before.as_str());
 }

@@ -75,18 +75,11 @@ fn the_last_change_is_counted_and_shipped(rt: HostRuntime) {
     );
 }
 
-// Three texts, one behind another.
-fn joined(rt: &(impl Abort + AllocGlobal), first: &str, second: &str, third: &str) -> String {
-    let mut text = String::new(rt.alloc());
-    text.push_str(first).expect(rt, "room");
-    text.push_str(second).expect(rt, "room");
-    text.push_str(third).expect(rt, "room");
-    text
-}
-
 #[test]
 fn a_node_that_counted_its_last_change_takes_no_new_one_in(rt: HostRuntime) {
-    let lines = joined(&rt, "restart a\n", PUSHES, "");
+    let mut lines = String::new(rt.alloc());
+    lines.push_str("restart a\n").expect(&rt, "room");
+    lines.push_str(PUSHES).expect(&rt, "room");
     plays_from(
         &rt,
         "a",
@@ -98,7 +91,10 @@ fn a_node_that_counted_its_last_change_takes_no_new_one_in(rt: HostRuntime) {
 
 #[test]
 fn a_node_counts_a_delivery_as_its_last_change(rt: HostRuntime) {
-    let lines = joined(&rt, "restart a\n", PUSHES, "start a x\n");
+    let mut lines = String::new(rt.alloc());
+    lines.push_str("restart a\n").expect(&rt, "room");
+    lines.push_str(PUSHES).expect(&rt, "room");
+    lines.push_str("start a x\n").expect(&rt, "room");
     plays_from(
         &rt,
         "a",
@@ -159,8 +155,11 @@ fn a_cloud_of_10000_dots_becomes_a_vector(rt: HostRuntime) {
 // A dot of another node stands beside them.
 #[test]
 fn a_cloud_of_10000_lone_dots_is_read_and_written(rt: HostRuntime) {
-    let image = clouded(&rt, 2, 2);
-    let told = joined(&rt, "ok boot 2\n", image.as_str(), "\nok (a,1)\n");
+    let mut told = String::new(rt.alloc());
+    told.push_str("ok boot 2\n").expect(&rt, "room");
+    told.push_str(clouded(&rt, 2, 2).as_str())
+        .expect(&rt, "room");
+    told.push_str("\nok (a,1)\n").expect(&rt, "room");
     plays_from(
         &rt,
         "a",

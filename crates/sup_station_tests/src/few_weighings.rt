@@ -4,7 +4,7 @@ use std::cell::Cell;
 use std::fmt::Write;
 use std::process::Abort;
 use sup_keeper::{Keeper, MemKeeper};
-use sup_local_sup::{Entry, KeptList};
+use sup_local_sup::KeptList;
 use sup_placement::{Sha256Weigh, Weigh};
 use sup_replica::{Act, Config, Event};
 use sup_specs::{ChildId, NodeName};
@@ -33,44 +33,28 @@ fn counting() -> CountingWeigh {
     }
 }
 
-fn push(rt: &impl Abort, image: &mut String, text: &str) {
-    image.push_str(text).expect(rt, "room");
-}
-
-fn push_member(rt: &impl Abort, image: &mut String, member: &str, counter: u32) {
-    write!(image, "[\"member\",\"{member}\",[\"a\",{counter}],").expect(rt, "room");
-    push(rt, image, "{\"label\":\"\",\"status\":\"open\"}],");
-}
-
-fn push_child(rt: &impl Abort, image: &mut String, counter: u32) {
-    let id = 994u32.saturating_add(counter);
-    write!(image, "[\"child\",\"c{id}\",[\"a\",{counter}],").expect(rt, "room");
-    push(
-        rt,
-        image,
-        "{\"arg\":\"\",\"kind\":\"worker\",\"restart\":\"permanent\",\"shutdown\":5000}]",
-    );
-}
-
 // An image of node a with the members a to e and the children c1000 to c1999.
 fn peopled(rt: &(impl Abort + AllocGlobal)) -> String {
     let mut image = String::new(rt.alloc());
-    push(
-        rt,
-        &mut image,
+    let opened = image.push_str(
         "{\"boot\":1,\"count\":1005,\"ctx\":{\"cloud\":[],\"vector\":{\"a\":1005}},\"kind\":\"image\",\"node\":\"a\",\"rows\":[",
     );
-    push_member(rt, &mut image, "a", 1);
-    push_member(rt, &mut image, "b", 2);
-    push_member(rt, &mut image, "c", 3);
-    push_member(rt, &mut image, "d", 4);
-    push_member(rt, &mut image, "e", 5);
-    for counter in 6..1005u32 {
-        push_child(rt, &mut image, counter);
-        push(rt, &mut image, ",");
+    opened.expect(rt, "room");
+    for counter in 1..6u32 {
+        let member = ["a", "b", "c", "d", "e"][counter as usize - 1];
+        write!(image, "[\"member\",\"{member}\",[\"a\",{counter}],").expect(rt, "room");
+        let info = "{\"label\":\"\",\"status\":\"open\"}],";
+        image.push_str(info).expect(rt, "room");
     }
-    push_child(rt, &mut image, 1005);
-    push(rt, &mut image, "],\"v\":2}");
+    for counter in 6..1006u32 {
+        let id = 994 + counter;
+        let front = if counter == 6 { "" } else { "," };
+        write!(image, "{front}[\"child\",\"c{id}\",[\"a\",{counter}],").expect(rt, "room");
+        let spec =
+            "{\"arg\":\"\",\"kind\":\"worker\",\"restart\":\"permanent\",\"shutdown\":5000}]";
+        image.push_str(spec).expect(rt, "room");
+    }
+    image.push_str("],\"v\":2}").expect(rt, "room");
     image
 }
 
@@ -87,48 +71,30 @@ fn begun(
     station
 }
 
-// Whether a child is kept under the dot of this entry.
-fn has(kept: &KeptList, id: &ChildId, wanted: &Entry) -> bool {
-    match kept.get(id) {
-        Some(entry) => entry.dot == wanted.dot,
+// Whether each child of one list is in the other under the same dot.
+fn are_in(some: &KeptList, others: &KeptList) -> bool {
+    some.iter().all(|(id, entry)| match others.get(id) {
+        Some(other) => other.dot == entry.dot,
         None => false,
-    }
-}
-
-// Expects each child of one list to be in the other under the same dot, and no more of them.
-fn expect_same(rt: &impl Abort, here: &KeptList, there: &KeptList) {
-    assert!(rt; here.len() > 150);
-    assert!(rt; here.len() == there.len());
-    for (id, entry) in here.iter() {
-        assert!(rt; has(there, id, entry));
-    }
-}
-
-// Node a starts a child.
-fn starts(
-    rt: &(impl Abort + AllocGlobal),
-    station: &mut Station<MemKeeper, CountingWeigh>,
-    weigher: &CountingWeigh,
-) {
-    let id = child(rt.alloc(), "c3000").expect(rt, "room");
-    let spec = worker(rt.alloc(), "").expect(rt, "room");
-    let start = Act::Event(Event::Start(id, spec));
-    assert!(rt; station.step(start, 0, weigher).is_ok());
-}
-
-// What a node keeps that runs.
-fn kept<'a>(rt: &impl Abort, station: &'a Station<MemKeeper, CountingWeigh>) -> &'a KeptList {
-    station.node().expect(rt, "a node that runs").kept()
+    })
 }
 
 #[test]
 fn a_start_weighs_few_times_and_keeps_what_a_restart_keeps(rt: HostRuntime) {
     let weigher = counting();
-    let mut station = begun(&rt, peopled(&rt).as_bytes(), &weigher);
+    let image = peopled(&rt);
+    let mut station = begun(&rt, image.as_bytes(), &weigher);
     assert!(rt; weigher.asked.get() == 5000);
     weigher.asked.set(0);
-    starts(&rt, &mut station, &weigher);
+    let id = child(rt.alloc(), "c3000").expect(&rt, "room");
+    let spec = worker(rt.alloc(), "").expect(&rt, "room");
+    let start = Act::Event(Event::Start(id, spec));
+    assert!(rt; station.step(start, 0, &weigher).is_ok());
     assert!(rt; weigher.asked.get() <= 10);
     let again = begun(&rt, station.keeper().stored(), &weigher);
-    expect_same(&rt, kept(&rt, &station), kept(&rt, &again));
+    let here = station.node().expect(&rt, "a node that runs").kept();
+    let there = again.node().expect(&rt, "a node that runs").kept();
+    assert!(rt; here.len() > 150);
+    assert!(rt; here.len() == there.len());
+    assert!(rt; are_in(here, there));
 }

@@ -2,7 +2,6 @@
 //! does what it should have done. The calls of a keeper are the save of the opening image, that of a start, the load of a
 //! restart and its save.
 use crate::given::{child, name, worker};
-use crate::told::boot_of;
 use std::process::Abort;
 use sup_keeper::{FuseKeeper, Keeper, MemKeeper};
 use sup_placement::FlatWeigh;
@@ -54,7 +53,7 @@ fn fails(rt: &impl Abort, station: &mut Fused, act: Act, kept: &str) {
 
 // The node runs in this boot, or none does; and its keeper has failed so often.
 fn expect_at(rt: &impl Abort, station: &Fused, boot: Option<u64>, failures: u64) {
-    assert!(rt; boot_of(station.node()) == boot);
+    assert!(rt; station.node().map(|node| node.boot()) == boot);
     assert!(rt; station.keeper().failures() == failures);
 }
 
@@ -76,23 +75,22 @@ fn goes_on_over_a_failed_restart(rt: &(impl Abort + AllocGlobal), station: &mut 
     expect_at(rt, station, Some(2), 1);
 }
 
-// The keeper that is handed back, since it failed at the opening image.
-fn handed_back(rt: &(impl Abort + AllocGlobal), keeper: FuseKeeper) -> FuseKeeper {
-    let of = name(rt, "a");
-    let made: Result<Fused, _> = Station::new(rt.alloc(), of, Config::default(), keeper);
+#[test]
+fn a_keeper_that_failed_at_the_opening_image_opens_another_station(rt: HostRuntime) {
+    let keeper = fused(&rt, 0);
+    let made: Result<Fused, _> = Station::new(
+        rt.alloc(),
+        name(&rt, "a"),
+        Config::default(),
+        keeper,
+    );
     let Err(refused) = made else {
         panic!(rt; "it was saved")
     };
     assert!(rt; refused.reason == Refusal::KeepFailed);
-    refused.keeper
-}
-
-#[test]
-fn a_keeper_that_failed_at_the_opening_image_opens_another_station(rt: HostRuntime) {
-    let keeper = handed_back(&rt, fused(&rt, 0));
-    assert!(rt; keeper.inner().stored().is_empty());
-    assert!(rt; keeper.failures() == 1);
-    let mut station = opened(&rt, keeper);
+    assert!(rt; refused.keeper.inner().stored().is_empty());
+    assert!(rt; refused.keeper.failures() == 1);
+    let mut station = opened(&rt, refused.keeper);
     goes_on(&rt, &mut station, 1);
 }
 
@@ -122,17 +120,12 @@ fn a_keeper_that_is_to_fail_later_doesnt_fail_yet(rt: HostRuntime) {
     goes_on(&rt, &mut station, 0);
 }
 
-// A keeper whose first two calls fail: the inner keeper's first save and its own second call.
-fn twice_fused(rt: &impl AllocGlobal) -> FuseKeeper {
-    let mut inner = MemKeeper::new(rt.alloc());
-    inner.fail_next(true);
-    FuseKeeper::new(inner, 1)
-}
-
 // The save that the inner keeper was told to fail is counted beside the fuse's.
 #[test]
 fn a_keeper_behind_a_fuse_fails_too(rt: HostRuntime) {
-    let mut keeper = twice_fused(&rt);
+    let mut inner = MemKeeper::new(rt.alloc());
+    inner.fail_next(true);
+    let mut keeper = FuseKeeper::new(inner, 1);
     assert!(rt; keeper.save(OPENING.as_bytes()).is_err());
     assert!(rt; keeper.failures() == 1);
     assert!(rt; keeper.load().is_err());

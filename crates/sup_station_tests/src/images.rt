@@ -2,6 +2,7 @@
 //! Vectors of the formats, as far as contexts that list their dots allow.
 use crate::many_children::full;
 use crate::stage::{plays, plays_from};
+use sup_replica::Config;
 
 /// A child under the last dot that node a can give.
 const DOTS_SPENT: &str =
@@ -104,6 +105,7 @@ fn full_tables_take_no_child_more_and_let_others_be_replaced(rt: HostRuntime) {
 fn foreign_acknowledgements_and_other_bytes_are_refused(rt: HostRuntime) {
     plays(
         &rt,
+        Config::default(),
         FOREIGN,
         "refused 17 BadMessage\nrefused 17 BadMessage\n",
     );

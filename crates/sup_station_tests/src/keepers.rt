@@ -7,28 +7,18 @@ use sup_placement::FlatWeigh;
 use sup_replica::{Act, Config, Refusal};
 use sup_station::Station;
 
-type Kept = Station<MemKeeper, FlatWeigh>;
-
-fn expect_load(rt: &impl Abort, keeper: &mut MemKeeper, bytes: &[u8]) {
-    let kept = keeper.load().expect(rt, "room");
-    assert!(rt; kept.as_slice() == bytes);
-}
-
-fn fails(rt: &impl Abort, keeper: &mut MemKeeper, bytes: &[u8]) {
-    keeper.fail_next(true);
-    assert!(rt; keeper.save(bytes) == Err(KeepFault::Failed));
-    assert!(rt; keeper.failures() == 1);
-}
-
 #[test]
 fn a_failed_save_leaves_the_old_bytes(rt: HostRuntime) {
     let mut keeper = MemKeeper::new(rt.alloc());
     assert!(rt; keeper.stored().is_empty());
     assert!(rt; keeper.save(b"first") == Ok(()));
-    fails(&rt, &mut keeper, b"second");
+    keeper.fail_next(true);
+    assert!(rt; keeper.save(b"second") == Err(KeepFault::Failed));
+    assert!(rt; keeper.failures() == 1);
     assert!(rt; keeper.stored() == b"first".as_slice());
     assert!(rt; keeper.save(b"third") == Ok(()));
-    expect_load(&rt, &mut keeper, b"third");
+    let kept = keeper.load().expect(&rt, "room");
+    assert!(rt; kept.as_slice() == b"third".as_slice());
 }
 
 #[test]
@@ -46,19 +36,18 @@ fn a_node_whose_image_cant_be_loaded_stays_stopped(rt: HostRuntime) {
     assert!(rt; station.keeper().failures() == 1);
 }
 
-// A keeper of `old` whose next save fails.
-fn failing(rt: &(impl Abort + AllocGlobal)) -> MemKeeper {
+#[test]
+fn a_station_whose_first_save_fails_hands_its_keeper_back(rt: HostRuntime) {
     let mut keeper = MemKeeper::new(rt.alloc());
     assert!(rt; keeper.save(b"old").is_ok());
     keeper.fail_next(true);
-    keeper
-}
-
-#[test]
-fn a_station_whose_first_save_fails_hands_its_keeper_back(rt: HostRuntime) {
-    let keeper = failing(&rt);
     let of = name(&rt, "a");
-    let made: Result<Kept, _> = Station::new(rt.alloc(), of, Config::default(), keeper);
+    let made: Result<Station<MemKeeper, FlatWeigh>, _> = Station::new(
+        rt.alloc(),
+        of,
+        Config::default(),
+        keeper,
+    );
     let Err(refused) = made else {
         panic!(rt; "it was saved")
     };

@@ -1,10 +1,9 @@
 //! A line of a row, and the act that it tells.
 use crate::given::{called, child, message, name, text, worker};
-use std::alloc::Global;
 use std::process::Abort;
 use sup_local_sup::Incarnation;
 use sup_replica::{Act, Event};
-use sup_specs::{ChildId, ExitReason, NodeName};
+use sup_specs::ExitReason;
 
 /// A verb, the node where it happens, and up to two words more.
 #[derive(Clone, Copy)]
@@ -29,15 +28,6 @@ impl<'a> Line<'a> {
         }
     }
 
-    /// The node that acts: of a delivery the one that doesn't send.
-    pub(crate) fn actor(&self) -> &'a str {
-        match (self.verb, self.at) {
-            ("deliver", "a") => "b",
-            ("deliver", _) => "a",
-            _ => self.at,
-        }
-    }
-
     /// The act of a line that brings no message; none where memory was refused.
     pub(crate) fn act(&self, rt: &(impl Abort + AllocGlobal)) -> Option<Act> {
         match self.verb {
@@ -48,62 +38,36 @@ impl<'a> Line<'a> {
     }
 
     fn event(&self, rt: &(impl Abort + AllocGlobal)) -> Option<Event> {
+        let alloc = rt.alloc();
         match self.verb {
-            "join" => Some(Event::Join(text(rt.alloc(), "")?)),
-            "leave" | "drain" | "ship" | "push" => Some(self.of_member(name(rt, self.word))),
-            "register" | "unregister" => self.of_name(rt.alloc()),
-            "bytes" => self.delivery(rt.alloc()),
-            _ => self.of_child(rt),
+            "join" => Some(Event::Join(text(alloc, "")?)),
+            "leave" => Some(Event::Leave(name(rt, self.word))),
+            "drain" => Some(Event::Drain(name(rt, self.word))),
+            "delete" => Some(Event::Delete(child(alloc, self.word)?)),
+            "ship" => Some(Event::Ship(name(rt, self.word))),
+            "push" => Some(Event::Push(name(rt, self.word))),
+            "replace" => {
+                let arg = self.option.strip_prefix("arg=").unwrap_or("");
+                Some(Event::Replace(child(alloc, self.word)?, worker(alloc, arg)?))
+            }
+            "crash" => Some(Event::Exit {
+                id: child(alloc, self.word)?,
+                inc: Incarnation {
+                    boot: 1,
+                    k: self.option.parse::<u64>().unwrap_or(0),
+                },
+                reason: ExitReason::Crash,
+            }),
+            "bytes" => Some(Event::Deliver(message(alloc, self.word.as_bytes())?)),
+            "register" => {
+                let id = child(alloc, self.option)?;
+                Some(Event::Register(called(alloc, self.word)?, id))
+            }
+            "unregister" => Some(Event::Unregister(called(alloc, self.word)?)),
+            _ => {
+                assert!(rt; self.verb == "start");
+                Some(Event::Start(child(alloc, self.word)?, worker(alloc, "")?))
+            }
         }
-    }
-
-    fn of_member(&self, member: NodeName) -> Event {
-        match self.verb {
-            "leave" => Event::Leave(member),
-            "drain" => Event::Drain(member),
-            "ship" => Event::Ship(member),
-            _ => Event::Push(member),
-        }
-    }
-
-    fn of_name(&self, alloc: Global) -> Option<Event> {
-        let name = called(alloc, self.word)?;
-        if self.verb == "unregister" {
-            return Some(Event::Unregister(name));
-        }
-        Some(Event::Register(name, child(alloc, self.option)?))
-    }
-
-    fn delivery(&self, alloc: Global) -> Option<Event> {
-        Some(Event::Deliver(message(alloc, self.word.as_bytes())?))
-    }
-
-    fn of_child(&self, rt: &(impl Abort + AllocGlobal)) -> Option<Event> {
-        let id = child(rt.alloc(), self.word)?;
-        match self.verb {
-            "delete" => Some(Event::Delete(id)),
-            "crash" => Some(self.crash(id)),
-            _ => self.of_spec(rt, id),
-        }
-    }
-
-    // Of a run of boot 1.
-    fn crash(&self, id: ChildId) -> Event {
-        let k = self.option.parse::<u64>().unwrap_or(0);
-        Event::Exit {
-            id,
-            inc: Incarnation { boot: 1, k },
-            reason: ExitReason::Crash,
-        }
-    }
-
-    fn of_spec(&self, rt: &(impl Abort + AllocGlobal), id: ChildId) -> Option<Event> {
-        let arg = self.option.strip_prefix("arg=").unwrap_or("");
-        let spec = worker(rt.alloc(), arg)?;
-        if self.verb == "replace" {
-            return Some(Event::Replace(id, spec));
-        }
-        assert!(rt; self.verb == "start");
-        Some(Event::Start(id, spec))
     }
 }

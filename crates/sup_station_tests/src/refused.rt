@@ -6,73 +6,91 @@ use crate::rows::{
     REPEATED_TOLD,
 };
 use crate::stage::{plays, plays_over_failure};
-use std::ops::Range;
 use std::process::Abort;
 use sup_replica::Config;
-
-// Expects so many of these acts of a row to save, and the row to end as without where each of their saves fails in its turn.
-fn fail_in_turn(
-    rt: &(impl Abort + AllocGlobal),
-    config: Config,
-    lines: &str,
-    told: &str,
-    acts: Range<usize>,
-    saves: usize,
-) {
-    let mut failed = 0usize;
-    for act in acts {
-        let failures = plays_over_failure(rt, config, lines, told, act);
-        failed = failed.saturating_add(failures);
-    }
-    assert!(rt; failed == saves, "{failed}");
-}
 
 // Of the acts of the first row those save: two starts, an absorbed delivery, a restart.
 #[test]
 fn each_save_of_an_interval_after_a_restart_fails_in_turn(rt: HostRuntime) {
-    fail_in_turn(&rt, Config::default(), INTERVAL, INTERVAL_TOLD, 1..10, 4);
+    let mut failed = 0usize;
+    for act in 1..10usize {
+        let config = Config::default();
+        let failures = plays_over_failure(&rt, config, INTERVAL, INTERVAL_TOLD, act);
+        failed = failed.saturating_add(failures);
+    }
+    assert!(rt; failed == 4, "{failed}");
 }
 
 // Of the second row: a join, a start, two absorbed deliveries, a delete and a replace.
 #[test]
 fn each_save_of_an_add_beside_a_removal_fails_in_turn(rt: HostRuntime) {
-    fail_in_turn(&rt, Config::default(), REMOVAL, REMOVAL_TOLD, 1..11, 6);
+    let mut failed = 0usize;
+    for act in 1..11usize {
+        let config = Config::default();
+        let failures = plays_over_failure(&rt, config, REMOVAL, REMOVAL_TOLD, act);
+        failed = failed.saturating_add(failures);
+    }
+    assert!(rt; failed == 6, "{failed}");
 }
 
 // Of the row with a drain: two joins, a start, the drain, two absorbed deliveries.
 #[test]
 fn each_save_of_a_drain_fails_in_turn(rt: HostRuntime) {
-    fail_in_turn(&rt, Config::default(), DRAINED, DRAINED_TOLD, 1..12, 6);
+    let mut failed = 0usize;
+    for act in 1..12usize {
+        let config = Config::default();
+        let failures = plays_over_failure(&rt, config, DRAINED, DRAINED_TOLD, act);
+        failed = failed.saturating_add(failures);
+    }
+    assert!(rt; failed == 6, "{failed}");
 }
 
 // Three starts and two absorbed deliveries.
 #[test]
 fn each_save_of_an_overwritten_interval_fails_in_turn(rt: HostRuntime) {
-    let config = Config::new(1, 5, 1).expect(&rt, "settings");
-    fail_in_turn(&rt, config, OVERWRITTEN, OVERWRITTEN_TOLD, 1..9, 5);
+    let mut failed = 0usize;
+    for act in 1..9usize {
+        let config = Config::new(1, 5, 1).expect(&rt, "settings");
+        let failures = plays_over_failure(&rt, config, OVERWRITTEN, OVERWRITTEN_TOLD, act);
+        failed = failed.saturating_add(failures);
+    }
+    assert!(rt; failed == 5, "{failed}");
 }
 
 // A start and an absorbed delivery: the delivery that comes again saves nothing.
 #[test]
 fn each_save_of_a_repeated_delivery_fails_in_turn(rt: HostRuntime) {
-    fail_in_turn(&rt, Config::default(), REPEATED, REPEATED_TOLD, 1..5, 2);
+    let mut failed = 0usize;
+    for act in 1..5usize {
+        let config = Config::default();
+        let failures = plays_over_failure(&rt, config, REPEATED, REPEATED_TOLD, act);
+        failed = failed.saturating_add(failures);
+    }
+    assert!(rt; failed == 2, "{failed}");
 }
 
 // After the act whose save fails in the row itself: a start, a stop and a restart.
 #[test]
 fn each_later_save_behind_a_failed_one_fails_in_turn(rt: HostRuntime) {
+    let mut failed = 0usize;
+    for act in 2..5usize {
+        let config = Config::default();
+        let failures = plays_over_failure(&rt, config, FAILED_SAVE, FAILED_SAVE_TOLD, act);
+        failed = failed.saturating_add(failures);
+    }
+    assert!(rt; failed == 2, "{failed}");
     let config = Config::default();
-    fail_in_turn(&rt, config, FAILED_SAVE, FAILED_SAVE_TOLD, 2..5, 2);
-    fail_in_turn(&rt, config, FAILED_RESTART, FAILED_RESTART_TOLD, 3..4, 1);
+    let failures = plays_over_failure(&rt, config, FAILED_RESTART, FAILED_RESTART_TOLD, 3);
+    assert!(rt; failures == 1);
 }
 
 // `bench/refused_stories.sh` runs these two and the rows with each growth refused in turn.
 #[test]
 fn an_interval_after_a_restart_is_sent_over_a_refused_growth(rt: HostRuntime) {
-    plays(&rt, INTERVAL, INTERVAL_TOLD);
+    plays(&rt, Config::default(), INTERVAL, INTERVAL_TOLD);
 }
 
 #[test]
 fn an_add_goes_on_beside_a_removal_over_a_refused_growth(rt: HostRuntime) {
-    plays(&rt, REMOVAL, REMOVAL_TOLD);
+    plays(&rt, Config::default(), REMOVAL, REMOVAL_TOLD);
 }

@@ -4,7 +4,6 @@
 use crate::fuses::{OPENING, RESTARTED, STARTED, start};
 use crate::given::name;
 use crate::scarce::Scarce;
-use crate::told::boot_of;
 use std::process::Abort;
 use sup_keeper::{Keeper, MemKeeper};
 use sup_placement::FlatWeigh;
@@ -41,7 +40,7 @@ fn lacks(rt: &impl Abort, station: &mut Scant, act: Act, kept: &str) {
 
 // The node runs in this boot, or none does; and whether its keeper has lacked memory. It has never failed.
 fn expect_at(rt: &impl Abort, station: &Scant, boot: Option<u64>, refused: bool) {
-    assert!(rt; boot_of(station.node()) == boot);
+    assert!(rt; station.node().map(|node| node.boot()) == boot);
     assert!(rt; station.keeper().has_refused() == refused);
     assert!(rt; station.keeper().failures() == 0);
 }
@@ -64,22 +63,17 @@ fn goes_on_over_a_refused_restart(rt: &(impl Abort + AllocGlobal), station: &mut
     expect_at(rt, station, Some(2), true);
 }
 
-// The keeper that is handed back, since it lacked memory for the opening image.
-fn handed_back(rt: &(impl Abort + AllocGlobal), keeper: Scarce) -> Scarce {
-    let of = name(rt, "a");
+#[test]
+fn a_keeper_that_lacked_memory_for_the_opening_image_opens_another_station(rt: HostRuntime) {
+    let of = name(&rt, "a");
+    let keeper = scarce(&rt, 0);
     let made: Result<Scant, _> = Station::new(rt.alloc(), of, Config::default(), keeper);
     let Err(refused) = made else {
         panic!(rt; "it was saved")
     };
     assert!(rt; refused.reason == Refusal::OutOfMemory);
-    refused.keeper
-}
-
-#[test]
-fn a_keeper_that_lacked_memory_for_the_opening_image_opens_another_station(rt: HostRuntime) {
-    let keeper = handed_back(&rt, scarce(&rt, 0));
-    assert!(rt; keeper.stored().is_empty());
-    let mut station = opened(&rt, keeper);
+    assert!(rt; refused.keeper.stored().is_empty());
+    let mut station = opened(&rt, refused.keeper);
     goes_on(&rt, &mut station, true);
 }
 

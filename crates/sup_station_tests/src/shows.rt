@@ -1,6 +1,7 @@
 //! Rows of what nodes show and of where names lead, losers among them.
 use crate::stage::plays;
 use std::process::Abort;
+use sup_replica::Config;
 
 /// A push of a member, a child and a name with two entries each, and of a name whose child isn't there; and what is shown
 /// of it.
@@ -31,28 +32,29 @@ const LEAST_TOLD: &str =
 
 #[test]
 fn losers_of_each_table_follow_their_winner(rt: HostRuntime) {
-    plays(&rt, TWICE, TWICE_TOLD);
+    plays(&rt, Config::default(), TWICE, TWICE_TOLD);
 }
 
 #[test]
 fn the_status_of_a_members_winner_counts(rt: HostRuntime) {
-    plays(&rt, DRAINING_TWICE, DRAINING_TWICE_TOLD);
+    plays(&rt, Config::default(), DRAINING_TWICE, DRAINING_TWICE_TOLD);
 }
 
 #[test]
 fn a_name_stays_where_its_child_is_gone(rt: HostRuntime) {
-    plays(&rt, GONE, GONE_TOLD);
+    plays(&rt, Config::default(), GONE, GONE_TOLD);
 }
 
 #[test]
 fn the_least_dot_of_a_name_wins(rt: HostRuntime) {
-    plays(&rt, LEAST, LEAST_TOLD);
+    plays(&rt, Config::default(), LEAST, LEAST_TOLD);
 }
 
 #[test]
 fn a_member_shows_what_it_keeps_in_the_order_of_starts(rt: HostRuntime) {
     plays(
         &rt,
+        Config::default(),
         "join a\nstart a web\nstart a db\nshow a\n",
         "ok (a,1)\nok (a,2)\n  a start web 1.1\nok (a,3)\n  a start db 1.2\nnode a boot 1\nmember a (a,1) label=\nchild db (a,3) worker permanent 5000 arg= on a\nchild web (a,2) worker permanent 5000 arg= on a\nkept web 1.1\nkept db 1.2\n",
     );
@@ -62,6 +64,7 @@ fn a_member_shows_what_it_keeps_in_the_order_of_starts(rt: HostRuntime) {
 fn a_stopped_node_is_down_and_leads_nowhere(rt: HostRuntime) {
     plays(
         &rt,
+        Config::default(),
         "stop a\nshow a\nwhere a www\n",
         "ok stopped\nnode a down\nnode a down\n",
     );

@@ -7,20 +7,14 @@ use std::process::Abort;
 use sup_keeper::{Keeper, MemKeeper};
 use sup_placement::FlatWeigh;
 use sup_replica::{Act, Config, Done, Event, Letter, Refusal};
-use sup_specs::NodeName;
 use sup_station::Station;
-
-/// A station, and the letters that it sent.
-#[derive(Drop)]
-struct Side {
-    station: Station<MemKeeper, FlatWeigh>,
-    sent: Vec<Letter>,
-}
 
 #[derive(Drop)]
 pub(crate) struct Stage {
-    a: Side,
-    b: Side,
+    a: Station<MemKeeper, FlatWeigh>,
+    b: Station<MemKeeper, FlatWeigh>,
+    sent_by_a: Vec<Letter>,
+    sent_by_b: Vec<Letter>,
     told: String,
     // The saves of which act are told to fail, from 1, and how many acts there were.
     failing: usize,
@@ -29,13 +23,12 @@ pub(crate) struct Stage {
     failed: usize,
 }
 
-/// New stations play the lines of the row, and tell what is wanted.
-pub(crate) fn plays(rt: &(impl Abort + AllocGlobal), lines: &str, wanted: &str) {
-    plays_over_failure(rt, Config::default(), lines, wanted, 0);
+/// The stations of the row play its lines, and tell what is wanted.
+pub(crate) fn plays(rt: &(impl Abort + AllocGlobal), config: Config, lines: &str, wanted: &str) {
+    plays_over_failure(rt, config, lines, wanted, 0);
 }
 
-/// The same with these settings, where the save of one act fails, and the act is made once more. Answers how many failed, 0
-/// or 1.
+/// The same where the save of one act fails, and the act is made once more. Answers how many failed, 0 or 1.
 pub(crate) fn plays_over_failure(
     rt: &(impl Abort + AllocGlobal),
     config: Config,
@@ -43,8 +36,8 @@ pub(crate) fn plays_over_failure(
     wanted: &str,
     failing: usize,
 ) -> usize {
-    let a = new_side(rt, "a", config);
-    let b = new_side(rt, "b", config);
+    let a = station(rt, "a", config);
+    let b = station(rt, "b", config);
     let mut stage = Stage::new(rt, a, b, failing);
     stage.plays_lines(rt, lines, wanted);
     stage.failed
@@ -58,41 +51,40 @@ pub(crate) fn plays_from(
     lines: &str,
     wanted: &str,
 ) {
-    let a = side_from(rt, "a", of, image);
-    let b = side_from(rt, "b", of, image);
-    let mut stage = Stage::new(rt, a, b, 0);
+    let mut stage = if of == "a" {
+        Stage::new(
+            rt,
+            stopped(rt, "a", image),
+            station(rt, "b", Config::default()),
+            0,
+        )
+    } else {
+        Stage::new(
+            rt,
+            station(rt, "a", Config::default()),
+            stopped(rt, "b", image),
+            0,
+        )
+    };
     stage.plays_lines(rt, lines, wanted);
 }
 
-fn side_from(rt: &(impl Abort + AllocGlobal), at: &str, of: &str, image: &str) -> Side {
-    if at == of {
-        stopped_side(rt, at, image)
-    } else {
-        new_side(rt, at, Config::default())
-    }
-}
-
-fn stopped_side(rt: &(impl Abort + AllocGlobal), of: &str, image: &str) -> Side {
+fn stopped(
+    rt: &(impl Abort + AllocGlobal),
+    of: &str,
+    image: &str,
+) -> Station<MemKeeper, FlatWeigh> {
     let mut keeper = MemKeeper::new(rt.alloc());
     assert!(rt; keeper.save(image.as_bytes()).is_ok());
-    Side {
-        station: Station::stopped(rt.alloc(), name(rt, of), Config::default(), keeper),
-        sent: Vec::new(rt.alloc()),
-    }
-}
-
-fn new_side(rt: &(impl Abort + AllocGlobal), of: &str, config: Config) -> Side {
-    Side {
-        station: station(rt, name(rt, of), config),
-        sent: Vec::new(rt.alloc()),
-    }
+    Station::stopped(rt.alloc(), name(rt, of), Config::default(), keeper)
 }
 
 fn station(
     rt: &(impl Abort + AllocGlobal),
-    of: NodeName,
+    of: &str,
     config: Config,
 ) -> Station<MemKeeper, FlatWeigh> {
+    let of = name(rt, of);
     match Station::new(rt.alloc(), of, config, MemKeeper::new(rt.alloc())) {
         Ok(station) => station,
         Err(refused) => match Station::new(rt.alloc(), of, config, refused.keeper) {
@@ -103,23 +95,22 @@ fn station(
 }
 
 impl Stage {
-    fn new(rt: &impl AllocGlobal, a: Side, b: Side, failing: usize) -> Stage {
+    fn new(
+        rt: &impl AllocGlobal,
+        a: Station<MemKeeper, FlatWeigh>,
+        b: Station<MemKeeper, FlatWeigh>,
+        failing: usize,
+    ) -> Stage {
         Stage {
             a,
             b,
+            sent_by_a: Vec::new(rt.alloc()),
+            sent_by_b: Vec::new(rt.alloc()),
             told: String::new(rt.alloc()),
             failing,
             acts: 0,
             failed: 0,
         }
-    }
-
-    fn side(&self, at: &str) -> &Side {
-        if at == "a" { &self.a } else { &self.b }
-    }
-
-    fn side_mut(&mut self, at: &str) -> &mut Side {
-        if at == "a" { &mut self.a } else { &mut self.b }
     }
 
     fn plays_lines(&mut self, rt: &(impl Abort + AllocGlobal), lines: &str, wanted: &str) {
@@ -135,7 +126,11 @@ impl Stage {
             "message" => self.tells_message(rt, line),
             "image" => self.tells_image(rt, line.at),
             "where" => self.tells_lead(rt, line),
-            _ => self.plays_act(rt, line, line.actor()),
+            "deliver" => {
+                let at = if line.at == "a" { "b" } else { "a" };
+                self.plays_act(rt, line, at);
+            }
+            _ => self.plays_act(rt, line, line.at),
         }
     }
 
@@ -143,7 +138,9 @@ impl Stage {
     fn plays_act(&mut self, rt: &(impl Abort + AllocGlobal), line: &Line<'_>, at: &str) {
         self.acts = self.acts.saturating_add(1);
         let due = self.acts == self.failing;
-        let answer = self.tries_over_failure(rt, line, at, due || line.fails);
+        self.fails_next(at, due || line.fails);
+        let answer = self.tries_twice(rt, line, at);
+        self.fails_next(at, false);
         if due && answer.as_ref().err() == Some(&Refusal::KeepFailed) {
             self.failed = self.failed.saturating_add(1);
             let again = self.tries(rt, line, at);
@@ -151,19 +148,6 @@ impl Stage {
         } else {
             self.tells(rt, at, answer);
         }
-    }
-
-    fn tries_over_failure(
-        &mut self,
-        rt: &(impl Abort + AllocGlobal),
-        line: &Line<'_>,
-        at: &str,
-        fails: bool,
-    ) -> Result<Done, Refusal> {
-        self.side_mut(at).station.fail_next(fails);
-        let answer = self.tries_twice(rt, line, at);
-        self.side_mut(at).station.fail_next(false);
-        answer
     }
 
     fn tries_twice(
@@ -184,68 +168,93 @@ impl Stage {
         line: &Line<'_>,
         at: &str,
     ) -> Result<Done, Refusal> {
-        let act = self.act_twice(rt, line);
-        self.side_mut(at).station.step(act, 0, &FlatWeigh)
-    }
-
-    fn act_twice(&self, rt: &(impl Abort + AllocGlobal), line: &Line<'_>) -> Act {
-        match self.act(rt, line) {
-            Some(act) => act,
-            None => self.act(rt, line).expect(rt, "room"),
-        }
+        let act = self
+            .act(rt, line)
+            .or_else(|| self.act(rt, line))
+            .expect(rt, "room");
+        self.step(at, act)
     }
 
     fn act(&self, rt: &(impl Abort + AllocGlobal), line: &Line<'_>) -> Option<Act> {
-        match line.verb {
-            "deliver" | "return" => {
-                let text = message(rt.alloc(), self.message(rt, line))?;
-                Some(Act::Event(Event::Deliver(text)))
-            }
-            _ => line.act(rt),
+        if line.verb == "deliver" || line.verb == "return" {
+            let bytes = self.message(rt, line);
+            return Some(Act::Event(Event::Deliver(message(rt.alloc(), bytes)?)));
         }
+        line.act(rt)
     }
 
     // The bytes of the message that the line names, by its sender and its number among the sender's.
     fn message(&self, rt: &impl Abort, line: &Line<'_>) -> &[u8] {
+        let sent = if line.at == "a" {
+            &self.sent_by_a
+        } else {
+            &self.sent_by_b
+        };
         let number = line.word.parse::<usize>().unwrap_or(0);
-        match self
-            .side(line.at)
-            .sent
-            .as_slice()
-            .get(number.saturating_sub(1))
-        {
+        match sent.as_slice().get(number.saturating_sub(1)) {
             Some(letter) => letter.bytes.as_slice(),
             None => panic!(rt; "no such message"),
         }
     }
 
+    fn step(&mut self, at: &str, act: Act) -> Result<Done, Refusal> {
+        if at == "a" {
+            self.a.step(act, 0, &FlatWeigh)
+        } else {
+            self.b.step(act, 0, &FlatWeigh)
+        }
+    }
+
+    fn fails_next(&mut self, at: &str, fails: bool) {
+        if at == "a" {
+            self.a.fail_next(fails);
+        } else {
+            self.b.fail_next(fails);
+        }
+    }
+
     fn tells(&mut self, rt: &(impl Abort + AllocGlobal), at: &str, answer: Result<Done, Refusal>) {
         match answer {
-            Err(refusal) => put(rt, &mut self.told, refused(rt, refusal).as_str()),
+            Err(refusal) => {
+                let text = refused(rt, refusal);
+                put(rt, &mut self.told, text.as_str());
+            }
             Ok(done) => self.tells_done(rt, at, done),
         }
     }
 
     fn tells_done(&mut self, rt: &(impl Abort + AllocGlobal), at: &str, done: Done) {
-        let number = self.number_of(at, &done);
+        let number = done.out.as_ref().map(|_| self.next_number(at));
         let text = answered(rt, &name(rt, at), &done, number);
         put(rt, &mut self.told, text.as_str());
         let Done { out, .. } = done;
         if let Some(letter) = out {
-            post(rt, &mut self.side_mut(at).sent, letter);
+            self.posts(rt, at, letter);
         }
     }
 
-    // Which of the node's letters the answer's is, if it has one.
-    fn number_of(&self, at: &str, done: &Done) -> Option<u64> {
-        match done.out {
-            Some(_) => Some(self.side(at).sent.len() as u64 + 1),
-            None => None,
+    fn next_number(&self, at: &str) -> u64 {
+        if at == "a" {
+            self.sent_by_a.len() as u64 + 1
+        } else {
+            self.sent_by_b.len() as u64 + 1
+        }
+    }
+
+    fn posts(&mut self, rt: &impl Abort, at: &str, letter: Letter) {
+        if at == "a" {
+            post(rt, &mut self.sent_by_a, letter);
+        } else {
+            post(rt, &mut self.sent_by_b, letter);
         }
     }
 
     fn shows(&mut self, rt: &(impl Abort + AllocGlobal), at: &str) {
-        let text = shown(rt, &name(rt, at), self.side(at).station.node());
+        let text = if at == "a" {
+            shown(rt, &name(rt, at), self.a.node())
+        } else {
+            shown(rt, &name(rt, at), self.b.node())
+        };
         put(rt, &mut self.told, text.as_str());
     }
 
@@ -255,14 +264,22 @@ impl Stage {
     }
 
     fn tells_image(&mut self, rt: &(impl Abort + AllocGlobal), at: &str) {
-        let text = line_of(rt, self.side(at).station.keeper().stored());
+        let text = if at == "a" {
+            line_of(rt, self.a.keeper().stored())
+        } else {
+            line_of(rt, self.b.keeper().stored())
+        };
         put(rt, &mut self.told, text.as_str());
     }
 
     fn tells_lead(&mut self, rt: &(impl Abort + AllocGlobal), line: &Line<'_>) {
+        let at = name(rt, line.at);
         let sought = called(rt.alloc(), line.word).expect(rt, "room");
-        let node = self.side(line.at).station.node();
-        let text = led(rt, &name(rt, line.at), node, &sought);
+        let text = if line.at == "a" {
+            led(rt, &at, self.a.node(), &sought)
+        } else {
+            led(rt, &at, self.b.node(), &sought)
+        };
         put(rt, &mut self.told, text.as_str());
     }
 }

@@ -22,17 +22,15 @@ pub(crate) fn answered(
     done: &Done,
     number: Option<u64>,
 ) -> String {
-    match answer_text(rt.alloc(), at, done, number) {
-        Ok(text) => text,
-        Err(_) => answer_text(rt.alloc(), at, done, number).expect(rt, "room"),
-    }
+    answer_text(rt.alloc(), at, done, number)
+        .or_else(|_| answer_text(rt.alloc(), at, done, number))
+        .expect(rt, "room")
 }
 
 pub(crate) fn refused(rt: &(impl Abort + AllocGlobal), refusal: Refusal) -> String {
-    match refusal_text(rt.alloc(), refusal) {
-        Ok(text) => text,
-        Err(_) => refusal_text(rt.alloc(), refusal).expect(rt, "room"),
-    }
+    refusal_text(rt.alloc(), refusal)
+        .or_else(|_| refusal_text(rt.alloc(), refusal))
+        .expect(rt, "room")
 }
 
 /// What a node shows, or that it is down.
@@ -41,18 +39,9 @@ pub(crate) fn shown(
     at: &NodeName,
     node: Option<&Node<FlatWeigh>>,
 ) -> String {
-    match show_text(rt.alloc(), at, node, &FlatWeigh) {
-        Ok(text) => text,
-        Err(_) => show_text(rt.alloc(), at, node, &FlatWeigh).expect(rt, "room"),
-    }
-}
-
-/// The boot of a node that runs.
-pub(crate) fn boot_of(node: Option<&Node<FlatWeigh>>) -> Option<u64> {
-    match node {
-        Some(node) => Some(node.boot()),
-        None => None,
-    }
+    show_text(rt.alloc(), at, node, &FlatWeigh)
+        .or_else(|_| show_text(rt.alloc(), at, node, &FlatWeigh))
+        .expect(rt, "room")
 }
 
 /// Where a name leads at a node.
@@ -62,10 +51,9 @@ pub(crate) fn led(
     node: Option<&Node<FlatWeigh>>,
     sought: &Name,
 ) -> String {
-    match where_text(rt.alloc(), at, node, sought, &FlatWeigh) {
-        Ok(text) => text,
-        Err(_) => where_text(rt.alloc(), at, node, sought, &FlatWeigh).expect(rt, "room"),
-    }
+    where_text(rt.alloc(), at, node, sought, &FlatWeigh)
+        .or_else(|_| where_text(rt.alloc(), at, node, sought, &FlatWeigh))
+        .expect(rt, "room")
 }
 
 /// The bytes of a message or an image, as a line.

@@ -10,17 +10,8 @@ use sup_specs::NodeName;
 use sup_supd::run_node;
 use sup_talk::Streams;
 
-// A disk with this file, whose saves go so.
-fn disk_with(rt: &(impl Abort + AllocGlobal), file: Option<&[u8]>, next: Next) -> MemDisk {
-    let mut disk = MemDisk::new(rt.alloc());
-    if let Some(bytes) = file {
-        disk.shown = Some(bytes.to_vec(rt.alloc()).expect(rt, "room"));
-    }
-    disk.next = next;
-    disk
-}
-
-// A node `a` over such a disk: expects what it tells, its status and its line of error.
+// A node `a` over a disk with this file, whose saves go so: expects what it tells, its status and
+// its line of error.
 fn expect(
     rt: &(impl Abort + AllocGlobal),
     file: Option<&[u8]>,
@@ -30,33 +21,23 @@ fn expect(
     status: u8,
     line: &[u8],
 ) {
-    expect_on(rt, disk_with(rt, file, next), lines, said, status, line);
+    let alloc = rt.alloc();
+    let shown = match file {
+        Some(bytes) => Some(bytes.to_vec(alloc).expect(rt, "room")),
+        None => None,
+    };
+    let disk = MemDisk {
+        alloc,
+        shown,
+        safe: None,
+        beside: None,
+        is_flushed: false,
+        next,
+    };
+    expect_on(rt, disk, lines, said, status, line);
 }
 
-// How the node `a` ends over a keeper, with what it tells the host of these lines, and its line of error.
-fn run_over<D: Disk>(
-    rt: &(impl Abort + AllocGlobal),
-    keeper: DiskKeeper<D>,
-    host: &mut Streams<&[u8], Vec<u8>>,
-    told: &mut Vec<u8>,
-) -> Ended {
-    let is_new = keeper.is_new();
-    let name = NodeName::parse("a").expect(rt, "a name");
-    let config = Config::new(1, 5, 64).expect(rt, "settings");
-    let weighing = Weighing::Flat;
-    run_node(
-        rt.alloc(),
-        name,
-        config,
-        weighing,
-        keeper,
-        is_new,
-        host,
-        told,
-    )
-}
-
-// The same as above over any disk.
+// The same over any disk.
 fn expect_on<D: Disk>(
     rt: &(impl Abort + AllocGlobal),
     disk: D,
@@ -65,12 +46,30 @@ fn expect_on<D: Disk>(
     status: u8,
     line: &[u8],
 ) {
-    let keeper = DiskKeeper::open(rt.alloc(), disk).expect(rt, "it opens");
-    let mut host = Streams::new(lines, Vec::new(rt.alloc()));
-    let mut told = Vec::new(rt.alloc());
-    let ended = run_over(rt, keeper, &mut host, &mut told);
-    assert!(rt; ended.status == status);
-    assert!(rt; ended.told == Ok(()));
+    let alloc = rt.alloc();
+    let keeper = DiskKeeper::open(alloc, disk).expect(rt, "it opens");
+    let is_new = keeper.is_new();
+    let name = NodeName::parse("a").expect(rt, "a name");
+    let config = Config::new(1, 5, 64).expect(rt, "settings");
+    let mut host = Streams::new(lines, Vec::new(alloc));
+    let mut told = Vec::new(alloc);
+    let ended = run_node(
+        alloc,
+        name,
+        config,
+        Weighing::Flat,
+        keeper,
+        is_new,
+        &mut host,
+        &mut told,
+    );
+    assert!(rt;
+        ended
+            == Ended {
+                status,
+                told: Ok(())
+            }
+    );
     assert_eq!(rt; host.writer().as_slice(), said);
     assert_eq!(rt; told.as_slice(), line);
 }
@@ -194,23 +193,18 @@ ok boot 1
     );
 }
 
-// Expects a node over a disk that fails so to be none.
-fn expect_none(rt: &(impl Abort + AllocGlobal), file: Option<&[u8]>, next: Next) {
-    expect(rt, file, next, b"show\n", b"", 3, b"device\n");
-}
-
-// The same at each call in which a disk may fail.
-fn expect_none_at_any_call(rt: &(impl Abort + AllocGlobal), file: Option<&[u8]>) {
-    expect_none(rt, file, Next::WriteFails);
-    expect_none(rt, file, Next::FlushFails);
-    expect_none(rt, file, Next::RenameFails);
-    expect_none(rt, file, Next::FolderFails);
-}
-
 #[test]
 fn a_disk_that_fails_at_the_begin_has_no_node(rt: HostRuntime) {
-    expect_none_at_any_call(&rt, None);
-    expect_none_at_any_call(&rt, Some(IMAGE));
+    for file in [None, Some(IMAGE)] {
+        for next in [
+            Next::WriteFails,
+            Next::FlushFails,
+            Next::RenameFails,
+            Next::FolderFails,
+        ] {
+            expect(&rt, file, next, b"show\n", b"", 3, b"device\n");
+        }
+    }
 }
 
 #[test]
@@ -258,24 +252,25 @@ fn a_save_that_fails_at_the_rename_is_refused_and_no_line_is_heard_behind_it(rt:
     );
 }
 
-const OTHER_NODE: &[u8] = b"\
-    {\"boot\":1,\"count\":0,\"ctx\":{\"cloud\":[],\"vector\":{}},\"kind\":\"image\",\
-    \"node\":\"b\",\"rows\":[],\"v\":2}";
-
-const LAST_BOOT: &[u8] = b"\
-    {\"boot\":9007199254740991,\"count\":0,\"ctx\":{\"cloud\":[],\"vector\":{}},\
-    \"kind\":\"image\",\"node\":\"a\",\"rows\":[],\"v\":2}";
-
-// Expects a node with this file to be none, and to tell why.
-fn expect_bad(rt: &(impl Abort + AllocGlobal), file: &[u8], line: &[u8]) {
-    expect(rt, Some(file), Next::Holds, b"show\n", b"", 1, line);
-}
-
 #[test]
 fn what_is_no_image_of_the_node_is_told(rt: HostRuntime) {
-    expect_bad(&rt, b"", b"bad image NotJson\n");
-    expect_bad(&rt, b"{}", b"bad image NotMessage\n");
-    expect_bad(&rt, b"{\"v\":3}", b"bad image BadVersion\n");
-    expect_bad(&rt, OTHER_NODE, b"bad image OtherNode\n");
-    expect_bad(&rt, LAST_BOOT, b"bad image CountSpent\n");
+    for (file, line) in [
+        (b"".as_slice(), b"bad image NotJson\n".as_slice()),
+        (b"{}", b"bad image NotMessage\n"),
+        (b"{\"v\":3}", b"bad image BadVersion\n"),
+        (
+            b"\
+            {\"boot\":1,\"count\":0,\"ctx\":{\"cloud\":[],\"vector\":{}},\"kind\":\"image\",\
+            \"node\":\"b\",\"rows\":[],\"v\":2}",
+            b"bad image OtherNode\n",
+        ),
+        (
+            b"\
+            {\"boot\":9007199254740991,\"count\":0,\"ctx\":{\"cloud\":[],\"vector\":{}},\
+            \"kind\":\"image\",\"node\":\"a\",\"rows\":[],\"v\":2}",
+            b"bad image CountSpent\n",
+        ),
+    ] {
+        expect(&rt, Some(file), Next::Holds, b"show\n", b"", 1, line);
+    }
 }

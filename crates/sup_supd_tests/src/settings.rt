@@ -5,22 +5,15 @@ use sup_command_line::Weighing;
 use sup_replica::Config;
 use sup_supd::read_settings;
 
-// The words of a line.
-fn words_of<'a>(rt: &(impl Abort + AllocGlobal), line: &'a str) -> Vec<&'a str> {
-    line.split_ascii_whitespace()
-        .collect(rt.alloc())
-        .expect(rt, "room")
-}
-
 fn expect(
     rt: &(impl Abort + AllocGlobal),
-    line: &str,
+    words: &[&str],
     name: &str,
     image: &str,
     weighing: Weighing,
     config: Option<Config>,
 ) {
-    match read_settings(words_of(rt, line).as_slice()) {
+    match read_settings(words) {
         Some(settings) => {
             assert!(rt; settings.name.as_str() == name && settings.image == image);
             assert!(rt; settings.weighing == weighing);
@@ -32,30 +25,48 @@ fn expect(
 
 #[test]
 fn options_stand_in_any_order_and_have_defaults(rt: HostRuntime) {
-    let line = "a --image x";
-    let config = Config::new(1, 5, 64);
-    expect(&rt, line, "a", "x", Weighing::Sha256, config);
-    let line = "b-1 --buffer 8 --period 60 --image /x/y --intensity 0 --weigh flat";
-    let config = Config::new(0, 60, 8);
-    expect(&rt, line, "b-1", "/x/y", Weighing::Flat, config);
-}
-
-fn expect_nothing(rt: &(impl Abort + AllocGlobal), line: &str) {
-    assert!(rt; read_settings(words_of(rt, line).as_slice()).is_none());
+    expect(
+        &rt,
+        &["a", "--image", "x"],
+        "a",
+        "x",
+        Weighing::Sha256,
+        Config::new(1, 5, 64),
+    );
+    expect(
+        &rt,
+        &[
+            "b-1",
+            "--buffer",
+            "8",
+            "--period",
+            "60",
+            "--image",
+            "/x/y",
+            "--intensity",
+            "0",
+            "--weigh",
+            "flat",
+        ],
+        "b-1",
+        "/x/y",
+        Weighing::Flat,
+        Config::new(0, 60, 8),
+    );
 }
 
 #[test]
 fn other_words_set_nothing(rt: HostRuntime) {
-    expect_nothing(&rt, "");
-    expect_nothing(&rt, "a");
-    expect_nothing(&rt, "a --image");
-    expect_nothing(&rt, "A --image x");
-    expect_nothing(&rt, "--image x");
-    expect_nothing(&rt, "a --image x --image y");
-    expect_nothing(&rt, "a --image x --color y");
-    expect_nothing(&rt, "a --image x --weigh md5");
-    expect_nothing(&rt, "a --image x --intensity 1001");
-    expect_nothing(&rt, "a --image x --period 0");
-    expect_nothing(&rt, "a --image x --buffer 1025");
-    expect_nothing(&rt, "a --image x --buffer +8");
+    assert!(rt; read_settings(&[]).is_none());
+    assert!(rt; read_settings(&["a"]).is_none());
+    assert!(rt; read_settings(&["a", "--image"]).is_none());
+    assert!(rt; read_settings(&["A", "--image", "x"]).is_none());
+    assert!(rt; read_settings(&["--image", "x"]).is_none());
+    assert!(rt; read_settings(&["a", "--image", "x", "--image", "y"]).is_none());
+    assert!(rt; read_settings(&["a", "--image", "x", "--color", "y"]).is_none());
+    assert!(rt; read_settings(&["a", "--image", "x", "--weigh", "md5"]).is_none());
+    assert!(rt; read_settings(&["a", "--image", "x", "--intensity", "1001"]).is_none());
+    assert!(rt; read_settings(&["a", "--image", "x", "--period", "0"]).is_none());
+    assert!(rt; read_settings(&["a", "--image", "x", "--buffer", "1025"]).is_none());
+    assert!(rt; read_settings(&["a", "--image", "x", "--buffer", "+8"]).is_none());
 }
