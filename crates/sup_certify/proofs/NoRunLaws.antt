@@ -1,10 +1,11 @@
 -- Where a replay is stuck, or the world answers otherwise, no order is a run.
-use Rattle.std.specs.Prelude.{◌≡◌, ◌≢◌, ◌≤◌, ◌<◌, ℕ, true, false, ◌||◌, List, [], ◌∷◌, ◌++◌, length, map, take, drop, slice_get, slice_index, Some, None, refl}
+use Rattle.std.specs.Prelude.{◌≡◌, ◌≢◌, ◌≤◌, ◌<◌, ℕ, true, false, ◌||◌, List, [], ◌∷◌, ◌++◌, length, map, take, drop, slice_get, slice_index, Some, None, Result, IfErr, refl}
 use Prim.Native.Nat.{zero, suc}
 use Rattle.std.specs.List.{AllZip, AllByRecursion, list_any}
 use Rattle.std.proofs.Common.{sym, ap, ◌∙◌, subst, arith}
 use Rattle.std.proofs.lemmas.List.{take-append-drop, length-take-le, length-append, append-nil}
 use Rattle.std.proofs.lemmas.List.Elements.{recursion_from_All}
+use Rattle.std.proofs.lemmas.Result.{IfErr-weaker}
 use Rattle.std.proofs.lemmas.Option.{none-some, same_Some}
 use Rattle.std.proofs.lemmas.Bool.{or_right}
 use mathlib.Core.Bool.{true≢false}
@@ -31,7 +32,7 @@ use Rattle.sup_world.specs.SeenNodes.{SeenNode}
 use Rattle.sup_certify.specs.Orders.{PlacedEntry, placed_at, of_node, is_among}
 use Rattle.sup_certify.specs.Certified.{IsNewWorld, answer_of}
 use Rattle.sup_certify.specs.Complete.{HasRun}
-use Rattle.sup_certify.specs.Faults.{IsAwaiting, MissesEntry, WaitsAtEntry, WaitsAt, IsFaultFrom, IsFaultOf}
+use Rattle.sup_certify.specs.Faults.{IsAwaiting, MissesEntry, WaitsAtEntry, WaitsAt, IsFaultFrom, IsFaultOf, IsUnmade}
 use Rattle.sup_certify.specs.declared.fault.CertifyFault.{CertifyFault}
 use Rattle.sup_certify.specs.declared.fault.CertifyFault.TheVariants.{Stuck, Differs, OutOfMemory}
 use Rattle.sup_certify.specs.Progress.{ReachesSites, IsPlaced, IsWithin, IsWhole, names_of}
@@ -290,3 +291,13 @@ no_run g config names hs fault (inr f) ne run =
       | inl e ↦ ne e
       | inr k ↦ fault_none g config names hs run k.0 k.1 fault ne k.2
     ]
+
+-- the same of a result that has such a fault
+pub none_of : {T : Type 0} (g : Weigher) (config : Config) (names : List Bytes) (hs : List History) (result : Result T CertifyFault) → IfErr result (IsFaultOf g config names hs) → IfErr result (λ fault. fault ≢ OutOfMemory → ¬ HasRun g config names hs)
+none_of g config names hs result h = IfErr-weaker result (IsFaultOf g config names hs) (λ fault. fault ≢ OutOfMemory → ¬ HasRun g config names hs) (no_run g config names hs) h
+
+-- nor where the names make no world
+pub unmade_none : (g : Weigher) (config : Config) (names : List Bytes) (hs : List History) (fault : CertifyFault) → IsUnmade names fault → fault ≢ OutOfMemory → ¬ HasRun g config names hs
+unmade_none g config names hs Stuck h ne run = h run.judged.named
+unmade_none g config names hs (Differs node place) h ne run = absurd h
+unmade_none g config names hs OutOfMemory h ne run = ne refl

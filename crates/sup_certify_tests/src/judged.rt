@@ -37,7 +37,7 @@ fn histories_with_lost_and_doubled_letters_are_a_run(rt: HostRuntime) {
     let (a, b) = lost_and_doubled(&rt);
     let both = histories(&rt, ("a", a), ("b", b));
     let run = certified(&rt, &plan(&rt, "a", "b"), &both);
-    assert!(rt; run.steps.len() == 8);
+    assert!(rt; run.steps.as_slice().len() == 8);
     assert!(rt; arrivals(run.steps.as_slice()) == (4, 0));
     let Some(station) = run.world.station(&node(&rt, "a")) else {
         panic!(rt; "no such node")
@@ -52,7 +52,7 @@ fn histories_with_lost_and_doubled_letters_are_a_run(rt: HostRuntime) {
 fn bytes_that_are_no_message_come_as_raw_bytes(rt: HostRuntime) {
     let both = histories(&rt, ("a", disturbed(&rt, "a")), ("b", joined(&rt, "b")));
     let run = certified(&rt, &plan(&rt, "a", "b"), &both);
-    assert!(rt; run.steps.len() == 3);
+    assert!(rt; run.steps.as_slice().len() == 3);
     assert!(rt; arrivals(run.steps.as_slice()) == (0, 1));
 }
 
@@ -60,7 +60,7 @@ fn bytes_that_are_no_message_come_as_raw_bytes(rt: HostRuntime) {
 fn a_node_that_is_drained_makes_a_run(rt: HostRuntime) {
     let both = histories(&rt, ("a", drained(&rt, "a")), ("b", joined(&rt, "b")));
     let run = certified(&rt, &plan(&rt, "a", "b"), &both);
-    assert!(rt; run.steps.len() == 4);
+    assert!(rt; run.steps.as_slice().len() == 4);
     let Some(station) = run.world.station(&node(&rt, "a")) else {
         panic!(rt; "no such node")
     };
@@ -77,7 +77,7 @@ fn a_node_that_is_drained_makes_a_run(rt: HostRuntime) {
 fn a_stop_and_a_restart_are_steps_of_a_run(rt: HostRuntime) {
     let both = histories(&rt, ("a", interrupted(&rt, "a")), ("b", joined(&rt, "b")));
     let run = certified(&rt, &plan(&rt, "a", "b"), &both);
-    assert!(rt; run.steps.len() == 5);
+    assert!(rt; run.steps.as_slice().len() == 5);
     assert!(rt; arrivals(run.steps.as_slice()) == (0, 0));
 }
 
@@ -85,7 +85,7 @@ fn a_stop_and_a_restart_are_steps_of_a_run(rt: HostRuntime) {
 fn nodes_are_gone_round_in_the_order_of_their_names(rt: HostRuntime) {
     let both = histories(&rt, ("b", joined(&rt, "b")), ("a", joined(&rt, "a")));
     let run = certified(&rt, &plan(&rt, "b", "a"), &both);
-    let Some(Step::Node { at, .. }) = run.steps.first() else {
+    let Some(Step::Node { at, .. }) = run.steps.as_slice().first() else {
         panic!(rt; "no act")
     };
     assert!(rt; *at == node(&rt, "a"));
@@ -95,6 +95,6 @@ fn nodes_are_gone_round_in_the_order_of_their_names(rt: HostRuntime) {
 fn a_chain_of_three_nodes_is_a_run(rt: HostRuntime) {
     let (a, b, c) = chain(&rt);
     let run = certified(&rt, &plan_of_three(&rt), &histories_of_three(&rt, a, b, c));
-    assert!(rt; run.steps.len() == 6);
+    assert!(rt; run.steps.as_slice().len() == 6);
     assert!(rt; arrivals(run.steps.as_slice()) == (2, 0));
 }

@@ -7,7 +7,7 @@ use std::env;
 use std::io::{self, Error, ErrorKind, Read};
 use std::sync::Wait;
 use std::thread::Threads;
-use sup_certify::certify;
+use sup_certify::{Steps, certify};
 use sup_cluster::{Quiet, run};
 use sup_cluster_texts::read_plan;
 use sup_jobs::LIMIT;
@@ -22,7 +22,7 @@ fn invalid() -> Error {
 }
 
 // The steps of the run, which is judged so many times more.
-fn judged(alloc: Global, plan: &Plan, histories: &Histories, times: u32) -> io::Result<Vec<Step>> {
+fn judged(alloc: Global, plan: &Plan, histories: &Histories, times: u32) -> io::Result<Steps> {
     for _ in 0..times {
         certify(alloc, plan, histories, FlatWeigh).map_err(|_| invalid())?;
     }
@@ -54,9 +54,9 @@ fn play<R: Threads + Wait + Sync>(
     let histories = run(rt, alloc, &plan, &Quiet, &Quiet, &FlatWeigh).map_err(|_| invalid())?;
     let steps = judged(alloc, &plan, &histories, judgements)?;
     for _ in 0..replays {
-        replay(alloc, &plan, &steps)?;
+        replay(alloc, &plan, steps.as_slice())?;
     }
-    Ok(steps.len())
+    Ok(steps.as_slice().len())
 }
 
 fn main(rt: HostRuntime) -> io::Result<()> {

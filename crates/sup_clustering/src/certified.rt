@@ -48,7 +48,7 @@ fn certified_run<T: Threads + Wait + Sync, G: Weigh + Copy + Drop + Send + Sync>
     plan: &Plan,
 ) -> Result<Run<G>, ClusterFault>
     requires { IsPlan plan.now }
-    ensures certified { IfOk result (λ run. IsCertified G.weight_of plan.now run.steps.items (sites_of run.world)) }
+    ensures certified { IfOk result (λ run. IsCertified G.weight_of plan.now run.steps (sites_of run.world)) }
     ensures refused { IfErr result (IsRefused G.weight_of plan.now) }
 {
     judged_as(judged_run(rt, alloc, weigher, plan))
@@ -65,7 +65,7 @@ fn judged_run<T: Threads + Wait + Sync, G: Weigh + Copy + Drop + Send + Sync>(
     requires { IsPlan plan.now }
     ensures good { result ≢ Err RunFault.BadPlan }
     ensures judged { IfOk result (λ judged. MatchResult judged
-        (λ run. IsCertified G.weight_of plan.now run.steps.items (sites_of run.world))
+        (λ run. IsCertified G.weight_of plan.now run.steps (sites_of run.world))
         (IsUncertified G.weight_of plan.now)) }
 {
     match sup_cluster::run(rt, alloc, plan, &Quiet, &Quiet, weigher) {
