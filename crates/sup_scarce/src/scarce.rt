@@ -6,27 +6,38 @@ use sup_keeper::{KeepFault, Keeper, MemKeeper};
 /// A keeper in memory: after so many calls, saves and loads, the next one is refused memory without reaching it. All others
 /// go through.
 #[derive(Drop)]
-pub(crate) struct Scarce {
+pub struct Scarce {
     inner: MemKeeper,
     // How many calls go through before the one that is refused; none once it has been.
     left: Option<u64>,
 }
 
 impl Scarce {
+    ghost use Rattle.std.specs.Prelude.{Some, is_none};
+    ghost use Rattle.sup_scarce.specs.Scarcity.{inner_of, left_of};
+
     /// Its call number `k + 1` is refused.
-    pub(crate) fn new(inner: MemKeeper, k: u64) -> Scarce {
+    pub fn new(inner: MemKeeper, k: u64) -> Scarce
+        ensures inner { inner_of result ≡ inner }
+        ensures left { left_of result ≡ Some k }
+    {
         Scarce {
             inner,
             left: Some(k),
         }
     }
 
-    pub(crate) fn stored(&self) -> &[u8] {
+    /// The bytes that are kept.
+    pub fn stored(&self) -> &[u8]
+        ensures { result.now ≡ (inner_of self.now).bytes }
+    {
         self.inner.stored()
     }
 
     /// Whether a call has been refused.
-    pub(crate) fn has_refused(&self) -> bool {
+    pub fn has_refused(&self) -> bool
+        ensures { result ≡ is_none (left_of self.now) }
+    {
         self.left.is_none()
     }
 

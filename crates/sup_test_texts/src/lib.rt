@@ -1,0 +1,7 @@
+//! For tests: what is printed of nodes and refusals, asked for once more where memory is refused. The calls promise nothing:
+//! a test compares what they give.
+#![tactic(auto)]
+
+mod texts;
+
+pub use texts::{led, refused, shown};
