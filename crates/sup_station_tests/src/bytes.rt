@@ -8,7 +8,11 @@ use sup_placement::FlatWeigh;
 use sup_replica::{Act, Config, Event, Refusal};
 use sup_station::Station;
 
-type Kept = Station<MemKeeper, FlatWeigh>;
+/// A station: a struct of one's own is proved faster as a local than the generic type.
+#[derive(Drop)]
+struct Kept {
+    station: Station<MemKeeper, FlatWeigh>,
+}
 
 /// The messages up to their version, as version 1 says them.
 const FRONTS_OF_1: [&str; 8] = [
@@ -36,23 +40,32 @@ const BACKWARDS: [&str; 4] = [
     "{\"ctx\":{\"cloud\":[[\"a\",3],[\"a\",2]],\"vector\":{}},\"from\":\"a\",\"kind\":\"push\",\"rows\":[[\"child\",\"web\",[\"a\",3],{\"arg\":\"x\",\"kind\":\"worker\",\"restart\":\"permanent\",\"shutdown\":5000}]],\"to\":\"b\",\"v\":2}",
 ];
 
-// A station of this node, with a child.
-fn begun(rt: &(impl Abort + AllocGlobal), of: &str) -> Kept {
+fn opened(rt: &(impl Abort + AllocGlobal), of: &str) -> Kept {
     let keeper = MemKeeper::new(rt.alloc());
-    let Ok(mut station) = Station::new(rt.alloc(), name(rt, of), Config::default(), keeper) else {
-        panic!(rt; "it was refused")
-    };
+    match Station::new(rt.alloc(), name(rt, of), Config::default(), keeper) {
+        Ok(station) => Kept { station },
+        Err(_) => panic!(rt; "it was refused"),
+    }
+}
+
+fn starts(rt: &(impl Abort + AllocGlobal), kept: &mut Kept) {
     let id = child(rt.alloc(), "z").expect(rt, "room");
     let spec = worker(rt.alloc(), "").expect(rt, "room");
     let start = Act::Event(Event::Start(id, spec));
-    assert!(rt; station.step(start, 0, &FlatWeigh).is_ok());
-    station
+    assert!(rt; kept.station.step(start, 0, &FlatWeigh).is_ok());
+}
+
+// A station of this node, with a child.
+fn begun(rt: &(impl Abort + AllocGlobal), of: &str) -> Kept {
+    let mut kept = opened(rt, of);
+    starts(rt, &mut kept);
+    kept
 }
 
 // What the node shows and keeps.
 fn seen(rt: &(impl Abort + AllocGlobal), station: &Kept, of: &str) -> String {
-    let mut text = shown(rt, &name(rt, of), station.node());
-    let image = line_of(rt, station.keeper().stored());
+    let mut text = shown(rt, &name(rt, of), station.station.node());
+    let image = line_of(rt, station.station.keeper().stored());
     put(rt, &mut text, image.as_str());
     text
 }
@@ -66,7 +79,7 @@ fn expect_as_before(rt: &(impl Abort + AllocGlobal), station: &Kept, of: &str, b
 fn refusal(rt: &(impl Abort + AllocGlobal), station: &mut Kept, bytes: &[u8]) -> Option<Refusal> {
     let text = message(rt.alloc(), bytes).expect(rt, "room");
     let delivery = Act::Event(Event::Deliver(text));
-    station.step(delivery, 0, &FlatWeigh).err()
+    station.station.step(delivery, 0, &FlatWeigh).err()
 }
 
 // A message's text, up to its version and with it.
@@ -160,12 +173,16 @@ fn expect_none(rt: &(impl Abort + AllocGlobal), station: &mut Kept, text: &str) 
     assert!(rt; refused == Some(Refusal::BadMessage), "{text}");
 }
 
+fn expect_all_none(rt: &(impl Abort + AllocGlobal), station: &mut Kept, texts: &[&str]) {
+    for text in texts {
+        expect_none(rt, station, text);
+    }
+}
+
 fn no_backwards_at(rt: &(impl Abort + AllocGlobal), of: &str) {
     let mut station = begun(rt, of);
     let before = seen(rt, &station, of);
-    for text in BACKWARDS {
-        expect_none(rt, &mut station, text);
-    }
+    expect_all_none(rt, &mut station, &BACKWARDS);
     expect_as_before(rt, &station, of, before.as_str());
 }
 
