@@ -11,7 +11,7 @@ use sup_placement::FlatWeigh;
 use sup_replica::{Act, Config, Refusal};
 use sup_station::Station;
 
-/// A station: a struct of one's own is proved faster as a local than the generic type.
+/// A station of these tests.
 #[derive(Drop)]
 struct Scant {
     station: Station<Scarce, FlatWeigh>,
