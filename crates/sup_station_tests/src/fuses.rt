@@ -11,7 +11,7 @@ use sup_station::Station;
 
 /// A station of these tests.
 #[derive(Drop)]
-struct Fused {
+struct Over {
     station: Station<FuseKeeper, FlatWeigh>,
 }
 
@@ -25,9 +25,9 @@ pub(crate) const RESTARTED: &str =
     "{\"boot\":2,\"count\":1,\"ctx\":{\"cloud\":[],\"vector\":{\"a\":1}},\"kind\":\"image\",\"node\":\"a\",\"rows\":[[\"child\",\"x\",[\"a\",1],{\"arg\":\"\",\"kind\":\"worker\",\"restart\":\"permanent\",\"shutdown\":5000}]],\"v\":2}";
 
 // A new node's station over this keeper, which doesn't fail at the first save.
-fn opened(rt: &(impl Abort + AllocGlobal), keeper: FuseKeeper) -> Fused {
+fn opened(rt: &(impl Abort + AllocGlobal), keeper: FuseKeeper) -> Over {
     match Station::new(rt.alloc(), name(rt, "a"), Config::default(), keeper) {
-        Ok(station) => Fused { station },
+        Ok(station) => Over { station },
         Err(_) => panic!(rt; "it was refused"),
     }
 }
@@ -44,26 +44,26 @@ pub(crate) fn start(rt: &(impl Abort + AllocGlobal)) -> Act {
 }
 
 // The act is made, and this is kept then.
-fn makes(rt: &impl Abort, station: &mut Fused, act: Act, kept: &str) {
+fn makes(rt: &impl Abort, station: &mut Over, act: Act, kept: &str) {
     assert!(rt; station.station.step(act, 0, &FlatWeigh).is_ok());
     assert!(rt; station.station.keeper().inner().stored() == kept.as_bytes());
 }
 
 // The act is refused since its keeper fails, and this is still kept.
-fn fails(rt: &impl Abort, station: &mut Fused, act: Act, kept: &str) {
+fn fails(rt: &impl Abort, station: &mut Over, act: Act, kept: &str) {
     let refused = station.station.step(act, 0, &FlatWeigh).err();
     assert!(rt; refused == Some(Refusal::KeepFailed));
     assert!(rt; station.station.keeper().inner().stored() == kept.as_bytes());
 }
 
 // The node runs in this boot, or none does; and its keeper has failed so often.
-fn expect_at(rt: &impl Abort, station: &Fused, boot: Option<u64>, failures: u64) {
+fn expect_at(rt: &impl Abort, station: &Over, boot: Option<u64>, failures: u64) {
     assert!(rt; boot_of(station.station.node()) == boot);
     assert!(rt; station.station.keeper().failures() == failures);
 }
 
 // The start, the stop and the restart, none of which is refused, over a keeper that has failed so often.
-fn goes_on(rt: &(impl Abort + AllocGlobal), station: &mut Fused, failures: u64) {
+fn goes_on(rt: &(impl Abort + AllocGlobal), station: &mut Over, failures: u64) {
     makes(rt, station, start(rt), STARTED);
     makes(rt, station, Act::Stop, STARTED);
     makes(rt, station, Act::Restart, RESTARTED);
@@ -71,7 +71,7 @@ fn goes_on(rt: &(impl Abort + AllocGlobal), station: &mut Fused, failures: u64) 
 }
 
 // The start and the stop; the restart is refused, and then made.
-fn goes_on_over_a_failed_restart(rt: &(impl Abort + AllocGlobal), station: &mut Fused) {
+fn goes_on_over_a_failed_restart(rt: &(impl Abort + AllocGlobal), station: &mut Over) {
     makes(rt, station, start(rt), STARTED);
     makes(rt, station, Act::Stop, STARTED);
     fails(rt, station, Act::Restart, STARTED);
@@ -154,7 +154,7 @@ fn a_keeper_behind_a_fuse_fails_too(rt: HostRuntime) {
 fn a_stopped_node_whose_image_cant_be_loaded_stays_stopped(rt: HostRuntime) {
     let keeper = fused(&rt, 0);
     let of = name(&rt, "a");
-    let mut station = Fused {
+    let mut station = Over {
         station: Station::stopped(rt.alloc(), of, Config::default(), keeper),
     };
     fails(&rt, &mut station, Act::Restart, "");
