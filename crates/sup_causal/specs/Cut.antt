@@ -6,7 +6,7 @@ use Rattle.std.specs.Ordering.{eq_by_cmp}
 use Rattle.sup_specs.specs.Values.{text_cmp}
 use Rattle.std.specs.List.Sorted.{IsStrictlySortedBy}
 use Rattle.sup_specs.specs.Rising.{among}
-use Rattle.sup_causal.specs.Dots.{dot_cmp}
+use Rattle.sup_causal.specs.Dots.{dot_cmp, IsCounted}
 use Rattle.sup_causal.specs.declared.dot.Dot.{Dot}
 use Rattle.sup_specs.specs.declared.limits.TheConstants.{MAX}
 
@@ -29,6 +29,10 @@ pub record IsVector (holds : Dot → Bool) (vector : List (List ℕ × ℕ)) : T
 pub record IsCloud (holds : Dot → Bool) (cloud : List Dot) : Type 0 where
   pub in_order : IsStrictlySortedBy dot_cmp cloud
   pub beyond : (d : Dot) → (among dot_cmp cloud d ≡ true) ↔ ((holds d ≡ true) × ((n : ℕ) → IsRun holds d.node n → n < d.counter))
+
+-- no set of counted dots has this vector and this cloud
+abbrev pub IsNoCut : List (List ℕ × ℕ) → List Dot → Type 0
+IsNoCut vector cloud = (holds : Dot → Bool) → ((d : Dot) → holds d ≡ true → IsCounted d) → IsVector holds vector → IsCloud holds cloud → ⊥
 
 -- what makes a vector and a cloud canonical
 pub record IsCanonical (vector : List (List ℕ × ℕ)) (cloud : List Dot) : Type 0 where

@@ -1,11 +1,12 @@
 -- A walk over two maps: their entries in rising order of the keys, each key of either once (this project).
-use Rattle.std.specs.Prelude.{◌≡◌, ◌||◌, true, List, ◌∷◌, drop, Option, Some, None}
+use Rattle.std.specs.Prelude.{◌≡◌, ◌||◌, true, List, ◌∷◌, drop, Option, Some, None, MatchOption}
+use Rattle.std.proofs.Common.{Bor}
 use Rattle.std.specs.declared.cmp.Ordering.{Ordering}
 use Rattle.std.specs.declared.cmp.Ordering.TheVariants.{Less}
 use Rattle.std.specs.List.{AllByRecursion}
 use Rattle.std.specs.List.Sorted.{IsStrictlySortedBy}
 use Rattle.std.specs.Map.{keys_of}
-use Rattle.std.specs.Option.{is_some}
+use Rattle.std.specs.Option.{is_some, option_copied}
 
 -- the entries after what is at the key k, if something is
 abbrev pub at_first : {K V : Type 0} → K → Option V → List (K × V) → List (K × V)
@@ -39,6 +40,10 @@ pub record IsLesserKey {K V : Type 0} (cmp : K → K → Ordering) (k : K) (left
   pub left_stands : StandsTo cmp k left first_left
   pub right_stands : StandsTo cmp k right first_right
   pub held : (is_some left || is_some right) ≡ true
+
+-- the lesser key of two first entries is given, with what stands there, and nothing where there is no entry
+abbrev pub GivesLesserKey : {K V : Type 0} → (K → K → Ordering) → Option (K × V) → Option (K × V) → Option (Bor K × Option (Bor V) × Option (Bor V)) → Type 0
+GivesLesserKey cmp first_left first_right given = MatchOption given ((first_left ≡ None) × (first_right ≡ None)) (λ x. IsLesserKey cmp x.0.now (option_copied x.1) (option_copied x.2) first_left first_right)
 
 -- the entries that are left past the first, where its value is told
 abbrev pub past_told : {K V : Type 0} → Option V → List (K × V) → List (K × V)

@@ -1,11 +1,11 @@
 //! Taking dots into a version vector.
 
-ghost use Rattle.std.specs.Prelude.{◌≡◌, ◌||◌, true, IfOk, OnOk};
+ghost use Rattle.std.specs.Prelude.{◌≡◌, true, IfOk, OnOk};
 ghost use Rattle.std.specs.declared.cmp.Ordering.TheVariants.{Less};
 ghost use Rattle.sup_specs.specs.Rising.{among};
 ghost use Rattle.sup_causal.specs.Cut.{IsCanonical, in_parts};
-ghost use Rattle.sup_causal.specs.Dots.{dot_cmp, dot_eq, IsCounted, IsKept};
-ghost use Rattle.sup_causal.specs.Parts.{IsVersions, in_vector};
+ghost use Rattle.sup_causal.specs.Dots.{dot_cmp, AddsDot, AddsNoOther, IsCounted, IsKept};
+ghost use Rattle.sup_causal.specs.Parts.{IsVersions};
 
 use crate::dot::Dot;
 use crate::entries::{entry_in, raise};
@@ -23,7 +23,7 @@ pub(crate) fn absorb(
     requires vector { IsVersions vector.old.items }
     requires dots { IsKept dots.now }
     ensures canonical { IfOk result (λ cloud. IsCanonical vector.new.items cloud.items) }
-    ensures dots { IfOk result (λ cloud. (d : Dot) → in_parts vector.new.items cloud.items d ≡ (in_vector vector.old.items d || among dot_cmp dots.now d)) }
+    ensures dots { IfOk result (λ cloud. (d : Dot) → in_parts vector.new.items cloud.items d ≡ in_parts vector.old.items dots.now d) }
 {
     let mut cloud = Vec::new(alloc);
     for dot in dots {
@@ -42,8 +42,8 @@ fn take_in(
     requires counted { IsCounted dot.now }
     requires last { (d : Dot) → among dot_cmp cloud.old.items d ≡ true → dot_cmp d dot.now ≡ Less }
     ensures canonical { OnOk result (IsCanonical vector.new.items cloud.new.items) }
-    ensures dots { OnOk result ((d : Dot) → in_parts vector.new.items cloud.new.items d ≡ (in_parts vector.old.items cloud.old.items d || dot_eq dot.now d)) }
-    ensures below { OnOk result ((d : Dot) → among dot_cmp cloud.new.items d ≡ true → (among dot_cmp cloud.old.items d || dot_eq dot.now d) ≡ true) }
+    ensures dots { OnOk result (AddsDot dot.now (in_parts vector.old.items cloud.old.items) (in_parts vector.new.items cloud.new.items)) }
+    ensures below { OnOk result (AddsNoOther dot.now (among dot_cmp cloud.old.items) (among dot_cmp cloud.new.items)) }
 {
     let entry = entry_in(vector, &dot.node);
     if dot.counter <= entry {

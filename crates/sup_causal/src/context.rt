@@ -4,11 +4,11 @@ ghost use Rattle.std.specs.Prelude.{◌≡◌, ◌≤◌, ◌+◌, ◌||◌, ◌
 ghost use Rattle.std.specs.Prelude.{All};
 ghost use Rattle.std.specs.List.Sorted.{IsStrictlySortedBy};
 ghost use Rattle.sup_specs.specs.Rising.{among};
-ghost use Rattle.sup_causal.specs.Cut.{in_parts, IsVector, IsCloud, IsCanonical};
+ghost use Rattle.sup_causal.specs.Cut.{in_parts, IsVector, IsCloud, IsCanonical, IsNoCut};
 ghost use Rattle.sup_causal.specs.declared.parts.PartsFault.TheVariants.{NotCanonical};
 ghost use Rattle.sup_causal.specs.Dots.{has, dot_cmp, dot_eq, IsCounted, IsGreatest, IsKept, IsNext};
 ghost use Rattle.sup_causal.specs.Greatest.{greatest_in};
-ghost use Rattle.sup_causal.specs.Parts.{IsVersions, in_vector};
+ghost use Rattle.sup_causal.specs.Parts.{IsVersions};
 
 mod within;
 
@@ -83,7 +83,7 @@ impl CausalContext {
         ensures cloud { IfOk result (λ context. IsCloud (has context) cloud.now) }
         ensures not_canonical { IfErr result (λ fault. fault ≡ NotCanonical → ¬ IsCanonical vector.now cloud.now) }
         ensures refused { ¬ IsCanonical vector.now cloud.now → result ≡ Err NotCanonical }
-        ensures no_cut { IfErr result (λ fault. fault ≡ NotCanonical → (holds : Dot → Bool) → ((d : Dot) → holds d ≡ true → IsCounted d) → IsVector holds vector.now → ¬ IsCloud holds cloud.now) }
+        ensures no_cut { IfErr result (λ fault. fault ≡ NotCanonical → IsNoCut vector.now cloud.now) }
     {
         if !is_canonical(vector, cloud) {
             return Err(PartsFault::NotCanonical);
@@ -246,7 +246,7 @@ fn absorbed(
 ) -> Result<CausalContext, AllocError>
     requires vector { IsVersions vector.items }
     requires dots { IsKept dots.now }
-    ensures { IfOk result (λ context. (d : Dot) → has context d ≡ (in_vector vector.items d || among dot_cmp dots.now d)) }
+    ensures { IfOk result (λ context. (d : Dot) → has context d ≡ in_parts vector.items dots.now d) }
 {
     let cloud = absorb(alloc, &mut vector, dots)?;
     Ok(CausalContext { vector, cloud })

@@ -3,7 +3,7 @@
 ghost use Rattle.std.specs.Prelude.{◌≡◌, Option, None, IfOk, OnOk};
 ghost use Rattle.std.specs.Option.{option_copied};
 ghost use Rattle.std.specs.BTreeMap.{get, IsOrdered};
-ghost use Rattle.sup_causal.specs.Merge.{IsMergeAt, PutsMerge, last_at};
+ghost use Rattle.sup_causal.specs.Merge.{IsMerge, PutsMerge, last_at};
 
 pub mod peeked;
 pub mod walk;
@@ -41,7 +41,7 @@ pub fn merge_maps<K: Plain, V: Drop, M: Merge<K, V>>(
     by: &M,
 ) -> Result<BTreeMap<K, V>, AllocError>
     requires { (q : K) → M.can_merge by.now q (get K.cmp left.now q) (get K.cmp right.now q) }
-    ensures merged { IfOk result (λ out. (q : K) → IsMergeAt (M.gives by.now q) (get K.cmp left.now q) (get K.cmp right.now q) (get K.cmp out q)) }
+    ensures merged { IfOk result (λ out. IsMerge (M.gives by.now) (get K.cmp left.now) (get K.cmp right.now) (get K.cmp out)) }
     ensures ordered { IfOk result (IsOrdered K.cmp) }
 {
     let pairs = merged_pairs(alloc, left, right, by)?;
@@ -57,7 +57,7 @@ fn merged_pairs<K: Plain, V: Drop, M: Merge<K, V>>(
     by: &M,
 ) -> Result<Vec<(K, V)>, AllocError>
     requires { (q : K) → M.can_merge by.now q (get K.cmp left.now q) (get K.cmp right.now q) }
-    ensures { IfOk result (λ pairs. (q : K) → IsMergeAt (M.gives by.now q) (get K.cmp left.now q) (get K.cmp right.now q) (last_at K.cmp pairs.items q)) }
+    ensures { IfOk result (λ pairs. IsMerge (M.gives by.now) (get K.cmp left.now) (get K.cmp right.now) (last_at K.cmp pairs.items)) }
 {
     let room = left.len().saturating_add(right.len());
     let mut pairs = Vec::with_capacity(alloc, room)?;

@@ -1,11 +1,11 @@
 //! A walk over the keys of two maps.
 
 ghost use Rattle.std.proofs.Props.{props};
-ghost use Rattle.std.specs.Prelude.{◌≡◌, ◌+◌, length, [], None, MatchOption};
+ghost use Rattle.std.specs.Prelude.{◌≡◌, ◌+◌, length, [], MatchOption};
 ghost use Rattle.std.specs.Iterator.{at_most};
 ghost use Rattle.std.specs.Map.Iter.{deref_pair};
 ghost use Rattle.std.specs.Option.{option_copied, option_map};
-ghost use Rattle.sup_causal.specs.Walk.{KeysRise, IsLeastKey, IsLesserKey};
+ghost use Rattle.sup_causal.specs.Walk.{KeysRise, IsLeastKey, GivesLesserKey};
 
 use super::peeked::Peeked;
 use std::cmp::Ordering;
@@ -54,7 +54,7 @@ pub fn lesser_key<'a, K: Plain, V>(
     left: Option<(&'a K, &'a V)>,
     right: Option<(&'a K, &'a V)>,
 ) -> Option<(&'a K, Option<&'a V>, Option<&'a V>)>
-    ensures { MatchOption result ((option_map deref_pair left.entry ≡ None) × (option_map deref_pair right.entry ≡ None)) (λ x. IsLesserKey K.cmp x.0.now (option_copied x.1) (option_copied x.2) (option_map deref_pair left.entry) (option_map deref_pair right.entry)) }
+    ensures { GivesLesserKey K.cmp (option_map deref_pair left.entry) (option_map deref_pair right.entry) result }
 {
     match (left, right) {
         (None, None) => None,
