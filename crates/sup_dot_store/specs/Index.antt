@@ -1,5 +1,5 @@
 -- What functions under keys have at a key and a dot, and how many values they have (this project).
-use Rattle.std.specs.Prelude.{ℕ, ◌+◌, ◌&&◌, cond, List, [], ◌∷◌, length, Option, Some, None}
+use Rattle.std.specs.Prelude.{◌≡◌, ℕ, ◌+◌, ◌&&◌, cond, List, [], ◌∷◌, length, Option, Some, None}
 use Rattle.std.specs.declared.cmp.Ordering.{Ordering}
 use Rattle.std.specs.Ordering.{eq_by_cmp}
 use Rattle.std.specs.Map.{lookup}
@@ -32,3 +32,7 @@ count_in (f ∷ fs) = length (values_of f).entries + count_in fs
 abbrev pub row_value : {K V : Type 0} → (K → K → Ordering) → List (K × Dot × V) → K → Dot → Option V
 row_value cmp [] k d = None
 row_value cmp (r ∷ rs) k d = cond (eq_by_cmp cmp k r.0 && dot_eq d r.1) (Some r.2) (row_value cmp rs k d)
+
+-- what the rows have under each key and dot is the value that stands there
+abbrev pub AreRowsOf : {K V : Type 0} → (K → K → Ordering) → List (K × Dot × V) → BTreeMap K (DotFun V) → Type 0
+AreRowsOf {K} cmp rows stores = (k : K) (d : Dot) → row_value cmp rows k d ≡ value_under cmp stores k d

@@ -91,7 +91,7 @@ impl<K: Plain, V: Plain> DotMap<K, DotFun<V>> {
     ghost use Rattle.std.specs.List.Sorted.{IsStrictlySortedBy};
     ghost use Rattle.sup_dot_store.specs.Contents.{stores_of};
     ghost use Rattle.sup_dot_store.specs.RowLists.{rows_of, row_cmp};
-    ghost use Rattle.sup_dot_store.specs.Index.{row_value, value_under};
+    ghost use Rattle.sup_dot_store.specs.Index.{AreRowsOf};
 
     /// The map with these rows, each a key, a dot and a value, which rise by key and under one key by dot.
     /// An `Err` is want of memory.
@@ -110,7 +110,7 @@ impl<K: Plain, V: Plain> DotMap<K, DotFun<V>> {
     pub fn rows(&self) -> Result<Vec<(K, Dot, V)>, AllocError>
         ensures rows { IfOk result (λ rows. rows.items ≡ rows_of (stores_of self.now).entries) }
         ensures rising { IfOk result (λ rows. IsStrictlySortedBy (row_cmp K.cmp) rows.items) }
-        ensures values { IfOk result (λ rows. (k : K) (d : DotValue) → row_value K.cmp rows.items k d ≡ value_under K.cmp (stores_of self.now) k d) }
+        ensures values { IfOk result (λ rows. AreRowsOf K.cmp rows.items (stores_of self.now)) }
     {
         let rows = copied_rows(self.alloc, &self.stores)?;
         Ok(rows)

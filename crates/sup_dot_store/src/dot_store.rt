@@ -4,8 +4,8 @@ ghost use Rattle.std.specs.Prelude.{◌≡◌, ◌↔◌, Option, None, IsTrue, 
 ghost use Rattle.sup_specs.specs.Rising.{among};
 ghost use Rattle.sup_causal.specs.declared.dot.Dot.{Dot as DotValue};
 ghost use Rattle.sup_causal.specs.Join.{JoinLaws};
-ghost use Rattle.sup_causal.specs.Dots.{has, dot_cmp};
-ghost use Rattle.sup_dot_store.specs.Points.{standing, higher, value_at, ContextCovers, IsWithinContext};
+ghost use Rattle.sup_causal.specs.Dots.{dot_cmp};
+ghost use Rattle.sup_dot_store.specs.Points.{AreJoinedRows, AreRowsBelow, ContextCovers, IsWithinContext};
 
 use std::alloc::{AllocError, Global};
 use sup_causal::{CausalContext, Dot};
@@ -52,14 +52,14 @@ pub trait DotStore: Drop {
     ) -> Result<Self, AllocError>
         requires mine { ContextCovers mine.now (held self.now) }
         requires theirs { ContextCovers theirs.now (held other.now) }
-        ensures { IfOk result (λ r. (d : DotValue) (p : Place) → held r d p ≡ value_at (higher (lesser p) (standing (has mine.now d) (held self.now d p)) (standing (has theirs.now d) (held other.now d p)))) };
+        ensures { IfOk result (λ r. AreJoinedRows lesser mine.now (held self.now) theirs.now (held other.now) (held r)) };
 
     /// Whether each point is at most as high as in the other state, which knows all dots of this one.
     fn leq_under(&self, mine: &CausalContext, other: &Self, theirs: &CausalContext) -> bool
         requires mine { ContextCovers mine.now (held self.now) }
         requires theirs { ContextCovers theirs.now (held other.now) }
         requires within { IsWithinContext mine.now theirs.now }
-        ensures { IsTrue result ↔ ((d : DotValue) (p : Place) → higher (lesser p) (standing (has mine.now d) (held self.now d p)) (standing (has theirs.now d) (held other.now d p)) ≡ standing (has theirs.now d) (held other.now d p)) };
+        ensures { IsTrue result ↔ AreRowsBelow lesser mine.now (held self.now) theirs.now (held other.now) };
 
     /// Takes away the rows of these dots, and no others.
     fn retract(&mut self, dots: &[Dot])

@@ -2,8 +2,7 @@
 
 ghost use Rattle.std.specs.Prelude.{◌≡◌};
 ghost use Rattle.sup_causal.specs.declared.dot.Dot.{Dot as DotValue};
-ghost use Rattle.sup_causal.specs.Dots.{has};
-ghost use Rattle.sup_dot_store.specs.Points.{standing, higher, value_at, ContextCovers, IsWithinContext};
+ghost use Rattle.sup_dot_store.specs.Points.{AreJoinedRows, AreRowsBelow, ContextCovers, IsWithinContext};
 ghost use Rattle.sup_dot_store.specs.Places.{optional_held, HasRowIfSome};
 
 use crate::dot_store::DotStore;
@@ -29,7 +28,7 @@ fn kept<S: DotStore>(store: S) -> Option<S>
 impl<'a, K, S: DotStore> Merge<K, S> for StoresUnder<'a> {
     ghost can_merge = { λ s _ l r. ContextCovers s.mine.now (optional_held S.held l) × ContextCovers s.theirs.now (optional_held S.held r) };
 
-    ghost gives = { λ s _ l r o. ((d : DotValue) (p : S.Place) → optional_held S.held o d p ≡ value_at (higher (S.lesser p) (standing (has s.mine.now d) (optional_held S.held l d p)) (standing (has s.theirs.now d) (optional_held S.held r d p)))) × HasRowIfSome S.held o };
+    ghost gives = { λ s _ l r o. AreJoinedRows S.lesser s.mine.now (optional_held S.held l) s.theirs.now (optional_held S.held r) (optional_held S.held o) × HasRowIfSome S.held o };
 
     fn merge<'b>(
         &self,
@@ -61,7 +60,7 @@ impl<'a, K, S: DotStore> Merge<K, S> for StoresUnder<'a> {
 impl<'a, K, S: DotStore> Below<K, S> for StoresUnder<'a> {
     ghost can_compare = { λ s _ l r. ContextCovers s.mine.now (optional_held S.held l) × ContextCovers s.theirs.now (optional_held S.held r) × IsWithinContext s.mine.now s.theirs.now };
 
-    ghost is_below = { λ s _ l r. (d : DotValue) (p : S.Place) → higher (S.lesser p) (standing (has s.mine.now d) (optional_held S.held l d p)) (standing (has s.theirs.now d) (optional_held S.held r d p)) ≡ standing (has s.theirs.now d) (optional_held S.held r d p) };
+    ghost is_below = { λ s _ l r. AreRowsBelow S.lesser s.mine.now (optional_held S.held l) s.theirs.now (optional_held S.held r) };
 
     fn below<'b>(&self, _key: &K, left: Option<&'b S>, right: Option<&'b S>) -> bool {
         match (left, right) {

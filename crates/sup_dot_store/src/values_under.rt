@@ -3,7 +3,7 @@
 ghost use Rattle.std.specs.Prelude.{◌≡◌, true, IsSome};
 ghost use Rattle.sup_causal.specs.Join.{lesser as lesser_of};
 ghost use Rattle.sup_causal.specs.Dots.{has};
-ghost use Rattle.sup_dot_store.specs.Points.{standing, higher, value_at};
+ghost use Rattle.sup_dot_store.specs.Points.{standing, higher, value_at, IsBelow};
 
 use std::alloc::{AllocError, Global};
 use sup_causal::{Below, CausalContext, Dot, Merge};
@@ -56,7 +56,7 @@ impl<'a, V: Plain> Merge<Dot, V> for ValuesUnder<'a> {
 impl<'a, V: Plain> Below<Dot, V> for ValuesUnder<'a> {
     ghost can_compare = { λ s d l r. (IsSome l → has s.mine.now d ≡ true) × (IsSome r → has s.theirs.now d ≡ true) × (has s.mine.now d ≡ true → has s.theirs.now d ≡ true) };
 
-    ghost is_below = { λ s d l r. higher (lesser_of V.cmp) (standing (has s.mine.now d) l) (standing (has s.theirs.now d) r) ≡ standing (has s.theirs.now d) r };
+    ghost is_below = { λ s d l r. IsBelow (lesser_of V.cmp) (has s.mine.now d) l (has s.theirs.now d) r };
 
     fn below<'b>(&self, key: &Dot, left: Option<&'b V>, right: Option<&'b V>) -> bool {
         match (left, right) {
