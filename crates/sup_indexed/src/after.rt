@@ -2,10 +2,9 @@
 
 ghost use Rattle.std.specs.Prelude.{◌≡◌, map, IfOk};
 ghost use Rattle.std.specs.Option.{option_copied};
-ghost use Rattle.std.specs.Map.{keys_of, lookup};
-ghost use Rattle.std.specs.BTreeMap.{get, is_at};
+ghost use Rattle.std.specs.Map.{keys_of};
 ghost use Rattle.std.specs.List.Sorted.{IsStrictlySortedBy};
-ghost use Rattle.sup_indexed.specs.Touched.{function_after, lent_functions};
+ghost use Rattle.sup_indexed.specs.Touched.{changed_function, function_after, lent_functions, AreFunctionsAfter};
 
 use crate::indexed_map::IndexedMap;
 use crate::planning::PlannedMap;
@@ -20,7 +19,7 @@ impl<K: Plain, V: Plain> IndexedMap<K, V> {
 
     /// The function under the key once the plan is carried out. It may have no value.
     pub fn get_after<'a>(&'a self, plan: &'a PlannedMap<K, V>, key: &K) -> Option<&'a DotFun<V>>
-        ensures { option_copied result ≡ function_after (get K.cmp (functions_planned plan.now) key.now) (get K.cmp (functions_of self.now) key.now) }
+        ensures { option_copied result ≡ changed_function K.cmp (functions_planned plan.now) (functions_of self.now) key.now }
     {
         match plan.changed.get(key) {
             Some(function) => Some(function),
@@ -35,7 +34,7 @@ impl<K: Plain, V: Plain> IndexedMap<K, V> {
         plan: &'a PlannedMap<K, V>,
     ) -> Result<Vec<(&'a K, &'a DotFun<V>)>, AllocError>
         ensures rise { IfOk result (λ fs. IsStrictlySortedBy K.cmp (keys_of (lent_functions fs.items))) }
-        ensures found { IfOk result (λ fs. (k : K) → lookup (is_at (K.cmp k)) (lent_functions fs.items) ≡ function_after (get K.cmp (functions_planned plan.now) k) (get K.cmp (functions_of self.now) k)) }
+        ensures found { IfOk result (λ fs. AreFunctionsAfter K.cmp (functions_planned plan.now) (functions_of self.now) fs.items) }
     {
         functions_after(alloc, &self.stores, &plan.changed)
     }
@@ -48,7 +47,7 @@ fn functions_after<'a, K: Plain, V: Plain>(
     changed: &'a BTreeMap<K, DotFun<V>>,
 ) -> Result<Vec<(&'a K, &'a DotFun<V>)>, AllocError>
     ensures rise { IfOk result (λ fs. IsStrictlySortedBy K.cmp (keys_of (lent_functions fs.items))) }
-    ensures found { IfOk result (λ fs. (k : K) → lookup (is_at (K.cmp k)) (lent_functions fs.items) ≡ function_after (get K.cmp changed.now k) (get K.cmp stores.now k)) }
+    ensures found { IfOk result (λ fs. AreFunctionsAfter K.cmp changed.now stores.now fs.items) }
 {
     let mut functions = Vec::new(alloc);
     for (key, old, new) in KeyByKey::new(stores, changed) {

@@ -1,13 +1,11 @@
 //! Functions that are joined under a key.
 
-ghost use Rattle.std.specs.Prelude.{◌≡◌, [], true, IsSome, IfOk};
+ghost use Rattle.std.specs.Prelude.{◌≡◌, [], IfOk};
 ghost use Rattle.sup_causal.specs.declared.dot.Dot.{Dot as DotValue};
-ghost use Rattle.sup_causal.specs.Join.{lesser};
-ghost use Rattle.sup_causal.specs.Dots.{has};
 ghost use Rattle.sup_dot_store.specs.ByDot.{at_dot};
 ghost use Rattle.sup_dot_store.specs.Contents.{values_of};
-ghost use Rattle.sup_dot_store.specs.Points.{standing, higher, value_at};
 ghost use Rattle.sup_dot_store.specs.Index.{value_under};
+ghost use Rattle.sup_indexed.specs.Joined.{AreKnownUnder, IsJoinedUnder};
 
 use std::alloc::{AllocError, Global};
 use std::collections::BTreeMap;
@@ -24,9 +22,9 @@ pub(crate) fn joined_under<K: Plain, V: Plain>(
     theirs: &CausalContext,
     key: &K,
 ) -> Result<DotFun<V>, AllocError>
-    requires mine { (d : DotValue) → IsSome (value_under K.cmp stores.now key.now d) → has mine.now d ≡ true }
-    requires theirs { (d : DotValue) → IsSome (value_under K.cmp other.now key.now d) → has theirs.now d ≡ true }
-    ensures { IfOk result (λ f. (d : DotValue) → at_dot (values_of f) d ≡ value_at (higher (lesser V.cmp) (standing (has mine.now d) (value_under K.cmp stores.now key.now d)) (standing (has theirs.now d) (value_under K.cmp other.now key.now d)))) }
+    requires mine { AreKnownUnder K.cmp stores.now mine.now key.now }
+    requires theirs { AreKnownUnder K.cmp other.now theirs.now key.now }
+    ensures { IfOk result (IsJoinedUnder K.cmp V.cmp mine.now stores.now theirs.now other.now key.now) }
 {
     let nothing = DotFun::new(alloc);
     let here = function_in(stores, key, &nothing);

@@ -3,9 +3,7 @@
 
 ghost use Rattle.std.specs.Prelude.{◌≡◌, None, IfOk, IfErr, OnOk};
 ghost use Rattle.std.specs.BTreeMap.{get};
-ghost use Rattle.sup_causal.specs.declared.dot.Dot.{Dot as DotValue};
-ghost use Rattle.sup_dot_store.specs.Index.{value_under};
-ghost use Rattle.sup_indexed.specs.Changed.{IsReady, changed_value};
+ghost use Rattle.sup_indexed.specs.Changed.{IsReady, HaveSameValues, IsCarriedOut, IsSamePlan};
 
 use crate::changing::Changing;
 use crate::indexed_map::IndexedMap;
@@ -27,9 +25,9 @@ impl<K: Plain, V: Plain> IndexedMap<K, V> {
 
     /// Takes all room that a plan needs, in any map. An `Err` is want of memory, and gives a map of the same rows back.
     pub fn open_for(self, alloc: Global, plan: PlannedMap<K, V>) -> Result<ReadyMap<K, V>, Self>
-        ensures planned { IfOk result (λ r. (k : K) (d : DotValue) → changed_value K.cmp (functions_to_be r) (functions_before r) k d ≡ changed_value K.cmp (functions_planned plan) (functions_of self) k d) }
-        ensures same { IfOk result (λ r. (k : K) (d : DotValue) → value_under K.cmp (functions_before r) k d ≡ value_under K.cmp (functions_of self) k d) }
-        ensures err { IfErr result (λ m. (k : K) (d : DotValue) → value_under K.cmp (functions_of m) k d ≡ value_under K.cmp (functions_of self) k d) }
+        ensures planned { IfOk result (λ r. IsSamePlan K.cmp (functions_to_be r) (functions_before r) (functions_planned plan) (functions_of self)) }
+        ensures same { IfOk result (λ r. HaveSameValues K.cmp (functions_before r) (functions_of self)) }
+        ensures err { IfErr result (λ m. HaveSameValues K.cmp (functions_of m) (functions_of self)) }
     {
         let mut changing = match Changing::of(self) {
             Ok(changing) => changing,
@@ -43,14 +41,14 @@ impl<K: Plain, V: Plain> IndexedMap<K, V> {
 
     /// The map with the functions changed. It takes no memory.
     pub fn carry_out(ready: ReadyMap<K, V>) -> Self
-        ensures { (k : K) (d : DotValue) → value_under K.cmp (functions_of result) k d ≡ changed_value K.cmp (functions_to_be ready) (functions_before ready) k d }
+        ensures { IsCarriedOut K.cmp (functions_to_be ready) (functions_before ready) (functions_of result) }
     {
         ready.changing.carried_out()
     }
 
     /// The map as it was. It takes no memory.
     pub fn give_up(ready: ReadyMap<K, V>) -> Self
-        ensures { (k : K) (d : DotValue) → value_under K.cmp (functions_of result) k d ≡ value_under K.cmp (functions_before ready) k d }
+        ensures { HaveSameValues K.cmp (functions_of result) (functions_before ready) }
     {
         ready.changing.given_up()
     }
@@ -64,7 +62,7 @@ fn change_planned<K: Plain, V: Plain>(
 ) -> Result<(), AllocError>
     requires none { (k : K) → get K.cmp changing.old.changed k ≡ None }
     requires ready { IsReady K.cmp changing.old.stores changing.old.index changing.old.changed }
-    ensures same { (k : K) (d : DotValue) → value_under K.cmp changing.new.stores k d ≡ value_under K.cmp changing.old.stores k d }
+    ensures same { HaveSameValues K.cmp changing.new.stores changing.old.stores }
     ensures changed { OnOk result ((k : K) → get K.cmp changing.new.changed k ≡ get K.cmp planned k) }
     ensures ready { OnOk result (IsReady K.cmp changing.new.stores changing.new.index changing.new.changed) }
 {

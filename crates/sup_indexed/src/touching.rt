@@ -1,10 +1,9 @@
 //! Which keys a planned join touches.
 
-ghost use Rattle.std.specs.Prelude.{◌≡◌, ◌↔◌, true, Some, IsTrue, IfOk};
+ghost use Rattle.std.specs.Prelude.{◌≡◌, ◌↔◌, Some, IsTrue, IfOk};
 ghost use Rattle.std.specs.BTreeMap.{get};
 ghost use Rattle.std.specs.List.Sorted.{IsStrictlySortedBy};
-ghost use Rattle.sup_specs.specs.Rising.{among};
-ghost use Rattle.sup_indexed.specs.Touched.{first_in, first_at, first_after, first_has};
+ghost use Rattle.sup_indexed.specs.Touched.{first_in, first_at, first_has, AreTouchedKeys, KeepsProperty};
 
 use crate::indexed_map::IndexedMap;
 use crate::planning::PlannedMap;
@@ -21,7 +20,7 @@ impl<K: Plain, V: Plain> IndexedMap<K, V> {
     /// The keys whose first value, or its dot, differs once the plan is carried out, is new then or is gone: rising.
     pub fn touched_by(&self, alloc: Global, plan: &PlannedMap<K, V>) -> Result<Vec<K>, AllocError>
         ensures rise { IfOk result (λ keys. IsStrictlySortedBy K.cmp keys.items) }
-        ensures exact { IfOk result (λ keys. (k : K) → (among K.cmp keys.items k ≡ true) ↔ ¬ (first_after K.cmp (functions_planned plan.now) (functions_of self.now) k ≡ first_at K.cmp (functions_of self.now) k)) }
+        ensures exact { IfOk result (λ keys. AreTouchedKeys K.cmp (functions_planned plan.now) (functions_of self.now) keys.items) }
     {
         touched_by(alloc, &self.stores, &plan.changed)
     }
@@ -29,7 +28,7 @@ impl<K: Plain, V: Plain> IndexedMap<K, V> {
     /// Whether there is a key whose first value has the property only as the map stands, or only once the plan is carried
     /// out.
     pub fn differs_in<P: Property<V>>(&self, plan: &PlannedMap<K, V>, property: &P) -> bool
-        ensures { IsTrue result ↔ ¬ ((k : K) → first_has (P.is_held property.now) (first_after K.cmp (functions_planned plan.now) (functions_of self.now) k) ≡ first_has (P.is_held property.now) (first_at K.cmp (functions_of self.now) k)) }
+        ensures { IsTrue result ↔ ¬ KeepsProperty K.cmp (P.is_held property.now) (functions_planned plan.now) (functions_of self.now) }
     {
         differs_in(&self.stores, &plan.changed, property)
     }
@@ -42,7 +41,7 @@ fn touched_by<K: Plain, V: Plain>(
     changed: &BTreeMap<K, DotFun<V>>,
 ) -> Result<Vec<K>, AllocError>
     ensures rise { IfOk result (λ keys. IsStrictlySortedBy K.cmp keys.items) }
-    ensures exact { IfOk result (λ keys. (k : K) → (among K.cmp keys.items k ≡ true) ↔ ¬ (first_after K.cmp changed.now stores.now k ≡ first_at K.cmp stores.now k)) }
+    ensures exact { IfOk result (λ keys. AreTouchedKeys K.cmp changed.now stores.now keys.items) }
 {
     let mut keys = Vec::new(alloc);
     for (key, function) in changed {
@@ -59,7 +58,7 @@ fn differs_in<K: Plain, V: Plain, P: Property<V>>(
     changed: &BTreeMap<K, DotFun<V>>,
     property: &P,
 ) -> bool
-    ensures { IsTrue result ↔ ¬ ((k : K) → first_has (P.is_held property.now) (first_after K.cmp changed.now stores.now k) ≡ first_has (P.is_held property.now) (first_at K.cmp stores.now k)) }
+    ensures { IsTrue result ↔ ¬ KeepsProperty K.cmp (P.is_held property.now) changed.now stores.now }
 {
     for (key, function) in changed {
         if holds_under(stores, key, property) != holds_in(function, property) {
