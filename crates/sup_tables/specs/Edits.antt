@@ -1,6 +1,6 @@
 -- The rows that come and go once a plan is carried out: under each key that the plan may change all rows go, and those come that are to stand
 -- (this project).
-use Rattle.std.specs.Prelude.{List, [], ◌∷◌, ◌++◌, map, Option, Some, None}
+use Rattle.std.specs.Prelude.{Bool, false, cond, List, [], ◌∷◌, ◌++◌, map, Option}
 use Rattle.std.specs.Map.{lookup}
 use Rattle.std.specs.BTreeMap.{is_at}
 use Rattle.std.specs.declared.cmp.Ordering.{Ordering}
@@ -23,6 +23,14 @@ use Rattle.sup_tables.specs.Stored.{values_under}
 -- the rows of a key, by dot
 abbrev pub rows_at : {V R : Type 0} → (Dot → V → R) → List (Dot × V) → List R
 rows_at make es = map (λ e. make e.0 e.1) es
+
+-- the edits by which the rows of a key come, or go, where the values say them
+abbrev pub edits_at : {K V : Type 0} → Bool → (K → V → Entry) → K → List (Dot × V) → List (Edit Row)
+edits_at comes says key es = map (cond comes Comes Goes) (rows_at (said_row says key) es)
+
+-- the edits by which all rows of a key go
+abbrev pub gone_edits : {K V : Type 0} → (K → V → Entry) → K → Option (DotFun V) → List (Edit Row)
+gone_edits says key old = edits_at false says key (values_under old)
 
 -- the edits of a key by what stands there and what is to stand
 abbrev pub key_edits : {V R : Type 0} → (Dot → V → R) → Option (DotFun V) → DotFun V → List (Edit R)
