@@ -1,6 +1,6 @@
 -- The buffer of a node's newest deltas, and what each peer has acknowledged: Almeida, Shoker, Baquero 2018, 6 (delta intervals), with
 -- this project's bound on the deltas held.
-use Rattle.std.specs.Prelude.{ℕ, ◌+◌, ◌-◌, ◌==◌, Bool, true, false, max, nat_le, List, [], ◌∷◌, ◌++◌, length, Option, Some, None, if◌then◌else◌}
+use Rattle.std.specs.Prelude.{ℕ, ◌+◌, ◌-◌, ◌<◌, ◌==◌, Bool, true, false, max, nat_le, List, [], ◌∷◌, ◌++◌, length, Option, Some, None, if◌then◌else◌}
 use Rattle.sup_anti_entropy.specs.Joins.{newest_of, joined}
 
 -- at most `room` deltas, oldest first, of the changes that lead to the count; and by peer the count up to which it has them
@@ -35,8 +35,20 @@ module _ {Id K : Type 0} where
   abbrev pub noted : Buffer Id K → K → Buffer Id K
   noted b delta = record b { count = b.count + 1; held = holds_more b.room b.held delta }
 
+  -- how many changes the peer hasn't acknowledged
+  abbrev pub missing_of : Buffer Id K → Id → ℕ
+  missing_of b to = b.count - b.acked to
+
+  -- those of the deltas held that it hasn't acknowledged
+  abbrev pub deltas_for : Buffer Id K → Id → List K
+  deltas_for b to = newest_of (missing_of b to) b.held
+
+  -- more is missing to it than is held
+  abbrev pub IsBeyondHeld : Buffer Id K → Id → Type 0
+  IsBeyondHeld b to = length b.held < missing_of b to
+
   abbrev pub shipped : (K → K → K) → K → Buffer Id K → K → Id → Option (Shipment K)
-  shipped join nothing b known to = shipment_of join nothing b.held b.count known (b.count - b.acked to)
+  shipped join nothing b known to = shipment_of join nothing b.held b.count known (missing_of b to)
 
   abbrev pub acked_more : (Id → Id → Bool) → Buffer Id K → Id → ℕ → Buffer Id K
   acked_more same b from n = record b { acked = acknowledged_by same b.acked from n }

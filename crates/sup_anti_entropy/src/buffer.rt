@@ -1,5 +1,5 @@
 //! The newest deltas of a node, and what its peers have acknowledged.
-ghost use Rattle.std.specs.Prelude.{◌≡◌, ◌↔◌, ◌-◌, ◌<◌, ◌≤◌, [], length, IsTrue, IsErr, IsNone, IfOk, IfSome, OnOk, OnErr};
+ghost use Rattle.std.specs.Prelude.{◌≡◌, ◌↔◌, ◌≤◌, [], length, IsTrue, IsErr, IsNone, IfOk, IfSome, OnOk, OnErr};
 ghost use Rattle.std.specs.Option.{unwrap_or, option_map};
 ghost use Rattle.std.specs.Ordering.{eq_by_cmp};
 ghost use Rattle.std.specs.BTreeMap.{get};
@@ -8,7 +8,7 @@ ghost use Rattle.sup_specs.specs.Values.{Bytes, text_cmp};
 ghost use Rattle.sup_specs.specs.declared.limits.TheConstants.{MAX};
 ghost use Rattle.sup_tables.specs.Joined.{no_state, join_states};
 ghost use Rattle.sup_anti_entropy.specs.Joins.{newest_of};
-ghost use Rattle.sup_anti_entropy.specs.Buffers.{noted, shipped, acked_more, restarted};
+ghost use Rattle.sup_anti_entropy.specs.Buffers.{noted, deltas_for, IsBeyondHeld, shipped, acked_more, restarted};
 ghost use Rattle.sup_anti_entropy.specs.Shipments.{joined_deltas, IsEnough};
 
 use crate::fault::NoteFault;
@@ -77,8 +77,8 @@ impl Buffer {
     pub fn ship(&self, state: &Tables, to: &NodeName) -> Result<Option<Shipment>, AllocError>
         ensures value { IfOk result (λ sent. option_map shipment_of sent ≡ shipped join_states no_state (buffer_of self.now) state.now to.now) }
         ensures up_to_date { IfOk result (λ sent. IsNone sent ↔ ((buffer_of self.now).acked to.now ≡ (buffer_of self.now).count)) }
-        ensures whole { IfOk result (λ sent. IfSome sent (λ s. IsTrue s.whole ↔ (length (buffer_of self.now).held < (buffer_of self.now).count - (buffer_of self.now).acked to.now))) }
-        ensures enough { IfOk result (λ sent. IfSome sent (λ s. IsEnough (newest_of ((buffer_of self.now).count - (buffer_of self.now).acked to.now) (buffer_of self.now).held) state.now s.delta)) }
+        ensures whole { IfOk result (λ sent. IfSome sent (λ s. IsTrue s.whole ↔ IsBeyondHeld (buffer_of self.now) to.now)) }
+        ensures enough { IfOk result (λ sent. IfSome sent (λ s. IsEnough (deltas_for (buffer_of self.now) to.now) state.now s.delta)) }
     {
         let missing = self.count - self.acknowledged(to);
         if missing == 0 {

@@ -1,7 +1,5 @@
 //! Laws of anti-entropy, each the contract of a function that does nothing, over what the values of any lattice mean.
-ghost use Rattle.std.specs.Prelude.{◌≡◌};
-ghost use Rattle.sup_causal.specs.Join.{JoinLaws};
-ghost use Rattle.sup_anti_entropy.specs.Joins.{joins_of};
+ghost use Rattle.sup_anti_entropy.specs.Joins.{HoldsForJoin};
 ghost use Rattle.sup_anti_entropy.specs.Promises.{ShipsAreRight, StepsKeepSound, SettlingSettles};
 
 use sup_causal::Lattice;
@@ -9,15 +7,15 @@ use sup_causal::Lattice;
 /// Where nothing is missing the receiver has all; the deltas that it hasn't acknowledged give it all, and nothing else, and
 /// so does the whole state.
 pub fn ships_are_right<L: Lattice>()
-    ensures { (laws : JoinLaws L.join) (nothing : L.Meaning) (unit : (x : L.Meaning) → L.join nothing x ≡ x) → ShipsAreRight (joins_of L.join laws nothing unit) }
+    ensures { HoldsForJoin L.join ShipsAreRight }
 {}
 
 /// A counted change of one peer, a stop and a restart keep what is true between all peers.
 pub fn steps_keep_sound<L: Lattice>()
-    ensures { (laws : JoinLaws L.join) (nothing : L.Meaning) (unit : (x : L.Meaning) → L.join nothing x ≡ x) → StepsKeepSound (joins_of L.join laws nothing unit) }
+    ensures { HoldsForJoin L.join StepsKeepSound }
 {}
 
 /// After all have gone to the first, and the first to all, each has just what all had.
 pub fn settling_settles<L: Lattice>()
-    ensures { (laws : JoinLaws L.join) (nothing : L.Meaning) (unit : (x : L.Meaning) → L.join nothing x ≡ x) → SettlingSettles (joins_of L.join laws nothing unit) }
+    ensures { HoldsForJoin L.join SettlingSettles }
 {}

@@ -1,5 +1,5 @@
 -- The edits that a plan tells make the rows that are to stand of those that stand.
-use Rattle.std.specs.Prelude.{◌≡◌, List, [], ◌∷◌, ◌++◌, map, refl}
+use Rattle.std.specs.Prelude.{◌≡◌, List, ◌++◌, map, refl}
 use Rattle.std.specs.declared.cmp.Ordering.TheVariants.{Less}
 use Rattle.std.specs.List.{AllByRecursion}
 use Rattle.std.specs.List.Sorted.{IsStrictlySortedBy}
@@ -17,7 +17,6 @@ use Rattle.sup_edits.proofs.EditLaws.{steps_edit}
 use Rattle.sup_edits.proofs.StepParts.{AreBefore, edits-append, old-append, new-append, ordered-append, all_both}
 use Rattle.sup_causal.specs.declared.dot.Dot.{Dot}
 use Rattle.sup_causal.specs.Dots.{Context}
-use Rattle.sup_dot_store.specs.RowLists.{rows_in}
 use Rattle.sup_indexed.specs.Contents.{functions_planned}
 use Rattle.sup_tables.specs.declared.planning.PlannedTables.{PlannedTables}
 use Rattle.sup_tables.specs.declared.row.Row.{Row}

@@ -1,5 +1,5 @@
 -- What becomes of a table's rows by a plan, row by row: each stays, goes or comes.
-use Rattle.std.proofs.Common.{◌≡◌, Bool, true, false, cond, List, [], ◌∷◌, ◌++◌, map, Option, Some, None, Ordering, Less, Equal, Greater, is_lt, is_eq, refl, sym, subst, ap, ap₂, ◌∙◌, append_assoc}
+use Rattle.std.proofs.Common.{◌≡◌, true, false, cond, List, [], ◌∷◌, ◌++◌, map, Option, Some, None, Ordering, Less, Equal, Greater, is_lt, is_eq, refl, sym, subst, ap, ap₂, ◌∙◌, append_assoc}
 use Rattle.std.specs.Cmp.{IsTotalOrder}
 use Rattle.std.specs.Ordering.{ordering_then, ordering_reverse}
 use Rattle.std.specs.List.{AllByRecursion}
@@ -7,7 +7,6 @@ use Rattle.std.specs.List.Sorted.{IsStrictlySortedBy}
 use Rattle.std.specs.Map.{keys_of, lookup}
 use Rattle.std.specs.BTreeMap.{is_at}
 use Rattle.std.proofs.lemmas.Cmp.{tied_itself}
-use Rattle.sup_edits.specs.declared.edit.Edit.{Edit}
 use Rattle.sup_edits.specs.declared.edit.Edit.TheVariants.{Comes, Goes}
 use Rattle.sup_edits.specs.Steps.{Step, stays, comes, goes, item_of, AreOrdered, edits_in, old_items, new_items}
 use Rattle.sup_edits.proofs.StepParts.{AreBefore, edits-append, old-append, new-append, ordered-append, all_both, old-stays, new-stays, edits-stays, items-stays, old-comes, new-comes, edits-comes, items-comes, old-goes, new-goes, edits-goes, items-goes, ordered-stays, ordered-comes, ordered_behind_goes}
@@ -19,7 +18,7 @@ use Rattle.sup_dot_store.specs.RowLists.{rows_in}
 use Rattle.sup_dot_store.proofs.RowListLaws.{all_append, rising_append}
 use Rattle.sup_indexed.specs.Touched.{function_after}
 use Rattle.sup_tables.specs.Stored.{values_under}
-use Rattle.sup_tables.specs.Edits.{rows_at, key_edits, table_edits}
+use Rattle.sup_tables.specs.Edits.{rows_at, table_edits}
 
 all_of_both : {X : Type 0} (P Q R : X → Type 0) → ((x : X) → P x → Q x → R x) → (xs : List X) → AllByRecursion P xs → AllByRecursion Q xs → AllByRecursion R xs
 all_of_both P Q R both [] a b = tt

@@ -1,16 +1,13 @@
 //! The rows that come and go once a plan is carried out, lent.
-ghost use Rattle.std.specs.Prelude.{◌≡◌, ◌++◌, map, IfOk, OnOk};
+ghost use Rattle.std.specs.Prelude.{◌≡◌, ◌++◌, IfOk, OnOk};
 ghost use Rattle.std.specs.Option.{option_copied};
 ghost use Rattle.std.specs.BTreeMap.{IsOrdered};
-ghost use Rattle.sup_edits.specs.declared.edit.Edit.TheVariants.{Comes, Goes};
-ghost use Rattle.sup_edits.specs.Edits.{edited, edit_of};
-ghost use Rattle.sup_indexed.specs.Contents.{functions_of, functions_planned};
-ghost use Rattle.sup_tables.specs.Rows.{row_of, place_cmp, AreInOrder};
+ghost use Rattle.sup_indexed.specs.Contents.{functions_planned};
+ghost use Rattle.sup_tables.specs.Rows.{AreInOrder};
 ghost use Rattle.sup_tables.specs.States.{State, HasDotsOf};
-ghost use Rattle.sup_tables.specs.Stored.{values_under};
-ghost use Rattle.sup_tables.specs.Lent.{row_lent};
+ghost use Rattle.sup_tables.specs.Lent.{edits_lent, rows_edited};
 ghost use Rattle.sup_tables.specs.Planned.{IsPlanFor};
-ghost use Rattle.sup_tables.specs.Edits.{rows_at, table_edits};
+ghost use Rattle.sup_tables.specs.Edits.{edits_at, gone_edits, planned_edits};
 
 use crate::lent::LentRow;
 use crate::planning::PlannedTables;
@@ -31,7 +28,7 @@ impl Tables {
         alloc: Global,
         plan: &'a PlannedTables,
     ) -> Result<Vec<Edit<LentRow<'a>>>, AllocError>
-        ensures rows { IfOk result (λ edits. (new : State) → IsPlanFor plan.now self.now new → new.rows ≡ edited place_cmp (map (edit_of row_lent) edits.items) self.now.rows) }
+        ensures rows { IfOk result (λ edits. (new : State) → IsPlanFor plan.now self.now new → new.rows ≡ rows_edited edits.items self.now.rows) }
         ensures in_order { IfOk result (λ edits. (new : State) → IsPlanFor plan.now self.now new → AreInOrder new.rows) }
         ensures covered { IfOk result (λ edits. (new : State) → IsPlanFor plan.now self.now new → HasDotsOf new.context new.rows) }
     {
@@ -53,11 +50,11 @@ fn lend_edits<'a, K: Plain, V: Entered<K>>(
     plan: &'a PlannedMap<K, V>,
 ) -> Result<(), AllocError>
     ensures ordered { OnOk result (IsOrdered K.cmp (functions_planned plan.now)) }
-    ensures edits { OnOk result (map (edit_of row_lent) edits.new.items ≡ map (edit_of row_lent) edits.old.items ++ table_edits K.cmp (λ k d v. row_of d (V.says k v)) (functions_planned plan.now).entries (functions_of table.now).entries) }
+    ensures edits { OnOk result (edits_lent edits.new.items ≡ edits_lent edits.old.items ++ planned_edits V.says plan.now table.now) }
 {
     for (key, function) in plan.functions() {
         lend_gone(edits, key, table.get(key))?;
-        lend_coming(edits, key, function.values())?;
+        lend_edits_at(edits, key, function.values(), true)?;
     }
     Ok(())
 }
@@ -68,39 +65,31 @@ fn lend_gone<'a, K: Plain, V: Entered<K>>(
     key: &'a K,
     function: Option<&'a DotFun<V>>,
 ) -> Result<(), AllocError>
-    ensures { OnOk result (map (edit_of row_lent) edits.new.items ≡ map (edit_of row_lent) edits.old.items ++ map Goes (rows_at (λ d v. row_of d (V.says key.now v)) (values_under (option_copied function.entry)))) }
+    ensures { OnOk result (edits_lent edits.new.items ≡ edits_lent edits.old.items ++ gone_edits V.says key.now (option_copied function.entry)) }
 {
     match function {
         None => Ok(()),
-        Some(function) => lend_going(edits, key, function.values()),
+        Some(function) => lend_edits_at(edits, key, function.values(), false),
     }
 }
 
-fn lend_going<'a, K, V: Entered<K>>(
+// Lends the rows of a key, as ones that come or as ones that go.
+fn lend_edits_at<'a, K, V: Entered<K>>(
     edits: &mut Vec<Edit<LentRow<'a>>>,
     key: &'a K,
     values: &'a ShortValues<V>,
+    come: bool,
 ) -> Result<(), AllocError>
-    ensures { OnOk result (map (edit_of row_lent) edits.new.items ≡ map (edit_of row_lent) edits.old.items ++ map Goes (rows_at (λ d v. row_of d (V.says key.now v)) values.now.entries)) }
+    ensures { OnOk result (edits_lent edits.new.items ≡ edits_lent edits.old.items ++ edits_at come V.says key.now values.now.entries) }
 {
     for (dot, value) in values {
         let entry = V::lent(key, value);
-        edits.push(Edit::Goes(LentRow { dot, entry }))?;
-    }
-    Ok(())
-}
-
-// Lends rows of a key as ones that come.
-fn lend_coming<'a, K, V: Entered<K>>(
-    edits: &mut Vec<Edit<LentRow<'a>>>,
-    key: &'a K,
-    values: &'a ShortValues<V>,
-) -> Result<(), AllocError>
-    ensures { OnOk result (map (edit_of row_lent) edits.new.items ≡ map (edit_of row_lent) edits.old.items ++ map Comes (rows_at (λ d v. row_of d (V.says key.now v)) values.now.entries)) }
-{
-    for (dot, value) in values {
-        let entry = V::lent(key, value);
-        edits.push(Edit::Comes(LentRow { dot, entry }))?;
+        let row = LentRow { dot, entry };
+        edits.push(if come {
+            Edit::Comes(row)
+        } else {
+            Edit::Goes(row)
+        })?;
     }
     Ok(())
 }

@@ -1,4 +1,4 @@
-use Rattle.std.proofs.Common.{◌≡◌, List, ◌++◌, map, sym, ap, subst, ◌∙◌, append_assoc}
+use Rattle.std.proofs.Common.{◌≡◌, ◌++◌, map, sym, ap, subst, ◌∙◌, append_assoc}
 use Rattle.sup_edits.specs.Edits.{edited, edit_of}
 use Rattle.sup_specs.specs.Values.{text_cmp}
 use Rattle.sup_indexed.specs.Contents.{functions_planned}
