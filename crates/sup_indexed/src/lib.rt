@@ -4,6 +4,7 @@
 mod after;
 mod changing;
 mod comparing;
+mod differing;
 mod exchanging;
 pub mod indexed_map;
 mod joining;

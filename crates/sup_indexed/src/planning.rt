@@ -1,15 +1,10 @@
 //! Joins that are planned beside a map: the functions that it is to get.
 
-ghost use Rattle.std.specs.Prelude.{◌≡◌, true, IsSome, IfSome, IfOk};
+ghost use Rattle.std.specs.Prelude.{◌≡◌, IfSome, IfOk};
 ghost use Rattle.std.specs.BTreeMap.{IsOrdered};
-ghost use Rattle.sup_specs.specs.Rising.{among};
-ghost use Rattle.sup_causal.specs.declared.dot.Dot.{Dot as DotValue};
-ghost use Rattle.sup_causal.specs.Join.{lesser};
 ghost use Rattle.sup_causal.specs.Dots.{has};
-ghost use Rattle.sup_dot_store.specs.Points.{standing, higher, value_at};
-ghost use Rattle.sup_dot_store.specs.Index.{value_under};
-ghost use Rattle.sup_indexed.specs.Changed.{changed_value};
-ghost use Rattle.sup_indexed.specs.Listed.{stands, ListsAll};
+ghost use Rattle.sup_indexed.specs.Joined.{AreKnown, ChangesToJoin};
+ghost use Rattle.sup_indexed.specs.Listed.{stands, ListsAll, HasKeys, HasKnownKeys};
 
 use crate::indexed_map::IndexedMap;
 use crate::joining::joined_under;
@@ -53,9 +48,9 @@ impl<K: Plain, V: Plain> IndexedMap<K, V> {
         other: &Self,
         theirs: &CausalContext,
     ) -> Result<PlannedMap<K, V>, AllocError>
-        requires mine { (k : K) (d : DotValue) → IsSome (value_under K.cmp (functions_of self.now) k d) → has mine.now d ≡ true }
-        requires theirs { (k : K) (d : DotValue) → IsSome (value_under K.cmp (functions_of other.now) k d) → has theirs.now d ≡ true }
-        ensures { IfOk result (λ p. (k : K) (d : DotValue) → changed_value K.cmp (functions_planned p) (functions_of self.now) k d ≡ value_at (higher (lesser V.cmp) (standing (has mine.now d) (value_under K.cmp (functions_of self.now) k d)) (standing (has theirs.now d) (value_under K.cmp (functions_of other.now) k d)))) }
+        requires mine { AreKnown K.cmp (functions_of self.now) mine.now }
+        requires theirs { AreKnown K.cmp (functions_of other.now) theirs.now }
+        ensures { IfOk result (λ p. ChangesToJoin K.cmp V.cmp mine.now (functions_of self.now) theirs.now (functions_of other.now) (functions_planned p)) }
     {
         let changed = planned(
             alloc,
@@ -78,8 +73,8 @@ fn keys_to_join<K: Plain, V: Plain>(
     theirs: &CausalContext,
 ) -> Result<Vec<K>, AllocError>
     requires { IfSome index.now (λ places. ListsAll K.cmp places stores.now) }
-    ensures there { IfOk result (λ keys. (k : K) (d : DotValue) → stands K.cmp other.now k d ≡ true → among K.cmp keys.items k ≡ true) }
-    ensures here { IfOk result (λ keys. (k : K) (d : DotValue) → stands K.cmp stores.now k d ≡ true → has theirs.now d ≡ true → among K.cmp keys.items k ≡ true) }
+    ensures there { IfOk result (λ keys. HasKeys K.cmp (stands K.cmp other.now) keys.items) }
+    ensures here { IfOk result (λ keys. HasKnownKeys K.cmp (stands K.cmp stores.now) (has theirs.now) keys.items) }
 {
     match index {
         Some(places) => touched(alloc, places, other, theirs),
@@ -93,8 +88,8 @@ fn all_keys<K: Plain, V: Plain>(
     stores: &BTreeMap<K, DotFun<V>>,
     other: &BTreeMap<K, DotFun<V>>,
 ) -> Result<Vec<K>, AllocError>
-    ensures there { IfOk result (λ keys. (k : K) (d : DotValue) → stands K.cmp other.now k d ≡ true → among K.cmp keys.items k ≡ true) }
-    ensures here { IfOk result (λ keys. (k : K) (d : DotValue) → stands K.cmp stores.now k d ≡ true → among K.cmp keys.items k ≡ true) }
+    ensures there { IfOk result (λ keys. HasKeys K.cmp (stands K.cmp other.now) keys.items) }
+    ensures here { IfOk result (λ keys. HasKeys K.cmp (stands K.cmp stores.now) keys.items) }
 {
     let mut keys = Vec::new(alloc);
     push_keys(alloc, &mut keys, stores)?;
@@ -111,10 +106,10 @@ fn planned<K: Plain, V: Plain>(
     other: &BTreeMap<K, DotFun<V>>,
     theirs: &CausalContext,
 ) -> Result<BTreeMap<K, DotFun<V>>, AllocError>
-    requires mine { (k : K) (d : DotValue) → IsSome (value_under K.cmp stores.now k d) → has mine.now d ≡ true }
-    requires theirs { (k : K) (d : DotValue) → IsSome (value_under K.cmp other.now k d) → has theirs.now d ≡ true }
+    requires mine { AreKnown K.cmp stores.now mine.now }
+    requires theirs { AreKnown K.cmp other.now theirs.now }
     requires lists { IfSome index.now (λ places. ListsAll K.cmp places stores.now) }
-    ensures { IfOk result (λ changed. (k : K) (d : DotValue) → changed_value K.cmp changed stores.now k d ≡ value_at (higher (lesser V.cmp) (standing (has mine.now d) (value_under K.cmp stores.now k d)) (standing (has theirs.now d) (value_under K.cmp other.now k d)))) }
+    ensures { IfOk result (ChangesToJoin K.cmp V.cmp mine.now stores.now theirs.now other.now) }
 {
     let mut changed = BTreeMap::new(alloc);
     for key in keys_to_join(alloc, index, stores, other, theirs)? {

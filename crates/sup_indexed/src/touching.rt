@@ -118,7 +118,7 @@ fn is_same_value<V: Plain>(old: &DotFun<V>, new: &DotFun<V>) -> bool
 }
 
 // Whether both dots and both values are the same.
-fn is_same<V: Plain>(dot: &Dot, value: &V, other: &Dot, another: &V) -> bool
+pub(crate) fn is_same<V: Plain>(dot: &Dot, value: &V, other: &Dot, another: &V) -> bool
     ensures { IsTrue result ↔ ((other.now ≡ dot.now) × (another.now ≡ value.now)) }
 {
     dot.cmp(other).is_eq() && value.cmp(another).is_eq()

@@ -1,5 +1,5 @@
 //! Joins that are planned beside the tables, and what they touch.
-ghost use Rattle.std.specs.Prelude.{◌≡◌, ◌↔◌, ◌||◌, IsTrue, IfOk, IfSome, OnOk, OnErr};
+ghost use Rattle.std.specs.Prelude.{◌≡◌, ◌↔◌, ◌||◌, ◌<◌, ◌/◌, length, IsTrue, IsNone, IfOk, IfSome, OnOk, OnErr};
 ghost use Rattle.std.specs.Option.{option_map};
 ghost use Rattle.std.specs.BTreeMap.{get};
 ghost use Rattle.std.specs.List.Sorted.{IsStrictlySortedBy};
@@ -15,6 +15,7 @@ ghost use Rattle.sup_tables.specs.Joined.{join_states};
 ghost use Rattle.sup_tables.specs.Stored.{AreCovered, stored_in, child_row};
 ghost use Rattle.sup_tables.specs.Planned.{IsPlanFor, ArePlanned, AreTouched, MembersDiffer};
 
+use crate::joining::SMALL;
 use crate::openness::Openness;
 use crate::tables::{Stores, Table, Tables};
 use std::alloc::{AllocError, Global};
@@ -55,6 +56,35 @@ impl Tables {
             self.context(),
             delta.stores(),
             delta.context(),
+        )?;
+        Ok(planned)
+    }
+
+    /// Plans a join with other tables where it changes little: always where these know at most an eighth as many dots as
+    /// there are rows here ([`is_small_beside`](Tables::is_small_beside)), else where at most an eighth as many keys of a
+    /// table may change, which one pass over both tells. None elsewhere: a merge costs less then. Nothing changes. An `Err`
+    /// is want of memory, or of a count of the rows.
+    pub fn plan_small_join(
+        &self,
+        alloc: Global,
+        delta: &Tables,
+    ) -> Result<Option<PlannedTables>, AllocError>
+        ensures plan { IfOk result (λ o. IfSome o (λ p. IsPlanFor p self.now (join_states self.now delta.now))) }
+        ensures small { IfOk result (λ o. IsNone o → length self.now.rows / 8 < length delta.now.context) }
+    {
+        if delta.is_small_beside(self) {
+            return Ok(Some(self.plan_join(alloc, delta)?));
+        }
+        let Some(_rows) = self.row_count().checked_add(delta.row_count()) else {
+            return Err(AllocError);
+        };
+        let planned = planned_few(
+            alloc,
+            self.stores(),
+            self.context(),
+            delta.stores(),
+            delta.context(),
+            self.row_count() / SMALL,
         )?;
         Ok(planned)
     }
@@ -167,4 +197,38 @@ fn planned(
         names,
         context,
     })
+}
+
+// The same where at most so many keys of each table may change, and None elsewhere.
+fn planned_few(
+    alloc: Global,
+    store: &Stores,
+    mine: &CausalContext,
+    other: &Stores,
+    theirs: &CausalContext,
+    most: usize,
+) -> Result<Option<PlannedTables>, AllocError>
+    requires mine { AreCovered mine.now (stored_in store.now) }
+    requires theirs { AreCovered theirs.now (stored_in other.now) }
+    ensures contexts { IfOk result (λ o. IfSome o (λ p. (d : DotValue) → has p.context d ≡ (has mine.now d || has theirs.now d))) }
+    ensures planned { IfOk result (λ o. IfSome o (λ p. ArePlanned p mine.now (stored_in store.now) theirs.now (stored_in other.now))) }
+{
+    let here = &store.second;
+    let there = &other.second;
+    let Some(members) = store.first.plan_few(alloc, mine, &other.first, theirs, most)? else {
+        return Ok(None);
+    };
+    let Some(children) = here.first.plan_few(alloc, mine, &there.first, theirs, most)? else {
+        return Ok(None);
+    };
+    let Some(names) = here.second.plan_few(alloc, mine, &there.second, theirs, most)? else {
+        return Ok(None);
+    };
+    let context = mine.joined(alloc, theirs)?;
+    Ok(Some(PlannedTables {
+        members,
+        children,
+        names,
+        context,
+    }))
 }
