@@ -62,3 +62,7 @@ AreTouched ids old new = (id : Bytes) → (among text_cmp ids id ≡ true) ↔ �
 -- children may be placed on other members than before
 abbrev pub MembersDiffer : State → State → Type 0
 MembersDiffer old new = ¬ (eligible new.rows ≡ eligible old.rows)
+
+-- the row that is lent, if one is, is the winner of the child in each state that the plan makes of the old one
+abbrev pub IsWinnerPlanned : PlannedTables → State → Bytes → Option Row → Type 0
+IsWinnerPlanned plan old id lent = (new : State) → IsPlanFor plan old new → lent ≡ winner new.rows children id

@@ -1,19 +1,16 @@
 //! Joins that are planned beside the tables, and what they touch.
 ghost use Rattle.std.specs.Prelude.{◌≡◌, ◌↔◌, ◌||◌, ◌<◌, ◌/◌, length, IsTrue, IsNone, IfOk, IfSome, OnOk, OnErr};
 ghost use Rattle.std.specs.Option.{option_map};
-ghost use Rattle.std.specs.BTreeMap.{get};
 ghost use Rattle.std.specs.List.Sorted.{IsStrictlySortedBy};
 ghost use Rattle.sup_specs.specs.Values.{text_cmp};
 ghost use Rattle.sup_causal.specs.declared.dot.Dot.{Dot as DotValue};
 ghost use Rattle.sup_causal.specs.Dots.{has, IsCounted};
 ghost use Rattle.sup_indexed.specs.Contents.{functions_of, functions_planned};
-ghost use Rattle.sup_indexed.specs.Touched.{first_in, function_after};
-ghost use Rattle.sup_tables.specs.Rows.{children};
-ghost use Rattle.sup_tables.specs.Readers.{winner};
+ghost use Rattle.sup_indexed.specs.Touched.{first_after};
 ghost use Rattle.sup_tables.specs.States.{State};
 ghost use Rattle.sup_tables.specs.Joined.{join_states};
 ghost use Rattle.sup_tables.specs.Stored.{AreCovered, stored_in, child_row};
-ghost use Rattle.sup_tables.specs.Planned.{IsPlanFor, ArePlanned, AreTouched, MembersDiffer};
+ghost use Rattle.sup_tables.specs.Planned.{IsPlanFor, IsWinnerPlanned, ArePlanned, AreTouched, MembersDiffer};
 
 use crate::joining::SMALL;
 use crate::openness::Openness;
@@ -145,7 +142,7 @@ impl Tables {
         plan: &'a PlannedTables,
         id: &ChildId,
     ) -> Option<(Dot, &'a ChildSpec)>
-        ensures winner { (new : State) → IsPlanFor plan.now self.now new → option_map (λ r. child_row id.now r.0 r.1.now) result ≡ winner new.rows children id.now }
+        ensures winner { IsWinnerPlanned plan.now self.now id.now (option_map (λ r. child_row id.now r.0 r.1.now) result) }
         ensures counted { (new : State) → IsPlanFor plan.now self.now new → IfSome result (λ r. IsCounted r.0) }
     {
         // For its clauses: tables are in their one form, and the counters of known dots in their limits.
@@ -161,7 +158,7 @@ fn first_after<'a, K: Plain, V: Plain>(
     plan: &'a PlannedMap<K, V>,
     key: &K,
 ) -> Option<(Dot, &'a V)>
-    ensures { option_map (λ r. (r.0, r.1.now)) result ≡ first_in (function_after (get K.cmp (functions_planned plan.now) key.now) (get K.cmp (functions_of table.now) key.now)) }
+    ensures { option_map (λ r. (r.0, r.1.now)) result ≡ first_after K.cmp (functions_planned plan.now) (functions_of table.now) key.now }
 {
     let values = table.get_after(plan, key)?;
     let (dot, value) = values.first()?;
@@ -215,20 +212,29 @@ fn planned_few(
 {
     let here = &store.second;
     let there = &other.second;
-    let Some(members) = store.first.plan_few(alloc, mine, &other.first, theirs, most)? else {
+    let Some(members) = store
+        .first
+        .plan_few(alloc, mine, &other.first, theirs, most)?
+    else {
         return Ok(None);
     };
-    let Some(children) = here.first.plan_few(alloc, mine, &there.first, theirs, most)? else {
+    let Some(children) = here
+        .first
+        .plan_few(alloc, mine, &there.first, theirs, most)?
+    else {
         return Ok(None);
     };
-    let Some(names) = here.second.plan_few(alloc, mine, &there.second, theirs, most)? else {
+    let Some(names) = here
+        .second
+        .plan_few(alloc, mine, &there.second, theirs, most)?
+    else {
         return Ok(None);
     };
-    let context = mine.joined(alloc, theirs)?;
+    let known = mine.joined(alloc, theirs)?;
     Ok(Some(PlannedTables {
         members,
         children,
         names,
-        context,
+        context: known,
     }))
 }
