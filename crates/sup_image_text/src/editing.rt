@@ -1,7 +1,6 @@
 //! A text with other rows.
 ghost use Rattle.std.specs.Prelude.{◌≡◌, ◌≤◌, length, map, drop, IfOk};
 ghost use Rattle.std.specs.List.{AllByRecursion};
-ghost use Rattle.sup_edits.specs.declared.edit.Edit.TheVariants.{Comes, Goes};
 ghost use Rattle.sup_edits.specs.Edits.{edit_of, IsComing};
 ghost use Rattle.sup_tables.specs.Lent.{row_lent};
 ghost use Rattle.sup_wire.specs.Forms.{IsWritten};
@@ -60,45 +59,18 @@ fn with_edit(
     ensures items { IfOk result (λ r. IsMadeWith texts.now.items made.items next (edit_of row_lent edit.now) r.0.items r.1) }
 {
     match edit {
-        Edit::Comes(row) => with_coming(texts, made, next, row, scratch),
-        Edit::Goes(row) => with_going(texts, made, next, row, scratch),
+        Edit::Comes(row) => {
+            let at = place_from(texts, next, row, scratch)?;
+            let before = made.with_run(texts, next, at)?;
+            let more = before.with_item(&RowItem { row: *row })?;
+            Ok((more, at))
+        }
+        Edit::Goes(row) => {
+            let at = place_from(texts, next, row, scratch)?;
+            let more = made.with_run(texts, next, at)?;
+            Ok((more, past(texts, at)))
+        }
     }
-}
-
-fn with_coming(
-    texts: &ArrayText,
-    made: ArrayBuilding,
-    next: usize,
-    row: &LentRow<'_>,
-    scratch: &mut Scratch,
-) -> Result<(ArrayBuilding, usize), AllocError>
-    requires { next ≤ length texts.now.items }
-    ensures within { IfOk result (λ r. r.1 ≤ length texts.now.items) }
-    ensures front { IfOk result (λ r. r.0.front ≡ made.front) }
-    ensures written { IfOk result (λ r. IsWritten (row_lent row.now)) }
-    ensures items { IfOk result (λ r. IsMadeWith texts.now.items made.items next (Comes (row_lent row.now)) r.0.items r.1) }
-{
-    let at = place_from(texts, next, row, scratch)?;
-    let before = made.with_run(texts, next, at)?;
-    let more = before.with_item(&RowItem { row: *row })?;
-    Ok((more, at))
-}
-
-fn with_going(
-    texts: &ArrayText,
-    made: ArrayBuilding,
-    next: usize,
-    row: &LentRow<'_>,
-    scratch: &mut Scratch,
-) -> Result<(ArrayBuilding, usize), AllocError>
-    requires { next ≤ length texts.now.items }
-    ensures within { IfOk result (λ r. r.1 ≤ length texts.now.items) }
-    ensures front { IfOk result (λ r. r.0.front ≡ made.front) }
-    ensures items { IfOk result (λ r. IsMadeWith texts.now.items made.items next (Goes (row_lent row.now)) r.0.items r.1) }
-{
-    let at = place_from(texts, next, row, scratch)?;
-    let more = made.with_run(texts, next, at)?;
-    Ok((more, past(texts, at)))
 }
 
 // The place behind an item, if there is one.
