@@ -28,6 +28,6 @@ pub record IsBare (context : Context) (from to : Bytes) (n : ℕ) (text : Bytes)
   pub compact : text ≡ compact_text (value_of (delta from to n parts))
   pub formed : IsFormed Two (delta from to n parts)
 
--- it holds of the tables with this context and the rows with these texts, where they are whole
-abbrev pub ForTables : List Bytes → Context → (State → Type 0) → Type 0
-ForTables texts context holds = (s : State) → AreRows s.rows texts → s.context ≡ context → IsWhole s → holds s
+-- it holds of the state with this context and the rows with these texts, where it is whole
+abbrev pub ForState : List Bytes → Context → (State → Type 0) → Type 0
+ForState texts context holds = (s : State) → AreRows s.rows texts → s.context ≡ context → IsWhole s → holds s
