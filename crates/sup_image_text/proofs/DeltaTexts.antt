@@ -1,50 +1,35 @@
 -- A delta's text by its parts is the delta's one text.
-use Rattle.std.proofs.Common.{◌≡◌, ◌≢◌, ℕ, zero, suc, lit<, ◌+◌, ◌-◌, ◌<◌, ◌^◌, true, false, ◌||◌, List, [], ◌∷◌, ◌++◌, length, take, drop, map, codes, decimal, IsUtf8, refl, sym, ap, ap₂, subst, ◌∙◌, append_assoc, arith}
+use Rattle.std.proofs.Common.{◌≡◌, ◌≢◌, ℕ, lit<, ◌-◌, ◌<◌, ◌^◌, false, ◌||◌, List, [], ◌∷◌, ◌++◌, length, take, drop, map, codes, decimal, refl, sym, ap, ap₂, subst, ◌∙◌, append_assoc, arith}
 use Rattle.std.specs.List.{AllByRecursion}
 use Rattle.std.specs.Prelude.{slice_range}
-use Rattle.std.specs.Str.{IsAscii}
-use Rattle.std.proofs.lemmas.Str.{IsUtf8-from_ascii}
-use Rattle.std.proofs.lemmas.Bool.Decides.{nat_tests}
 use Rattle.std.proofs.lemmas.List.{length-append}
-use Rattle.std.proofs.lemmas.List.Elements.{recursion_from_All}
 use Rattle.std.proofs.Math.Seq.{take-append_seam, take-length}
 use Rattle.std.proofs.Math.Bool.{or-false}
 use Rattle.json.specs.Print.{quoted, print, print_from}
-use Rattle.json.specs.Token.{Token, key, string, number, end_object}
+use Rattle.json.specs.Token.{key, string, number, end_object}
 use Rattle.json.specs.Written.{Written}
 use Rattle.json.proofs.Printed.Utf8.{IsUtf8-are_ascii}
-use Rattle.serde_json.specs.View.{items_of}
 use Rattle.serde_json.specs.Written.{compact_text}
 use Rattle.sup_specs.specs.Values.{Bytes}
-use Rattle.sup_specs.specs.Texts.{IsText, is_visible_byte}
-use Rattle.sup_specs.specs.declared.texts.Alphabet.TheVariants.{Visible}
-use Rattle.sup_specs.specs.declared.child.Restart.{Restart}
-use Rattle.sup_specs.specs.declared.child.Restart.TheVariants.{Permanent, Transient, Temporary}
-use Rattle.sup_specs.specs.declared.child.Shutdown.{Shutdown}
-use Rattle.sup_specs.specs.declared.child.Shutdown.TheVariants.{Brutal, Millis, Infinity}
-use Rattle.sup_specs.specs.declared.child.Status.{Status}
-use Rattle.sup_specs.specs.declared.child.Status.TheVariants.{Open, Draining}
 use Rattle.sup_specs.proofs.TextLemmas.{utf8_name}
 use Rattle.sup_causal.specs.declared.dot.Dot.{Dot}
 use Rattle.sup_causal.specs.Dots.{Context, has}
 use Rattle.sup_causal.specs.Cut.{IsVector, IsCloud}
-use Rattle.sup_tables.specs.declared.row.Entry.{Entry}
-use Rattle.sup_tables.specs.declared.row.Entry.TheVariants.{Member, Child, Name}
 use Rattle.sup_tables.specs.declared.row.Row.{Row}
-use Rattle.sup_tables.specs.Rows.{row_of}
 use Rattle.sup_tables.specs.States.{State, with_rows}
 use Rattle.sup_array_text.specs.Arrays.{ArrayBegun, ArrayShown, joined, whole}
 use Rattle.sup_wire.specs.declared.message.Message.TheVariants.{Delta}
 use Rattle.sup_wire.specs.declared.version.Version.TheVariants.{Two}
 use Rattle.sup_wire.specs.Drafts.{TableParts, delta, IsCut, IsWhole, IsDraftOf}
 use Rattle.sup_wire.specs.Faults.{IsJson, IsTextOf, IsInRange}
-use Rattle.sup_wire.specs.Forms.{IsName, IsCount, IsDot, IsNote, IsShutdown, IsEntry, IsWritten, IsFormed, AreWritten, dot_value, vector_members, restart_value, shutdown_value, status_value, row_value, value_of, context_value}
+use Rattle.sup_wire.specs.Forms.{IsName, IsCount, IsDot, IsNote, IsFormed, AreWritten, value_of, context_value}
 use Rattle.sup_wire.specs.RowTexts.{row_text, AreRows}
 use Rattle.sup_wire.proofs.Formed.{parts_formed, parts_fit, delta_back as delta_reads}
-use Rattle.sup_wire.proofs.ImageTextLaws.{array_text}
-use Rattle.sup_wire.proofs.Readable.{Fits, RowFits, PartsFit}
-use Rattle.sup_wire.proofs.TextReads.{AreTexts, ItemTexts, MemberTexts, is_json}
+use Rattle.sup_wire.proofs.ImageTextLaws.{array_text, vector_texts, cloud_texts, rows_texts}
+use Rattle.sup_wire.proofs.Readable.{Fits, PartsFit}
+use Rattle.sup_wire.proofs.TextReads.{AreTexts, is_json}
 use Rattle.sup_image_text.specs.Messages.{IsBare, delta_front, delta_back}
+use Rattle.sup_image_text.proofs.NextLaws.{each_written}
 
 parts : (a b c d f g h x1 x2 x3 x4 j x6 x7 : Bytes)
     → 123 ∷ (a ++ 58 ∷ (x1 ++ 44 ∷ (b ++ 58 ∷ (x2 ++ 44 ∷ (c ++ 58 ∷ (x3 ++ 44 ∷ (d ++ 58 ∷ (x4 ++ 44 ∷ (f ++ 58 ∷ ((91 ∷ (j ++ 93 ∷ [])) ++ 44 ∷ (g ++ 58 ∷ (x6 ++ 44 ∷ (h ++ 58 ∷ (x7 ++ 125 ∷ []))))))))))))))
@@ -61,59 +46,6 @@ delta_parts from to n p =
     (compact_text (context_value p)) (quoted from) (quoted (codes "delta")) (decimal n) (drop 1 (joined (map row_text p.rows))) (quoted to) (decimal 2)
 
 -- ---- strings and numbers of a delta
-
-visible_low : (b : ℕ) → is_visible_byte b ≡ true → b < 128
-visible_low b e = grind (arith, nat_tests)
-
-utf8_visible : (least most : ℕ) (text : Bytes) → IsText Visible least most text → IsUtf8 text
-utf8_visible least most text is = IsUtf8-from_ascii text (ascii text (recursion_from_All (λ x. is_visible_byte x ≡ true) text is.each))
-  where
-    ascii : (bs : Bytes) → AllByRecursion (λ x. is_visible_byte x ≡ true) bs → IsAscii bs
-    ascii [] h i = lit< tt
-    ascii (b ∷ bs) h zero = visible_low b h.0
-    ascii (b ∷ bs) h (suc i) = ascii bs h.1 i
-
-vector_texts : (es : List (Bytes × ℕ)) → AllByRecursion (λ e. IsName e.0) es → AllByRecursion (λ e. Fits e.1) es → MemberTexts (vector_members es)
-vector_texts [] names fits = tt
-vector_texts (e ∷ es) names fits = (utf8_name 1 64 e.0 names.0, (fits.0, vector_texts es names.1 fits.1))
-
-cloud_texts : (ds : List Dot) → AllByRecursion (λ d. IsName d.node) ds → AllByRecursion (λ d. Fits d.counter) ds → ItemTexts (items_of (map dot_value ds))
-cloud_texts [] names fits = tt
-cloud_texts (d ∷ ds) names fits = ((utf8_name 1 64 d.node names.0, (fits.0, tt)), cloud_texts ds names.1 fits.1)
-
-restart_texts : (r : Restart) → AreTexts (restart_value r)
-restart_texts Permanent = IsUtf8-are_ascii _ refl
-restart_texts Transient = IsUtf8-are_ascii _ refl
-restart_texts Temporary = IsUtf8-are_ascii _ refl
-
-shutdown_texts : (s : Shutdown) → IsShutdown s → AreTexts (shutdown_value s)
-shutdown_texts Brutal is = IsUtf8-are_ascii _ refl
-shutdown_texts (Millis n) is = omega (arith, is)
-shutdown_texts Infinity is = IsUtf8-are_ascii _ refl
-
-status_texts : (s : Status) → AreTexts (status_value s)
-status_texts Open = IsUtf8-are_ascii _ refl
-status_texts Draining = IsUtf8-are_ascii _ refl
-
-row_texts : (dot : Dot) (entry : Entry) → IsEntry Two entry → IsName dot.node → Fits dot.counter → AreTexts (row_value Two (row_of dot entry))
-row_texts dot (Member m info) is name fits =
-    (IsUtf8-are_ascii _ refl, (utf8_name 1 64 m is.0, ((utf8_name 1 64 dot.node name, (fits, tt)), ((IsUtf8-are_ascii _ refl, (utf8_visible 0 1024 info.label is.1, (IsUtf8-are_ascii _ refl, (status_texts info.status, tt)))), tt))))
-row_texts dot (Child id spec) is name fits = (
-  IsUtf8-are_ascii _ refl,
-  (
-    utf8_visible 1 128 id is.0,
-    (
-      (utf8_name 1 64 dot.node name, (fits, tt)),
-      ((IsUtf8-are_ascii _ refl, (utf8_visible 0 1024 spec.arg is.1.arg, (IsUtf8-are_ascii _ refl, (utf8_visible 1 128 spec.kind is.1.kind, (IsUtf8-are_ascii _ refl, (restart_texts spec.restart, (IsUtf8-are_ascii _ refl, (shutdown_texts spec.shutdown is.1.shutdown, tt)))))))), tt),
-    ),
-  ),
-)
-row_texts dot (Name name id) is node fits =
-    (IsUtf8-are_ascii _ refl, (utf8_visible 1 128 name is.0, ((utf8_name 1 64 dot.node node, (fits, tt)), (utf8_visible 1 128 id is.1, tt))))
-
-rows_texts : (rows : List Row) → AllByRecursion IsWritten rows → AllByRecursion RowFits rows → ItemTexts (items_of (map (row_value Two) rows))
-rows_texts [] written fits = tt
-rows_texts (r ∷ rs) written fits = (row_texts r.dot r.entry written.0.0 written.0.1 fits.0.0, rows_texts rs written.1 fits.1)
 
 delta_texts : (from to : Bytes) (n : ℕ) (p : TableParts) → IsName from → IsName to → Fits n → AreWritten p → PartsFit p → AreTexts (value_of (delta from to n p))
 delta_texts from to n p sender receiver fits written fit = (
@@ -151,10 +83,6 @@ note_names (e ∷ es) all = (all.0.0, note_names es all.1)
 dot_names : (ds : List Dot) → AllByRecursion IsDot ds → AllByRecursion (λ d. IsName d.node) ds
 dot_names [] all = tt
 dot_names (d ∷ ds) all = (all.0.node, dot_names ds all.1)
-
-each_written : (rows : List Row) → AllByRecursion (λ r. IsWritten r × (r.dot.counter < 2 ^ 64)) rows → AllByRecursion IsWritten rows
-each_written [] all = tt
-each_written (r ∷ rs) all = (all.0.0, each_written rs all.1)
 
 count_fits : (n : ℕ) → IsCount n → n < 2 ^ 64
 count_fits n is = let m = is.most in omega (arith, m)

@@ -1,5 +1,5 @@
 -- The text of the next image.
-use Rattle.std.proofs.Common.{◌≡◌, ℕ, ◌<◌, ◌^◌, true, List, [], ◌∷◌, map, refl, sym, ap, subst, ◌∙◌}
+use Rattle.std.proofs.Common.{◌≡◌, ◌<◌, ◌^◌, List, [], ◌∷◌, map, refl, sym, ap, subst, ◌∙◌}
 use Rattle.std.specs.List.{AllByRecursion}
 use Rattle.sup_specs.specs.Values.{Bytes}
 use Rattle.sup_edits.specs.declared.edit.Edit.{Edit}
@@ -41,7 +41,7 @@ text_for i t h front fb fc is_whole headed fronted written shape =
     }
 
 -- what is known of all rows with their texts is known of each
-each_written : (rows : List Row) → AllByRecursion (λ r. IsWritten r × (r.dot.counter < 2 ^ 64)) rows → AllByRecursion IsWritten rows
+pub each_written : (rows : List Row) → AllByRecursion (λ r. IsWritten r × (r.dot.counter < 2 ^ 64)) rows → AllByRecursion IsWritten rows
 each_written [] all = tt
 each_written (r ∷ rs) all = (all.0.0, each_written rs all.1)
 

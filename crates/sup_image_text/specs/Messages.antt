@@ -1,12 +1,14 @@
 -- A delta's text by its parts: what stands before its rows, and what stands behind them (this project).
-use Rattle.std.specs.Prelude.{◌≡◌, ℕ, [], ◌∷◌, ◌++◌, codes, decimal}
+use Rattle.std.specs.Prelude.{◌≡◌, ℕ, List, [], ◌∷◌, ◌++◌, codes, decimal}
 use Rattle.json.specs.Print.{quoted}
 use Rattle.serde_json.specs.Written.{compact_text}
 use Rattle.sup_specs.specs.Values.{Bytes}
 use Rattle.sup_causal.specs.Dots.{Context, has}
 use Rattle.sup_causal.specs.Cut.{IsVector, IsCloud}
-use Rattle.sup_wire.specs.Drafts.{TableParts, delta}
+use Rattle.sup_tables.specs.States.{State}
+use Rattle.sup_wire.specs.Drafts.{TableParts, delta, IsWhole}
 use Rattle.sup_wire.specs.Forms.{IsFormed, context_value, value_of}
+use Rattle.sup_wire.specs.RowTexts.{AreRows}
 use Rattle.sup_wire.specs.ImageTexts.{field_text}
 use Rattle.sup_wire.specs.declared.version.Version.TheVariants.{Two}
 
@@ -25,3 +27,7 @@ pub record IsBare (context : Context) (from to : Bytes) (n : ℕ) (text : Bytes)
   pub no_rows : parts.rows ≡ []
   pub compact : text ≡ compact_text (value_of (delta from to n parts))
   pub formed : IsFormed Two (delta from to n parts)
+
+-- it holds of the state with this context and the rows with these texts, where it is whole
+abbrev pub ForState : List Bytes → Context → (State → Type 0) → Type 0
+ForState texts context holds = (s : State) → AreRows s.rows texts → s.context ≡ context → IsWhole s → holds s

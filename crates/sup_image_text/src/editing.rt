@@ -1,16 +1,13 @@
 //! A text with other rows.
-ghost use Rattle.std.specs.Prelude.{◌≡◌, ◌≤◌, List, ◌∷◌, ◌++◌, length, map, drop, IfOk};
+ghost use Rattle.std.specs.Prelude.{◌≡◌, ◌≤◌, length, map, drop, IfOk};
 ghost use Rattle.std.specs.List.{AllByRecursion};
-ghost use Rattle.sup_edits.specs.declared.edit.Edit.{Edit as EditValue};
-ghost use Rattle.sup_edits.specs.declared.edit.Edit.TheVariants.{Comes, Goes};
-ghost use Rattle.sup_edits.specs.Edits.{edited, edit_of, IsComing};
-ghost use Rattle.sup_tables.specs.declared.row.Row.{Row};
-ghost use Rattle.sup_tables.specs.Rows.{place_cmp};
+ghost use Rattle.sup_edits.specs.Edits.{edit_of, IsComing};
 ghost use Rattle.sup_tables.specs.Lent.{row_lent};
-ghost use Rattle.sup_array_text.specs.Arrays.{shown, whole};
 ghost use Rattle.sup_wire.specs.Forms.{IsWritten};
-ghost use Rattle.sup_wire.specs.RowTexts.{AreRows, row_text};
-ghost use Rattle.sup_wire.specs.ImageTexts.{image_back};
+ghost use Rattle.sup_wire.specs.RowTexts.{texts_of};
+ghost use Rattle.sup_wire.specs.ImageTexts.{closed_shown};
+ghost use Rattle.sup_image_text.specs.Places.{ForRows};
+ghost use Rattle.sup_image_text.specs.Next.{edited_rows, IsMadeWith};
 
 use crate::searching::place_from;
 use json::Scratch;
@@ -28,7 +25,7 @@ pub(crate) fn edited(
     front: Vec<u8>,
 ) -> Result<ArrayText, AllocError>
     ensures written { IfOk result (λ t. AllByRecursion (IsComing IsWritten) (map (edit_of row_lent) edits.now)) }
-    ensures text { IfOk result (λ t. (rows : List Row) → AreRows rows texts.now.items → t ≡ shown (whole front.items (map row_text (edited place_cmp (map (edit_of row_lent) edits.now) rows)) image_back) (map row_text (edited place_cmp (map (edit_of row_lent) edits.now) rows))) }
+    ensures text { IfOk result (λ t. ForRows texts.now.items (λ rows. t ≡ closed_shown front.items (texts_of (edited_rows edits.now rows)))) }
 {
     let mut scratch = Scratch::new(alloc);
     let mut next = 0;
@@ -59,55 +56,28 @@ fn with_edit(
     ensures within { IfOk result (λ r. r.1 ≤ length texts.now.items) }
     ensures front { IfOk result (λ r. r.0.front ≡ made.front) }
     ensures written { IfOk result (λ r. IsComing IsWritten (edit_of row_lent edit.now)) }
-    ensures items { IfOk result (λ r. (rows : List Row) (es : List (EditValue Row)) → AreRows rows texts.now.items → r.0.items ++ map row_text (edited place_cmp es (drop r.1 rows)) ≡ made.items ++ map row_text (edited place_cmp (edit_of row_lent edit.now ∷ es) (drop next rows))) }
+    ensures items { IfOk result (λ r. IsMadeWith texts.now.items made.items next (edit_of row_lent edit.now) r.0.items r.1) }
 {
     match edit {
-        Edit::Comes(row) => with_coming(texts, made, next, row, scratch),
-        Edit::Goes(row) => with_going(texts, made, next, row, scratch),
+        Edit::Comes(row) => {
+            let at = place_from(texts, next, row, scratch)?;
+            let before = made.with_run(texts, next, at)?;
+            let more = before.with_item(&RowItem { row: *row })?;
+            Ok((more, at))
+        }
+        Edit::Goes(row) => {
+            let at = place_from(texts, next, row, scratch)?;
+            let more = made.with_run(texts, next, at)?;
+            Ok((more, past(texts, at)))
+        }
     }
-}
-
-fn with_coming(
-    texts: &ArrayText,
-    made: ArrayBuilding,
-    next: usize,
-    row: &LentRow<'_>,
-    scratch: &mut Scratch,
-) -> Result<(ArrayBuilding, usize), AllocError>
-    requires { next ≤ length texts.now.items }
-    ensures within { IfOk result (λ r. r.1 ≤ length texts.now.items) }
-    ensures front { IfOk result (λ r. r.0.front ≡ made.front) }
-    ensures written { IfOk result (λ r. IsWritten (row_lent row.now)) }
-    ensures items { IfOk result (λ r. (rows : List Row) (es : List (EditValue Row)) → AreRows rows texts.now.items → r.0.items ++ map row_text (edited place_cmp es (drop r.1 rows)) ≡ made.items ++ map row_text (edited place_cmp (Comes (row_lent row.now) ∷ es) (drop next rows))) }
-{
-    let at = place_from(texts, next, row, scratch)?;
-    let before = made.with_run(texts, next, at)?;
-    let more = before.with_item(&RowItem { row: *row })?;
-    Ok((more, at))
-}
-
-fn with_going(
-    texts: &ArrayText,
-    made: ArrayBuilding,
-    next: usize,
-    row: &LentRow<'_>,
-    scratch: &mut Scratch,
-) -> Result<(ArrayBuilding, usize), AllocError>
-    requires { next ≤ length texts.now.items }
-    ensures within { IfOk result (λ r. r.1 ≤ length texts.now.items) }
-    ensures front { IfOk result (λ r. r.0.front ≡ made.front) }
-    ensures items { IfOk result (λ r. (rows : List Row) (es : List (EditValue Row)) → AreRows rows texts.now.items → r.0.items ++ map row_text (edited place_cmp es (drop r.1 rows)) ≡ made.items ++ map row_text (edited place_cmp (Goes (row_lent row.now) ∷ es) (drop next rows))) }
-{
-    let at = place_from(texts, next, row, scratch)?;
-    let more = made.with_run(texts, next, at)?;
-    Ok((more, past(texts, at)))
 }
 
 // The place behind an item, if there is one.
 fn past(texts: &ArrayText, at: usize) -> usize
     requires { at ≤ length texts.now.items }
     ensures within { result ≤ length texts.now.items }
-    ensures past { (rows : List Row) → AreRows rows texts.now.items → drop result rows ≡ drop 1 (drop at rows) }
+    ensures past { ForRows texts.now.items (λ rows. drop result rows ≡ drop 1 (drop at rows)) }
 {
     if at < texts.count() { at + 1 } else { at }
 }

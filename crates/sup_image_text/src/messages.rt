@@ -1,12 +1,10 @@
 //! The text of a message with all rows, put together from the texts of an image's rows.
 ghost use Rattle.std.specs.Prelude.{◌≡◌, ◌≢◌, ◌-◌, length, take, IfOk};
-ghost use Rattle.sup_tables.specs.States.{State};
 ghost use Rattle.sup_wire.specs.declared.message.Message.TheVariants.{Delta};
-ghost use Rattle.sup_wire.specs.Drafts.{IsDraftOf, IsWhole};
+ghost use Rattle.sup_wire.specs.Drafts.{IsDraftOf};
 ghost use Rattle.sup_wire.specs.Faults.{TextSays, IsTextOf, IsInRange};
 ghost use Rattle.sup_wire.specs.Forms.{IsCount};
-ghost use Rattle.sup_wire.specs.RowTexts.{AreRows};
-ghost use Rattle.sup_image_text.specs.Messages.{IsBare, delta_back};
+ghost use Rattle.sup_image_text.specs.Messages.{IsBare, ForState, delta_back};
 
 use json::Writer;
 use std::alloc::{AllocError, Global};
@@ -32,8 +30,8 @@ pub fn delta_text(
 ) -> Result<Vec<u8>, AllocError>
     requires differ { from.now ≢ to.now }
     requires number { IsCount n }
-    ensures text { IfOk result (λ text. (s : State) → AreRows s.rows texts.now.items → s.context ≡ context.now → IsWhole s → IsTextOf IsDraftOf IsInRange text.items (Delta from.now to.now n s)) }
-    ensures says { IfOk result (λ text. (s : State) → AreRows s.rows texts.now.items → s.context ≡ context.now → IsWhole s → TextSays IsDraftOf text.items (Delta from.now to.now n s)) }
+    ensures text { IfOk result (λ t. ForState texts.now.items context.now (λ s. IsTextOf IsDraftOf IsInRange t.items (Delta from.now to.now n s))) }
+    ensures says { IfOk result (λ t. ForState texts.now.items context.now (λ s. TextSays IsDraftOf t.items (Delta from.now to.now n s))) }
 {
     let bare = bare_text(alloc, from, to, n, context)?;
     let back = back_of(alloc, to)?;

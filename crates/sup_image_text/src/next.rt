@@ -1,12 +1,11 @@
 //! The text of the next image.
-ghost use Rattle.std.specs.Prelude.{◌≡◌, ◌↔◌, ◌<◌, ◌/◌, List, IsTrue, IfOk};
+ghost use Rattle.std.specs.Prelude.{◌↔◌, ◌<◌, ◌/◌, List, IsTrue, IfOk};
 ghost use Rattle.sup_tables.specs.declared.row.Row.{Row};
 ghost use Rattle.sup_tables.specs.Lent.{rows_lent};
-ghost use Rattle.sup_wire.specs.declared.image.Image.{Image as ImageValue};
-ghost use Rattle.sup_wire.specs.Drafts.{IsWholeImage};
+ghost use Rattle.sup_wire.specs.declared.image.Image.{Image};
 ghost use Rattle.sup_wire.specs.RowTexts.{AreRows};
-ghost use Rattle.sup_wire.specs.ImageTexts.{IsHeaded, IsTextFor};
-ghost use Rattle.sup_image_text.specs.Next.{IsEdited, IsNext};
+ghost use Rattle.sup_wire.specs.ImageTexts.{IsTextFor, IsTextWith};
+ghost use Rattle.sup_image_text.specs.Next.{IsNext, IsEditedText};
 
 use crate::editing::edited;
 use crate::next_image::{NextImage, RowChange};
@@ -28,7 +27,7 @@ pub fn text_after(
     texts: &ArrayText,
     next: &NextImage<'_>,
 ) -> Result<ArrayText, AllocError>
-    ensures { IfOk result (λ t. (old : List Row) (new : ImageValue) → AreRows old texts.now.items → IsNext old new next.now → IsTextFor new t) }
+    ensures { IfOk result (λ t. (old : List Row) (new : Image) → AreRows old texts.now.items → IsNext old new next.now → IsTextFor new t) }
 {
     match &next.rows {
         RowChange::Edits(edits) => {
@@ -49,7 +48,7 @@ fn edited_text(
     edits: &[Edit<LentRow<'_>>],
     heading: &Heading<'_>,
 ) -> Result<ArrayText, AllocError>
-    ensures { IfOk result (λ t. (old : List Row) (new : ImageValue) → AreRows old texts.now.items → IsEdited old new.state.rows edits.now → IsHeaded new heading.now → IsWholeImage new → IsTextFor new t) }
+    ensures { IfOk result (λ t. IsEditedText texts.now.items edits.now heading.now t) }
 {
     let front = image_front(alloc, heading)?;
     let text = edited(alloc, texts, edits, front)?;
@@ -62,7 +61,7 @@ fn all_text(
     rows: &[LentRow<'_>],
     heading: &Heading<'_>,
 ) -> Result<ArrayText, AllocError>
-    ensures { IfOk result (λ t. (new : ImageValue) → IsHeaded new heading.now → rows_lent rows.now ≡ new.state.rows → IsWholeImage new → IsTextFor new t) }
+    ensures { IfOk result (λ t. IsTextWith heading.now (rows_lent rows.now) t) }
 {
     let front = image_front(alloc, heading)?;
     let text = written(alloc, rows, front)?;

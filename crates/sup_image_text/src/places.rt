@@ -2,13 +2,9 @@
 ghost use Rattle.std.specs.Prelude.{◌≡◌, ◌<◌, ◌^◌, ◌∷◌, List, ℕ, IfOk, decimal};
 ghost use Rattle.json.specs.Token.{Token as Lexed, string, number};
 ghost use Rattle.sup_specs.specs.Values.{Bytes};
-ghost use Rattle.sup_tables.specs.declared.row.Row.{Row};
-ghost use Rattle.sup_tables.specs.Rows.{Table, table_place, table_of, key_of, place_cmp};
+ghost use Rattle.sup_tables.specs.Rows.{Table, table_place, table_of, key_of};
 ghost use Rattle.sup_tables.specs.Lent.{row_lent, entry_lent};
-ghost use Rattle.sup_wire.specs.Forms.{IsWritten};
-ghost use Rattle.std.specs.Ordering.{is_lt};
-ghost use Rattle.sup_wire.specs.RowTexts.{row_text};
-ghost use Rattle.sup_image_text.specs.Places.{table_name};
+ghost use Rattle.sup_image_text.specs.Places.{table_name, IsOrderOf};
 
 use json::{Reader, Scratch, Token};
 use std::alloc::AllocError;
@@ -75,7 +71,7 @@ pub(crate) fn is_before(
     other: &LentRow<'_>,
     scratch: &mut Scratch,
 ) -> Result<bool, AllocError>
-    ensures { IfOk result (λ b. (r : Row) → text.now ≡ row_text r → IsWritten r → r.dot.counter < 2 ^ 64 → b ≡ is_lt (place_cmp r (row_lent other.now))) }
+    ensures { IfOk result (λ b. IsOrderOf text.now (row_lent other.now) b) }
 {
     let text = match str::from_utf8(text) {
         Ok(text) => text,

@@ -1,10 +1,6 @@
 //! The place of a row among kept texts.
-ghost use Rattle.std.specs.Prelude.{◌≡◌, ◌≤◌, List, length, map, drop, slice_range, IfOk};
-ghost use Rattle.sup_tables.specs.declared.row.Row.{Row};
-ghost use Rattle.sup_tables.specs.Lent.{row_lent};
-ghost use Rattle.sup_tables.specs.Rows.{place_cmp};
-ghost use Rattle.sup_edits.specs.Edits.{before, after};
-ghost use Rattle.sup_wire.specs.RowTexts.{AreRows};
+ghost use Rattle.std.specs.Prelude.{◌≡◌, ◌≤◌, length, drop, slice_range, IfOk};
+ghost use Rattle.sup_image_text.specs.Places.{ForRows, rows_before, rows_after};
 
 use crate::places::is_before;
 use json::Scratch;
@@ -22,8 +18,8 @@ pub(crate) fn place_from(
     requires { from ≤ length texts.now.items }
     ensures low { IfOk result (λ at. from ≤ at) }
     ensures high { IfOk result (λ at. at ≤ length texts.now.items) }
-    ensures before { IfOk result (λ at. (rows : List Row) → AreRows rows texts.now.items → slice_range rows from at ≡ before place_cmp (row_lent row.now) (drop from rows)) }
-    ensures after { IfOk result (λ at. (rows : List Row) → AreRows rows texts.now.items → drop at rows ≡ after place_cmp (row_lent row.now) (drop from rows)) }
+    ensures before { IfOk result (λ at. ForRows texts.now.items (λ rows. slice_range rows from at ≡ rows_before row.now (drop from rows))) }
+    ensures after { IfOk result (λ at. ForRows texts.now.items (λ rows. drop at rows ≡ rows_after row.now (drop from rows))) }
 {
     let mut low = from;
     let mut high = texts.count();

@@ -1,11 +1,10 @@
 //! A text of rows that are all written anew.
-ghost use Rattle.std.specs.Prelude.{◌≡◌, ◌++◌, map, IfOk};
+ghost use Rattle.std.specs.Prelude.{◌≡◌, ◌++◌, IfOk};
 ghost use Rattle.std.specs.List.{AllByRecursion};
-ghost use Rattle.sup_array_text.specs.Arrays.{shown, whole};
-ghost use Rattle.sup_tables.specs.Lent.{row_lent, rows_lent};
+ghost use Rattle.sup_tables.specs.Lent.{rows_lent};
 ghost use Rattle.sup_wire.specs.Forms.{IsWritten};
-ghost use Rattle.sup_wire.specs.ImageTexts.{image_back};
-ghost use Rattle.sup_wire.specs.RowTexts.{row_text};
+ghost use Rattle.sup_wire.specs.ImageTexts.{closed_shown};
+ghost use Rattle.sup_wire.specs.RowTexts.{texts_of};
 
 use std::alloc::{AllocError, Global};
 use sup_array_text::{ArrayBuilding, ArrayText, Item};
@@ -47,7 +46,7 @@ pub(crate) fn written(
     front: Vec<u8>,
 ) -> Result<ArrayText, AllocError>
     ensures written { IfOk result (λ t. AllByRecursion IsWritten (rows_lent rows.now)) }
-    ensures text { IfOk result (λ t. t ≡ shown (whole front.items (map row_text (rows_lent rows.now)) image_back) (map row_text (rows_lent rows.now))) }
+    ensures text { IfOk result (λ t. t ≡ closed_shown front.items (texts_of (rows_lent rows.now))) }
 {
     let begun = ArrayBuilding::new(front, rows.len(), rows.len().saturating_mul(ROW))?;
     let made = with_rows(alloc, begun, rows)?;
@@ -62,7 +61,7 @@ fn with_rows(
     rows: &[LentRow<'_>],
 ) -> Result<ArrayBuilding, AllocError>
     ensures front { IfOk result (λ all. all.front ≡ made.front) }
-    ensures items { IfOk result (λ all. all.items ≡ made.items ++ map row_text (rows_lent rows.now)) }
+    ensures items { IfOk result (λ all. all.items ≡ made.items ++ texts_of (rows_lent rows.now)) }
     ensures written { IfOk result (λ all. AllByRecursion IsWritten (rows_lent rows.now)) }
 {
     let mut all = made;

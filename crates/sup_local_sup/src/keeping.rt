@@ -42,6 +42,18 @@ pub(crate) fn is_kept(kept: &IndexMap<ChildId, KeptEntry>, w: &Wanted) -> bool
     }
 }
 
+// The number of the next run of a boot that gave so many out.
+pub(crate) fn next_number(given: u64) -> Result<u64, SupFault>
+    ensures next { IfOk result (λ k. k ≡ given + 1) }
+    ensures within { OnOk result (given < MOST) }
+    ensures spent { (result ≡ Err CountSpent) → MOST ≤ given }
+{
+    if given >= MAX {
+        return Err(SupFault::CountSpent);
+    }
+    Ok(given + 1)
+}
+
 // What is newly kept, each with the next incarnation.
 pub(crate) fn fresh(
     alloc: Global,
@@ -59,10 +71,7 @@ pub(crate) fn fresh(
     let mut k = given;
     for w in wanted {
         if !is_kept(kept, w) {
-            if k >= MAX {
-                return Err(SupFault::CountSpent);
-            }
-            k += 1;
+            k = next_number(k)?;
             push_newly(alloc, &mut fresh, boot, k, w)?;
         }
     }

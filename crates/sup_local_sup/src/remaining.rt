@@ -6,7 +6,7 @@ ghost use Rattle.std.specs.List.{IsDistinct};
 ghost use Rattle.std.specs.Option.{option_copied};
 ghost use Rattle.sup_local_sup.specs.Keeping.{stop};
 ghost use Rattle.sup_local_sup.specs.Supervising.{others};
-ghost use Rattle.sup_local_sup.specs.Changing.{under, left_of, now_of, TextsRise};
+ghost use Rattle.sup_local_sup.specs.Changing.{under, remaining_kept, TextsRise};
 
 use crate::effect::Effect;
 use crate::keeping::stop;
@@ -26,7 +26,7 @@ pub(crate) struct Remaining<'a> {
 impl<'a> Remaining<'a> {
     // What is kept under an id.
     pub(crate) fn get(&self, id: &ChildId) -> Option<&'a Entry>
-        ensures { option_copied result ≡ lookup (bytes_eq id.now) (left_of self.now.list.now (now_of self.now.ended)) }
+        ensures { option_copied result ≡ lookup (bytes_eq id.now) (remaining_kept self.now.list.now self.now.ended) }
     {
         match self.ended {
             Some(ended) => self.list.get_other(ended, id),
@@ -36,7 +36,7 @@ impl<'a> Remaining<'a> {
 
     // An id is kept once.
     pub(crate) fn once(&self)
-        ensures { IsDistinct bytes_eq (keys_of (left_of self.now.list.now (now_of self.now.ended))) }
+        ensures { IsDistinct bytes_eq (keys_of (remaining_kept self.now.list.now self.now.ended)) }
     {
         self.list.once();
     }
@@ -49,7 +49,7 @@ impl<'a> Remaining<'a> {
         ids: &[ChildId],
     ) -> Result<(), AllocError>
         requires { TextsRise ids.now }
-        ensures { OnOk result (stops.new.items ≡ stops.old.items ++ map stop (under (left_of self.now.list.now (now_of self.now.ended)) ids.now)) }
+        ensures { OnOk result (stops.new.items ≡ stops.old.items ++ map stop (under (remaining_kept self.now.list.now self.now.ended) ids.now)) }
     {
         match self.ended {
             Some(ended) => push_other_stops(alloc, stops, self.list, ended, ids),

@@ -74,11 +74,11 @@ utf8_visible least most text is = IsUtf8-from_ascii text (ascii text (recursion_
     ascii (b ∷ bs) h zero = visible_low b h.0
     ascii (b ∷ bs) h (suc i) = ascii bs h.1 i
 
-vector_texts : (es : List (Bytes × ℕ)) → AllByRecursion (λ e. IsName e.0) es → AllByRecursion (λ e. Fits e.1) es → MemberTexts (vector_members es)
+pub vector_texts : (es : List (Bytes × ℕ)) → AllByRecursion (λ e. IsName e.0) es → AllByRecursion (λ e. Fits e.1) es → MemberTexts (vector_members es)
 vector_texts [] names fits = tt
 vector_texts (e ∷ es) names fits = (utf8_name 1 64 e.0 names.0, (fits.0, vector_texts es names.1 fits.1))
 
-cloud_texts : (ds : List Dot) → AllByRecursion (λ d. IsName d.node) ds → AllByRecursion (λ d. Fits d.counter) ds → ItemTexts (items_of (map dot_value ds))
+pub cloud_texts : (ds : List Dot) → AllByRecursion (λ d. IsName d.node) ds → AllByRecursion (λ d. Fits d.counter) ds → ItemTexts (items_of (map dot_value ds))
 cloud_texts [] names fits = tt
 cloud_texts (d ∷ ds) names fits = ((utf8_name 1 64 d.node names.0, (fits.0, tt)), cloud_texts ds names.1 fits.1)
 
@@ -115,7 +115,7 @@ row_texts dot (Name name id) is node fits =
 pub row_utf8 : (r : Row) → IsWritten r → r.dot.counter < 2 ^ 64 → IsUtf8 (row_text r)
 row_utf8 r written fits = utf8 (row_value Two r) (row_texts r.dot r.entry written.0 written.1 fits)
 
-rows_texts : (rows : List Row) → AllByRecursion IsWritten rows → AllByRecursion RowFits rows → ItemTexts (items_of (map (row_value Two) rows))
+pub rows_texts : (rows : List Row) → AllByRecursion IsWritten rows → AllByRecursion RowFits rows → ItemTexts (items_of (map (row_value Two) rows))
 rows_texts [] written fits = tt
 rows_texts (r ∷ rs) written fits = (row_texts r.dot r.entry written.0.0 written.0.1 fits.0.0, rows_texts rs written.1 fits.1)
 

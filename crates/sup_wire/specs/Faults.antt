@@ -30,6 +30,10 @@ pub record TextSays {M : Type 0} (IsDraft : M → Draft → Type 0) (text : Byte
   pub formed : IsFormed version draft
   pub json : IsJson text (value_in version draft)
 
+-- a text says one at most of those that are whole
+abbrev pub IsOneSaid : {M : Type 0} → (M → Draft → Type 0) → (M → Type 0) → Type 0
+IsOneSaid {M} IsDraft IsWhole = (text : Bytes) (m n : M) → IsWhole m → IsWhole n → TextSays IsDraft text m → TextSays IsDraft text n → n ≡ m
+
 -- the text is the compact one of the value of x in the version that is written, and is read as that value; where x is in its range, each field
 -- is what it may be
 pub record IsTextOf {M : Type 0} (IsDraft : M → Draft → Type 0) (InRange : M → Type 0) (text : Bytes) (x : M) : Type 0 where

@@ -7,13 +7,14 @@ use Rattle.sup_specs.specs.Values.{Bytes}
 use Rattle.sup_causal.specs.declared.dot.Dot.{Dot}
 use Rattle.sup_causal.specs.Dots.{Context, has}
 use Rattle.sup_causal.specs.Cut.{IsVector, IsCloud}
-use Rattle.sup_array_text.specs.Arrays.{ArrayShown}
+use Rattle.sup_tables.specs.declared.row.Row.{Row}
+use Rattle.sup_array_text.specs.Arrays.{ArrayShown, shown, whole}
 use Rattle.sup_wire.specs.declared.image.Image.{Image}
 use Rattle.sup_wire.specs.declared.heading.Heading.{Heading}
-use Rattle.sup_wire.specs.Drafts.{TableParts, IsDraftOfImage}
+use Rattle.sup_wire.specs.Drafts.{TableParts, IsDraftOfImage, IsWholeImage}
 use Rattle.sup_wire.specs.Faults.{IsTextOf, IsImageInRange}
 use Rattle.sup_wire.specs.Forms.{IsName, context_value}
-use Rattle.sup_wire.specs.RowTexts.{AreRows}
+use Rattle.sup_wire.specs.RowTexts.{texts_of, AreRows}
 
 -- a key, its value's text and a comma
 abbrev pub field_text : Bytes → Bytes → Bytes
@@ -26,6 +27,14 @@ image_front node boot count p =
 
 abbrev pub image_back : Bytes
 image_back = 44 ∷ (quoted (codes "v") ++ 58 ∷ (decimal 2 ++ 125 ∷ []))
+
+-- the text with these rows' texts, and what stands behind them
+abbrev pub closed_shown : Bytes → List Bytes → ArrayShown
+closed_shown front items = shown (whole front items image_back) items
+
+-- the text of an image, behind a front
+abbrev pub image_shown : Bytes → Bytes → ℕ → ℕ → TableParts → ArrayShown
+image_shown front node boot count p = shown (front ++ whole (image_front node boot count p) (texts_of p.rows) image_back) (texts_of p.rows)
 
 -- the text stands before the rows of an image with this heading
 pub record IsFront (h : Heading) (text : Bytes) : Type 0 where
@@ -48,3 +57,7 @@ pub record IsHeaded (i : Image) (h : Heading) : Type 0 where
 pub record IsTextFor (i : Image) (t : ArrayShown) : Type 0 where
   pub text : IsTextOf IsDraftOfImage IsImageInRange t.text i
   pub rows : AreRows i.state.rows t.items
+
+-- the same of the image with this heading and these rows, where it is whole
+abbrev pub IsTextWith : Heading → List Row → ArrayShown → Type 0
+IsTextWith h rows t = (i : Image) → IsHeaded i h → rows ≡ i.state.rows → IsWholeImage i → IsTextFor i t

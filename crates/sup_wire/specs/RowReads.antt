@@ -15,6 +15,8 @@ use Rattle.sup_tables.specs.declared.row.Entry.TheVariants.{Member, Child, Name}
 use Rattle.sup_tables.specs.declared.row.Row.{Row}
 use Rattle.serde_json.specs.Data.{Data, Items, no_items, item}
 use Rattle.serde_json.specs.Find.{get, as_str, as_array}
+use Rattle.serde_json.specs.View.{view}
+use Rattle.sup_wire.specs.declared.reading.dots.Four.{Four}
 use Rattle.sup_wire.specs.declared.version.Version.{Version}
 use Rattle.sup_wire.specs.declared.version.Version.TheVariants.{One, Two}
 use Rattle.sup_wire.specs.FieldReads.{◌>>=◌, has_just, name_at, text_at, within_at, count_at, text_in}
@@ -34,6 +36,10 @@ pub record FourItems : Type 0 where
   pub key : Data
   pub dot : Data
   pub value : Data
+
+-- what stands behind the references
+abbrev pub four_lent : Four → FourItems
+four_lent p = record { table = view p.table.now; key = view p.key.now; dot = view p.dot.now; value = view p.value.now }
 
 abbrev pub four_in : Items → Option FourItems
 four_in no_items = None

@@ -13,9 +13,12 @@ use Rattle.sup_wire.specs.declared.version.Version.TheVariants.{Two}
 abbrev pub row_text : Row → Bytes
 row_text r = compact_text (row_value Two r)
 
+abbrev pub texts_of : List Row → List Bytes
+texts_of rows = map row_text rows
+
 -- rows in order, and their texts
 pub record AreRows (rows : List Row) (texts : List Bytes) : Type 0 where
-  pub same : texts ≡ map row_text rows
+  pub same : texts ≡ texts_of rows
   pub in_order : AreInOrder rows
   pub written : AllByRecursion (λ r. IsWritten r × (r.dot.counter < 2 ^ 64)) rows
 

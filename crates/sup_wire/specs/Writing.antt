@@ -1,11 +1,11 @@
 -- What is appended to a text (this project). For private clauses.
-use Rattle.std.specs.Prelude.{◌≡◌, ◌≤◌, Some, List, ◌∷◌, map, ◌++◌}
+use Rattle.std.specs.Prelude.{◌≡◌, ◌≤◌, Some, List, [], ◌∷◌, map, ◌++◌, codes}
 use Rattle.sup_specs.specs.Values.{Bytes}
-use Rattle.json.specs.Token.{Token}
+use Rattle.json.specs.Token.{Token, end_object}
 use Rattle.json.specs.Tree.{json_tokens}
 use Rattle.json.specs.Written.{Written}
 use Rattle.json.specs.Tree as tree
-use Rattle.serde_json.specs.Data.{Data, array, depth}
+use Rattle.serde_json.specs.Data.{Data, string, array, depth}
 use Rattle.serde_json.specs.View.{items_of}
 use Rattle.serde_json.specs.Written.{outline, blank}
 use Rattle.serde_json.specs.Read.{of_json, max_depth}
@@ -13,7 +13,7 @@ use Rattle.sup_tables.specs.Lent.{rows_lent}
 use Rattle.sup_wire.specs.declared.writing.lending.LentParts.{LentParts}
 use Rattle.sup_wire.specs.declared.version.Version.TheVariants.{Two}
 use Rattle.sup_wire.specs.Drafts.{TableParts, Draft}
-use Rattle.sup_wire.specs.Forms.{value_of, IsFormed}
+use Rattle.sup_wire.specs.Forms.{four, version_value, value_of, IsFormed}
 
 -- an array, an item for each element
 abbrev pub array_of : {X : Type 0} → (X → Data) → List X → Data
@@ -26,6 +26,17 @@ tokens_of d = json_tokens (outline d)
 -- a key, and the tokens of its value
 abbrev pub field_tokens : Bytes → Data → List Token
 field_tokens name d = Token.key name ∷ tokens_of d
+
+-- the tokens of a row
+abbrev pub four_tokens : Bytes → Bytes → Data → Data → List Token
+four_tokens table key dot value = tokens_of (four table key dot value)
+
+-- the fields of the sender and of the kind, and the last fields
+abbrev pub sender_tokens : Bytes → Bytes → List Token
+sender_tokens from kind = field_tokens (codes "from") (string from) ++ field_tokens (codes "kind") (string kind)
+
+abbrev pub last_tokens : Bytes → List Token
+last_tokens to = field_tokens (codes "to") (string to) ++ field_tokens (codes "v") (version_value Two) ++ end_object ∷ []
 
 -- these tokens are appended
 pub record AddsTokens (old new : Written) (ts : List Token) : Type 0 where

@@ -2,14 +2,13 @@
 ghost use Rattle.std.specs.Prelude.{◌≡◌, ◌++◌, IfOk, IfErr};
 ghost use Rattle.serde_json.specs.View.{view};
 ghost use Rattle.sup_specs.specs.Values.{Bytes};
-ghost use Rattle.sup_tables.specs.States.{HasDotsOf};
 ghost use Rattle.sup_wire.specs.declared.message.Message.{Message};
 ghost use Rattle.sup_wire.specs.declared.image.Image.{Image};
 ghost use Rattle.sup_wire.specs.Drafts.{IsDraftOf, IsDraftOfImage, SaysMessage, SaysImage, IsWholeMessage, IsWholeImage};
 ghost use Rattle.sup_wire.specs.DraftReads.{NoJson};
 ghost use Rattle.sup_wire.specs.Faults.{IsJson, TextSays, IsTextOf, IsTextAfter, IsFault, IsOrMemory, IsInRange, IsImageInRange};
 ghost use Rattle.sup_wire.specs.ImageTexts.{IsTextFor};
-ghost use Rattle.sup_wire.specs.Lent.{IsLentOf};
+ghost use Rattle.sup_wire.specs.Lent.{ForLent};
 
 use crate::fault::WireFault;
 use crate::image::Image;
@@ -124,9 +123,9 @@ pub fn encode_image_after(front: Vec<u8>, image: &Image) -> Result<Vec<u8>, Allo
 /// refused.
 pub fn encode_lent_image(alloc: Global, image: &LentImage<'_>) -> Result<Vec<u8>, AllocError>
     // Of each image that this is lent of, if its context has the dots of its rows.
-    ensures text { IfOk result (λ text. (i : Image) → IsLentOf image.now i → HasDotsOf i.state.context i.state.rows → IsTextOf IsDraftOfImage IsImageInRange text.items i) }
+    ensures text { IfOk result (λ text. ForLent image.now (λ i. IsTextOf IsDraftOfImage IsImageInRange text.items i)) }
     // What is written is what `decode_image` reads.
-    ensures says { IfOk result (λ text. (i : Image) → IsLentOf image.now i → HasDotsOf i.state.context i.state.rows → IsImageInRange i → TextSays IsDraftOfImage text.items i) }
+    ensures says { IfOk result (λ text. ForLent image.now (λ i. IsImageInRange i → TextSays IsDraftOfImage text.items i)) }
 {
     let text = lent_text_after(Vec::new(alloc), image)?;
     Ok(text.into_text())

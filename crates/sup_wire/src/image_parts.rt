@@ -1,10 +1,7 @@
 //! The parts that an image's text is put together of.
 ghost use Rattle.std.specs.Prelude.{◌≡◌, ◌<◌, ◌^◌, IfOk};
-ghost use Rattle.sup_array_text.specs.Arrays.{shown, whole};
 ghost use Rattle.sup_tables.specs.Lent.{rows_lent};
-ghost use Rattle.sup_wire.specs.declared.image.Image.{Image};
-ghost use Rattle.sup_wire.specs.Drafts.{IsWholeImage};
-ghost use Rattle.sup_wire.specs.ImageTexts.{IsFront, IsHeaded, IsTextFor, image_back};
+ghost use Rattle.sup_wire.specs.ImageTexts.{IsFront, IsTextWith, closed_shown};
 
 use crate::heading::Heading;
 use crate::writing::fronts::front_after;
@@ -33,7 +30,7 @@ pub fn image_front(alloc: Global, heading: &Heading<'_>) -> Result<Vec<u8>, Allo
 
 /// The text of an image, with what stands behind its rows. An `Err` where a growth was refused.
 pub fn closed_image(made: ArrayBuilding) -> Result<ArrayText, AllocError>
-    ensures { IfOk result (λ t. t ≡ shown (whole made.front made.items image_back) made.items) }
+    ensures { IfOk result (λ t. t ≡ closed_shown made.front made.items) }
 {
     closed(made)
 }
@@ -44,7 +41,7 @@ pub fn image_text(
     heading: &Heading<'_>,
     rows: &[LentRow<'_>],
 ) -> Result<ArrayText, AllocError>
-    ensures { IfOk result (λ t. (i : Image) → IsHeaded i heading.now → rows_lent rows.now ≡ i.state.rows → IsWholeImage i → IsTextFor i t) }
+    ensures { IfOk result (λ t. IsTextWith heading.now (rows_lent rows.now) t) }
 {
     // For the clause: the context's counters are in their limits.
     heading.context.counted();

@@ -1,10 +1,6 @@
 //! Laws of the codec, each the contract of a small function.
-ghost use Rattle.std.specs.Prelude.{◌≡◌};
-ghost use Rattle.sup_specs.specs.Values.{Bytes};
-ghost use Rattle.sup_wire.specs.declared.message.Message.{Message};
-ghost use Rattle.sup_wire.specs.declared.image.Image.{Image};
 ghost use Rattle.sup_wire.specs.Drafts.{IsDraftOf, IsDraftOfImage, IsWholeMessage, IsWholeImage};
-ghost use Rattle.sup_wire.specs.Faults.{TextSays, IsOrMemory, IsInRange, IsImageInRange};
+ghost use Rattle.sup_wire.specs.Faults.{IsOneSaid, IsOrMemory, IsInRange, IsImageInRange};
 
 use crate::codec::{decode, decode_image, encode, encode_image};
 use crate::fault::WireFault;
@@ -14,8 +10,8 @@ use std::alloc::Global;
 
 /// A text says one message at most, and one image at most.
 pub fn a_text_says_one()
-    ensures message { (text : Bytes) (m n : Message) → IsWholeMessage m → IsWholeMessage n → TextSays IsDraftOf text m → TextSays IsDraftOf text n → n ≡ m }
-    ensures image { (text : Bytes) (i j : Image) → IsWholeImage i → IsWholeImage j → TextSays IsDraftOfImage text i → TextSays IsDraftOfImage text j → j ≡ i }
+    ensures message { IsOneSaid IsDraftOf IsWholeMessage }
+    ensures image { IsOneSaid IsDraftOfImage IsWholeImage }
 {}
 
 /// A message in its range that is written is read back, unless memory runs out.

@@ -2,7 +2,7 @@
 ghost use Rattle.std.specs.Prelude.{◌≡◌, option_map};
 ghost use Rattle.serde_json.specs.View.{view, items_view};
 ghost use Rattle.sup_wire.specs.FieldReads.{ReadGivesBy};
-ghost use Rattle.sup_wire.specs.RowReads.{two_at, four_at, dot_at, each_in};
+ghost use Rattle.sup_wire.specs.RowReads.{two_at, four_lent, four_at, dot_at, each_in};
 
 use crate::fault::WireFault;
 use crate::reading::fields::{name_of, within};
@@ -34,7 +34,7 @@ pub(crate) struct Four<'a> {
 
 #[tactic(auto, unfolding(crate::specs::RowReads::four_at))]
 pub(crate) fn four_of(value: &Value) -> Option<Four<'_>>
-    ensures { option_map (λ p. record { table = view p.table.now; key = view p.key.now; dot = view p.dot.now; value = view p.value.now }) result ≡ four_at (view value.now) }
+    ensures { option_map four_lent result ≡ four_at (view value.now) }
 {
     let list = value.as_array()?;
     if list.len() != 4 {

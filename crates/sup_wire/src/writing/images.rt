@@ -1,16 +1,14 @@
 //! Whole images.
-ghost use Rattle.std.specs.Prelude.{◌≡◌, ◌<◌, ◌^◌, ◌++◌, IfOk, map};
+ghost use Rattle.std.specs.Prelude.{◌≡◌, ◌<◌, ◌^◌, ◌++◌, IfOk};
 ghost use Rattle.std.specs.List.{AllByRecursion};
-ghost use Rattle.sup_array_text.specs.Arrays.{shown, whole};
 ghost use Rattle.sup_tables.specs.Lent.{rows_lent};
-ghost use Rattle.sup_tables.specs.States.{HasDotsOf};
 ghost use Rattle.sup_wire.specs.declared.image.Image.{Image};
 ghost use Rattle.sup_wire.specs.Drafts.{IsDraftOfImage, IsWholeImage};
 ghost use Rattle.sup_wire.specs.Faults.{IsTextAfter, IsImageInRange};
 ghost use Rattle.sup_wire.specs.Forms.{IsName, IsWritten, AreWritten};
-ghost use Rattle.sup_wire.specs.Lent.{IsLentOf};
-ghost use Rattle.sup_wire.specs.RowTexts.{AreRows, row_text};
-ghost use Rattle.sup_wire.specs.ImageTexts.{image_front, image_back};
+ghost use Rattle.sup_wire.specs.Lent.{IsLentOf, ForLent};
+ghost use Rattle.sup_wire.specs.RowTexts.{AreRows, texts_of};
+ghost use Rattle.sup_wire.specs.ImageTexts.{closed_shown, image_shown};
 ghost use Rattle.sup_wire.specs.Writing.{parts_lent};
 
 use crate::image::Image;
@@ -38,7 +36,7 @@ pub(crate) fn text_by(
     ensures count { count < 2 ^ 64 }
     ensures name { IfOk result (λ t. IsName node.now) }
     ensures written { IfOk result (λ t. AreWritten (parts_lent parts.now)) }
-    ensures text { IfOk result (λ t. t ≡ shown (front.items ++ whole (image_front node.now boot count (parts_lent parts.now)) (map row_text (parts_lent parts.now).rows) image_back) (map row_text (parts_lent parts.now).rows)) }
+    ensures text { IfOk result (λ t. t ≡ image_shown front.items node.now boot count (parts_lent parts.now)) }
 {
     let front = front_after(front, node, boot, count, parts)?;
     let rows = parts.rows;
@@ -50,7 +48,7 @@ pub(crate) fn text_by(
 
 // What stands behind the rows too.
 pub(crate) fn closed(made: ArrayBuilding) -> Result<ArrayText, AllocError>
-    ensures { IfOk result (λ t. t ≡ shown (whole made.front made.items image_back) made.items) }
+    ensures { IfOk result (λ t. t ≡ closed_shown made.front made.items) }
 {
     let text = made.closed(b",\"v\":2}")?;
     Ok(text)
@@ -59,7 +57,7 @@ pub(crate) fn closed(made: ArrayBuilding) -> Result<ArrayText, AllocError>
 // With the texts of these rows.
 fn with_texts(made: ArrayBuilding, rows: &[LentRow<'_>]) -> Result<ArrayBuilding, AllocError>
     ensures front { IfOk result (λ all. all.front ≡ made.front) }
-    ensures items { IfOk result (λ all. all.items ≡ made.items ++ map row_text (rows_lent rows.now)) }
+    ensures items { IfOk result (λ all. all.items ≡ made.items ++ texts_of (rows_lent rows.now)) }
     ensures written { IfOk result (λ all. AllByRecursion IsWritten (rows_lent rows.now)) }
 {
     let mut all = made;
@@ -74,7 +72,7 @@ pub(crate) fn lent_text_after(
     front: Vec<u8>,
     image: &LentImage<'_>,
 ) -> Result<ArrayText, AllocError>
-    ensures text { IfOk result (λ t. (i : Image) → IsLentOf image.now i → HasDotsOf i.state.context i.state.rows → IsTextAfter IsDraftOfImage IsImageInRange front.items t.text i) }
+    ensures text { IfOk result (λ t. ForLent image.now (λ i. IsTextAfter IsDraftOfImage IsImageInRange front.items t.text i)) }
     ensures rows { IfOk result (λ t. (i : Image) → IsLentOf image.now i → IsWholeImage i → AreRows i.state.rows t.items) }
 {
     // For the clauses: the context's counters are in their limits.

@@ -1,12 +1,9 @@
 //! Whole messages.
-ghost use Rattle.std.specs.Prelude.{◌≡◌, ◌<◌, ◌^◌, OnOk, codes, [], ◌∷◌, ◌++◌};
-ghost use Rattle.json.specs.Token.{end_object};
-ghost use Rattle.serde_json.specs.Data.{string};
+ghost use Rattle.std.specs.Prelude.{◌<◌, ◌^◌, OnOk};
 ghost use Rattle.sup_wire.specs.Drafts.{Draft, ack, push, delta, IsDraftOf, IsWholeMessage};
 ghost use Rattle.sup_wire.specs.Faults.{IsInRange};
-ghost use Rattle.sup_wire.specs.Forms.{version_value, value_of, IsName, AreWritten};
-ghost use Rattle.sup_wire.specs.Writing.{AddsTokens, WritesDraft, tokens_of, field_tokens, parts_lent};
-ghost use Rattle.sup_wire.specs.declared.version.Version.TheVariants.{Two};
+ghost use Rattle.sup_wire.specs.Forms.{value_of, IsName, AreWritten};
+ghost use Rattle.sup_wire.specs.Writing.{AddsTokens, WritesDraft, tokens_of, sender_tokens, last_tokens, parts_lent};
 
 use crate::message::Message;
 use crate::writing::context::write_context;
@@ -20,7 +17,7 @@ use sup_specs::NodeName;
 // The fields of the sender and of the kind.
 fn sender_fields(out: &mut Writer, from: &NodeName, kind: &str) -> Result<(), AllocError>
     ensures name { OnOk result (IsName from.now) }
-    ensures adds { OnOk result (AddsTokens out.old out.new (field_tokens (codes "from") (string from.now) ++ field_tokens (codes "kind") (string kind.now))) }
+    ensures adds { OnOk result (AddsTokens out.old out.new (sender_tokens from.now kind.now)) }
 {
     text_field(out, "from", from.as_str())?;
     text_field(out, "kind", kind)
@@ -29,7 +26,7 @@ fn sender_fields(out: &mut Writer, from: &NodeName, kind: &str) -> Result<(), Al
 // The last fields, of the receiver and of the version.
 fn last_fields(out: &mut Writer, to: &NodeName) -> Result<(), AllocError>
     ensures name { OnOk result (IsName to.now) }
-    ensures adds { OnOk result (AddsTokens out.old out.new (field_tokens (codes "to") (string to.now) ++ field_tokens (codes "v") (version_value Two) ++ end_object ∷ [])) }
+    ensures adds { OnOk result (AddsTokens out.old out.new (last_tokens to.now)) }
 {
     text_field(out, "to", to.as_str())?;
     version_field(out)?;

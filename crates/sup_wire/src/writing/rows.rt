@@ -5,8 +5,8 @@ ghost use Rattle.std.specs.List.{AllByRecursion};
 ghost use Rattle.sup_tables.specs.declared.row.Entry.{Entry};
 ghost use Rattle.sup_tables.specs.Rows.{row_of};
 ghost use Rattle.sup_tables.specs.Lent.{row_lent, rows_lent};
-ghost use Rattle.sup_wire.specs.Forms.{IsWritten, dot_value, spec_value, info_value, four, row_value, rows_value};
-ghost use Rattle.sup_wire.specs.Writing.{AddsTokens, tokens_of};
+ghost use Rattle.sup_wire.specs.Forms.{IsWritten, dot_value, spec_value, info_value, row_value, rows_value};
+ghost use Rattle.sup_wire.specs.Writing.{AddsTokens, tokens_of, four_tokens};
 ghost use Rattle.sup_wire.specs.declared.version.Version.TheVariants.{Two};
 
 use crate::writing::context::write_dot;
@@ -25,7 +25,7 @@ fn write_member(
     info: &MemberInfo,
 ) -> Result<(), AllocError>
     ensures formed { OnOk result (IsWritten (row_of dot.now (Entry.Member node.now info.now))) }
-    ensures adds { OnOk result (AddsTokens out.old out.new (tokens_of (four (codes "member") node.now (dot_value dot.now) (info_value Two info.now)))) }
+    ensures adds { OnOk result (AddsTokens out.old out.new (four_tokens (codes "member") node.now (dot_value dot.now) (info_value Two info.now))) }
 {
     out.begin_array()?;
     out.string("member")?;
@@ -42,7 +42,7 @@ fn write_child(
     spec: &ChildSpec,
 ) -> Result<(), AllocError>
     ensures formed { OnOk result (IsWritten (row_of dot.now (Entry.Child id.now spec.now))) }
-    ensures adds { OnOk result (AddsTokens out.old out.new (tokens_of (four (codes "child") id.now (dot_value dot.now) (spec_value spec.now)))) }
+    ensures adds { OnOk result (AddsTokens out.old out.new (four_tokens (codes "child") id.now (dot_value dot.now) (spec_value spec.now))) }
 {
     out.begin_array()?;
     out.string("child")?;
@@ -54,7 +54,7 @@ fn write_child(
 
 fn write_name(out: &mut Writer, name: &Name, dot: &Dot, id: &ChildId) -> Result<(), AllocError>
     ensures formed { OnOk result (IsWritten (row_of dot.now (Entry.Name name.now id.now))) }
-    ensures adds { OnOk result (AddsTokens out.old out.new (tokens_of (four (codes "name") name.now (dot_value dot.now) (string id.now)))) }
+    ensures adds { OnOk result (AddsTokens out.old out.new (four_tokens (codes "name") name.now (dot_value dot.now) (string id.now))) }
 {
     out.begin_array()?;
     out.string("name")?;
