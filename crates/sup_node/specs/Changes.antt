@@ -2,8 +2,15 @@
 use Rattle.std.specs.Prelude.{ℕ, ◌≡◌, ◌+◌, ◌≤◌, ◌<◌, Bool, true, false, List, [], Option, Some, None, Result, Ok, Err, IsOk}
 use mathlib.Core.Logic.{◌⊎◌}
 use Rattle.sup_specs.specs.declared.limits.TheConstants.{MAX}
+use Rattle.sup_specs.specs.declared.child.Status.TheVariants.{Open}
+use Rattle.sup_specs.specs.Values.{Bytes}
+use Rattle.sup_causal.specs.declared.dot.Dot.{Dot}
 use Rattle.sup_tables.specs.States.{State}
-use Rattle.sup_tables.specs.Joined.{join_states}
+use Rattle.sup_tables.specs.Joined.{join_states, covers_state}
+use Rattle.sup_tables.specs.OneOperation.{next_at}
+use Rattle.sup_tables.specs.Operations.{Operation}
+use Rattle.sup_tables.specs.Makers.{put_member}
+use Rattle.sup_tables.specs.declared.planning.PlannedTables.{PlannedTables}
 use Rattle.sup_tables.specs.Planned.{IsPlanFor}
 use Rattle.sup_wire.specs.declared.image.Image.{Image}
 use Rattle.sup_anti_entropy.specs.Buffers.{holds_more}
@@ -21,6 +28,7 @@ use Rattle.sup_replica.specs.declared.refusal.Refusal.TheVariants.{OutOfMemory, 
 use Rattle.sup_replica.specs.Checks.{refused_if, then_do}
 use Rattle.sup_replica.specs.Nodes.{Node, ActOutcome, wanted_at}
 use Rattle.sup_replica.specs.ByTables.{by_tables}
+use Rattle.sup_replica.specs.Acts.{absorbs}
 use Rattle.sup_replica.specs.Steps.{passes_greatest, wanted}
 use Rattle.sup_replica.specs.Stations.{Station, acknowledged}
 use Rattle.sup_node.specs.declared.change.Change.{Change}
@@ -175,3 +183,31 @@ learns g n own reply leaving delta = record {
   node = record (with_delta n own delta) { supervisor = leaving_after n.supervisor leaving (wanted by_tables g (with_delta n own delta)) };
   saves = true;
 }
+
+-- what is ready is the outcome of a step, whatever children are weighed by, where the node keeps what is placed on it
+abbrev pub ReadiesPlaced : (Weigher → Result (ActOutcome State) Refusal) → Node State → Result Ready Refusal → Type 0
+ReadiesPlaced step n result = (g : Weigher) → keeps_placed g n ≡ true → ReadiesOutcome g (step g) n result
+
+-- of each state that the plan makes of the old one
+abbrev pub ForPlanned : PlannedTables → State → (State → Type 0) → Type 0
+ForPlanned plan old P = (new : State) → IsPlanFor plan old new → P new
+
+-- of each state that the tables become
+abbrev pub ForChanged : Intake → State → (State → Type 0) → Type 0
+ForChanged intake old P = (new : State) → ChangesTables intake old new → P new
+
+-- a node whose tables became the new ones, with an own operation or none
+abbrev pub taken_in : Node State → Intake → Option State → State → Node State
+taken_in n intake own new = record n { known = new; count = n.count + 1; supervisor = kept_by n.supervisor intake; newest = newer own n.newest }
+
+-- a node's own next dot
+abbrev pub own_next : Node State → Dot
+own_next n = next_at n.known n.name
+
+-- what comes of a delta of others, by whether it is known
+abbrev pub absorbed : Weigher → Node State → State → ActOutcome State
+absorbed g n delta = absorbs by_tables g n delta None (covers_state n.known delta)
+
+-- a node as a new member that is open
+abbrev pub put_open_member : Node State → Bytes → Operation
+put_open_member n label = put_member (own_next n) n.name (record { label = label; status = Open })

@@ -1,5 +1,5 @@
 -- What a node that runs answers to an event, and what it becomes: the station's step, over the bytes that come and leave (the rule of steps).
-use Rattle.std.specs.Prelude.{◌≡◌, ◌≤◌, ℕ, Bool, true, false, List, [], Option, None, Result, Ok, Err, if◌then◌else◌}
+use Rattle.std.specs.Prelude.{◌≡◌, ◌≤◌, ℕ, Bool, true, false, List, [], Option, None, Result, Ok, Err, MatchResult, if◌then◌else◌}
 use mathlib.Core.Logic.{◌⊎◌}
 use Rattle.sup_specs.specs.Values.{Bytes}
 use Rattle.sup_tables.specs.States.{State}
@@ -84,6 +84,10 @@ abbrev pub PlansEvent : Weigher → Station State → Event → ℕ → Result P
 PlansEvent g s event now (Ok p) = IsPlanOf g s event now p
 PlansEvent g s event now (Err r) = IsRefused g s event now r
 
+-- the same, whatever children are weighed by, where the node keeps what is placed on it
+abbrev pub PlansPlaced : Station State → Event → Result Planned Refusal → Type 0
+PlansPlaced s event result = (g : Weigher) (now : ℕ) → keeps_placed g s.node ≡ true → PlansEvent g s event now result
+
 -- the answer to an event and what the node becomes
 pub record CarriesOutEvent (g : Weigher) (s : Station State) (event : Event) (now : ℕ) (done : Done) (t : Station State) : Type 0 where
   pub mail : Option (Mail State)
@@ -121,3 +125,7 @@ pub record IsRestart (g : Weigher) (c : Config) (image : Image) (effects : List 
 -- it is refused as the step says, or for memory
 abbrev pub IsRestartRefused : Weigher → Config → Image → Refusal → Type 0
 IsRestartRefused g c image r = (restart_of g c image true ≡ Err r) ⊎ (r ≡ OutOfMemory)
+
+-- the answer to a restart, of whatever shows as a station
+abbrev pub AnswersRestart : {X : Type 0} → (X → Station State) → Weigher → Config → Image → Result (X × List Effect) Refusal → Type 0
+AnswersRestart shown g c image result = MatchResult result (λ r. IsRestart g c image r.1 (shown r.0)) (λ r. IsRestartRefused g c image r)

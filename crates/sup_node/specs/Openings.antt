@@ -28,6 +28,14 @@ supervised s (Touched tables plan) = carried s plan
 abbrev pub kept_with : Supervisor → OpenIntake → Supervisor
 kept_with s intake = record s { kept = (supervised s intake).kept; given = (supervised s intake).given; window = (supervised s intake).window }
 
+-- a node whose tables become these, with the supervisor that keeps what is kept with them
+abbrev pub closed_node : Node State → OpenIntake → State → Node State
+closed_node n intake new = record n { known = new; supervisor = kept_with n.supervisor intake }
+
+-- of each two states that the tables were and are to be
+abbrev pub ForBecoming : OpenIntake → State → (State → Type 0) → Type 0
+ForBecoming intake here P = (old new : State) → TablesBecome intake here old new → P new
+
 -- the node with these tables, before the delta
 abbrev pub with_known : OpenState → State → Station State
 with_known o known = record {
@@ -43,6 +51,10 @@ grown_to o s known = record s {
   node = record s.node { known = known; count = s.node.count + 1; supervisor = kept_with s.node.supervisor o.intake; newest = newer o.own s.node.newest };
   held = holds_more s.room s.held o.delta;
 }
+
+-- the station is what the node becomes, whatever its tables were and are to be
+abbrev pub IsClosedStation : OpenState → Station State → Type 0
+IsClosedStation o s = (old new : State) → TablesBecome o.intake o.replica.known old new → s ≡ grown_to o (with_known o old) new
 
 -- the node was the first, and is to be the second
 pub record IsOpenState (o : OpenState) (old new : Station State) : Type 0 where

@@ -1,5 +1,5 @@
 -- Which children a node keeps (the rule of kept children): exactly those that are placed on it, by id and dot.
-use Rattle.std.specs.Prelude.{◌≡◌, Bool, ◌&&◌, true, List, Option, Some, None, if◌then◌else◌}
+use Rattle.std.specs.Prelude.{◌≡◌, Bool, ◌&&◌, true, List, map, Option, Some, None, if◌then◌else◌}
 use Rattle.std.specs.List.{list_all}
 use Rattle.sup_specs.specs.Values.{Bytes, text_cmp}
 use Rattle.sup_specs.specs.Rising.{among}
@@ -35,6 +35,14 @@ wanted_under g me hosts rows id = wanted_by g me hosts (winner rows children id)
 
 abbrev pub change_of : Weigher → Bytes → List Bytes → List Row → Bytes → Change
 change_of g me hosts rows id = record { id = id; now = wanted_under g me hosts rows id }
+
+-- what is wanted at a node under an id once its tables are these
+abbrev pub wanted_then : Weigher → Node State → List Bytes → Bytes → State → Option Wanted
+wanted_then g n hosts id new = wanted_under g n.name hosts new.rows id
+
+-- the changes under these ids then
+abbrev pub changes_then : Weigher → Node State → List Bytes → List Bytes → State → List Change
+changes_then g n hosts ids new = map (change_of g n.name hosts new.rows) ids
 
 -- who leaves is among these children, and nobody else leaves
 abbrev pub ListsLeaving : List Bytes → Leaving → Type 0

@@ -1,17 +1,22 @@
 -- What the bytes of a letter or an image say: the forms of messages and images.
-use Rattle.std.specs.Prelude.{◌≡◌, false, [], List, Option, Some, None}
+use Rattle.std.specs.Prelude.{◌≡◌, ℕ, true, false, [], List, Option, Some, None}
 use Rattle.sup_specs.specs.Values.{Bytes}
 use Rattle.sup_tables.specs.declared.row.Row.{Row}
+use Rattle.sup_causal.specs.Dots.{Context}
 use Rattle.sup_tables.specs.States.{State}
 use Rattle.sup_wire.specs.declared.message.Message.{Message}
 use Rattle.sup_wire.specs.declared.message.Message.TheVariants.{Ack, Push, Delta}
 use Rattle.sup_wire.specs.declared.image.Image.{Image}
-use Rattle.sup_wire.specs.Drafts.{IsDraftOf, IsDraftOfImage, IsWholeMessage, IsWholeImage}
+use Rattle.sup_wire.specs.Drafts.{IsDraftOf, IsDraftOfImage, IsWhole, IsWholeMessage, IsWholeImage}
+use Rattle.sup_wire.specs.RowTexts.{AreRows}
 use Rattle.sup_wire.specs.Faults.{TextSays, IsTextOf, IsInRange, IsImageInRange}
 use Rattle.sup_image_text.specs.declared.next_image.NextImage.{NextImage}
 use Rattle.sup_image_text.specs.Next.{IsNext}
 use Rattle.sup_replica.specs.declared.letter.Letter.{Letter}
 use Rattle.sup_replica.specs.declared.done.Done.{Done}
+use Rattle.sup_replica.specs.Nodes.{Node}
+use Rattle.sup_node.specs.declared.change.Change.{Change}
+use Rattle.sup_node.specs.Changes.{image_after}
 use Rattle.sup_replica.specs.Stations.{Mail, a_delta, a_push, an_ack, MailCodec, StationMove, receiver_of, kind_of}
 
 -- the message that mail is written as: whether a delta is all that its sender knows isn't written
@@ -44,6 +49,10 @@ IsNextOf rows None (Some next) = ⊥
 IsNextOf rows (Some image) None = ⊥
 IsNextOf rows (Some image) (Some next) = IsNext rows image next
 
+-- the same of the image that is to be once a change is carried out at a node
+abbrev pub IsNextAfter : Node State → Change → Option NextImage → Type 0
+IsNextAfter n change next = IsNextOf n.known.rows (image_after n change) next
+
 -- the mail that bytes are read as; none where no message has these bytes
 abbrev pub IsReadAs : Bytes → Option (Mail State) → Type 0
 IsReadAs bytes None = (m : Message) → IsWholeMessage m → ¬ TextSays IsDraftOf bytes m
@@ -63,6 +72,10 @@ pub record IsLetter (mail : Mail State) (letter : Letter) : Type 0 where
   pub to : letter.to ≡ receiver_of mail
   pub kind : letter.kind ≡ kind_of mail
   pub text : IsMessageText letter.bytes (message_of mail)
+
+-- the letter of all that a node knows: of each state with these texts of its rows and this context
+abbrev pub IsWholeLetter : Bytes → Bytes → ℕ → List Bytes → Context → Letter → Type 0
+IsWholeLetter from to n texts context letter = (s : State) → AreRows s.rows texts → s.context ≡ context → IsWhole s → IsLetter (a_delta from to n true s) letter
 
 abbrev pub IsLetterOf : Option (Mail State) → Option Letter → Type 0
 IsLetterOf None None = Unit {0}

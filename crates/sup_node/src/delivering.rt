@@ -1,14 +1,13 @@
 //! What becomes of bytes that come.
 ghost use Rattle.std.specs.Prelude.{◌≡◌, ◌≢◌, ℕ, true, false};
 ghost use Rattle.sup_replica.specs.declared.event.Event.TheVariants.{Deliver};
-ghost use Rattle.sup_placement.specs.Place.{Weigher};
 ghost use Rattle.sup_wire.specs.Faults.{IsInRange};
 ghost use Rattle.sup_wire.specs.Forms.{IsCount};
 ghost use Rattle.sup_replica.specs.Stations.{a_delta, a_push, an_ack};
 ghost use Rattle.sup_node.specs.NodeStates.{station_in};
 ghost use Rattle.sup_node.specs.NodeSteps.{PlansEvent};
 ghost use Rattle.sup_node.specs.Placed.{keeps_placed};
-ghost use Rattle.sup_node.specs.TakenMail.{TakesMail};
+ghost use Rattle.sup_node.specs.TakenMail.{TakesMail, TakesMailPlaced};
 ghost use Rattle.sup_node.specs.Texts.{mail_of};
 
 use crate::letters::ack_letter;
@@ -52,7 +51,7 @@ impl NodeState {
 
     // A peer has what it was sent.
     fn take_ack(&self, from: NodeName, to: &NodeName, n: u64) -> Result<Planned, Refusal>
-        ensures { (g : Weigher) → keeps_placed g (station_in self.now).node ≡ true → TakesMail g (station_in self.now) (an_ack from to.now n) result }
+        ensures { TakesMailPlaced (station_in self.now) (an_ack from to.now n) result }
     {
         if !self.replica.is_named(to) {
             return Err(Refusal::WrongReceiver);

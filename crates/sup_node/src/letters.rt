@@ -6,7 +6,7 @@ ghost use Rattle.sup_wire.specs.Faults.{IsInRange};
 ghost use Rattle.sup_wire.specs.Forms.{IsCount};
 ghost use Rattle.sup_wire.specs.RowTexts.{AreRows};
 ghost use Rattle.sup_replica.specs.Stations.{a_delta, a_push, an_ack};
-ghost use Rattle.sup_node.specs.Texts.{IsLetter, IsMessageText};
+ghost use Rattle.sup_node.specs.Texts.{IsLetter, IsWholeLetter, IsMessageText};
 
 use std::alloc::{AllocError, Global};
 use sup_anti_entropy::Shipment;
@@ -51,7 +51,7 @@ pub(crate) fn whole_letter(
 ) -> Result<Letter, AllocError>
     requires differ { from ≢ to }
     requires number { IsCount n }
-    ensures { IfOk result (λ letter. (s : State) → AreRows s.rows texts.now.items → s.context ≡ context.now → IsWhole s → IsLetter (a_delta from to n true s) letter) }
+    ensures { IfOk result (IsWholeLetter from to n texts.now.items context.now) }
 {
     let text = delta_text(alloc, texts, &from, &to, n, context)?;
     Ok(Letter {

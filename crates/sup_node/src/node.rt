@@ -27,7 +27,7 @@ impl<W: Weigh> Node<W> {
     ghost use Rattle.sup_node.specs.CarriedChanges.{takes_memory};
     ghost use Rattle.sup_node.specs.Changes.{station_after};
     ghost use Rattle.sup_node.specs.Contents.{station_of};
-    ghost use Rattle.sup_node.specs.NodeSteps.{PlansEvent, AnswersEvent, FitsNode, IsRestart, IsRestartRefused, fresh_station};
+    ghost use Rattle.sup_node.specs.NodeSteps.{PlansEvent, AnswersEvent, FitsNode, AnswersRestart, fresh_station};
 
     /// The node that is in this state.
     pub fn of(state: NodeState) -> Node<W>
@@ -63,7 +63,7 @@ impl<W: Weigh> Node<W> {
         config: Config,
         weigher: &W,
     ) -> Result<(Node<W>, Effects), Refusal>
-        ensures { MatchResult result (λ r. IsRestart W.weight_of config image r.1 (station_of r.0)) (λ r. IsRestartRefused W.weight_of config image r) }
+        ensures { AnswersRestart station_of W.weight_of config image result }
     {
         let (state, effects) = NodeState::from_image(alloc, image, config, weigher)?;
         Ok((Node::of(state), effects))

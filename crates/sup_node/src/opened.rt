@@ -32,14 +32,14 @@ pub(crate) enum OpenIntake {
 impl OpenState {
     ghost use Rattle.sup_tables.specs.States.{State};
     ghost use Rattle.sup_node.specs.NodeStates.{station_in};
-    ghost use Rattle.sup_node.specs.Openings.{TablesBecome, kept_with, with_known, grown_to};
+    ghost use Rattle.sup_node.specs.Openings.{TablesBecome, IsClosedStation, kept_with};
 
     // The state with the delta. It takes no memory.
     pub fn carried_out(self) -> NodeState
         requires tables { (old : State) × (new : State) × TablesBecome self.intake self.replica.known old new }
         requires given { (kept_with self.replica.supervisor self.intake).given ≤ MOST }
         requires count { self.replica.count < MOST }
-        ensures { (old : State) (new : State) → TablesBecome self.intake self.replica.known old new → station_in result ≡ grown_to self (with_known self old) new }
+        ensures { IsClosedStation self (station_in result) }
     {
         let OpenState {
             replica,

@@ -3,7 +3,7 @@ ghost use Rattle.std.specs.Prelude.{◌≡◌, length, IfOk};
 ghost use Rattle.sup_node.specs.Changes.{image_of, image_after};
 ghost use Rattle.sup_node.specs.Contents.{station_of, where_told};
 ghost use Rattle.sup_node.specs.NodeSteps.{FitsNode};
-ghost use Rattle.sup_node.specs.Texts.{IsNextOf};
+ghost use Rattle.sup_node.specs.Texts.{IsNextAfter};
 ghost use Rattle.sup_node.specs.Whereabouts.{where_is};
 
 use crate::change::Change;
@@ -96,7 +96,7 @@ impl<W: Weigh> Node<W> {
         planned: &'a Planned,
     ) -> Result<Option<NextImage<'a>>, AllocError>
         requires { FitsNode W.weight_of (station_of self.now) planned.now.change }
-        ensures { IfOk result (λ next. IsNextOf (station_of self.now).node.known.rows (image_after (station_of self.now).node planned.now.change) next) }
+        ensures { IfOk result (IsNextAfter (station_of self.now).node planned.now.change) }
     {
         match &planned.change {
             Change::Learns(learned) => {

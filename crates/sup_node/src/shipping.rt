@@ -1,11 +1,8 @@
 //! What a node sends when it is told to.
-ghost use Rattle.std.specs.Prelude.{◌≡◌, ℕ, true};
-ghost use Rattle.sup_placement.specs.Place.{Weigher};
 ghost use Rattle.sup_wire.specs.RowTexts.{AreRows};
 ghost use Rattle.sup_replica.specs.declared.event.Event.TheVariants.{Ship, Push};
 ghost use Rattle.sup_node.specs.NodeStates.{station_in};
-ghost use Rattle.sup_node.specs.NodeSteps.{PlansEvent};
-ghost use Rattle.sup_node.specs.Placed.{keeps_placed};
+ghost use Rattle.sup_node.specs.NodeSteps.{PlansPlaced};
 
 use crate::letters::{delta_letter, push_letter, whole_letter};
 use crate::planned::Planned;
@@ -17,7 +14,7 @@ use sup_specs::NodeName;
 impl NodeState {
     // A peer is sent what it hasn't acknowledged.
     pub(crate) fn ship(&self, to: &NodeName) -> Result<Planned, Refusal>
-        ensures { (g : Weigher) (now : ℕ) → keeps_placed g (station_in self.now).node ≡ true → PlansEvent g (station_in self.now) (Ship to.now) now result }
+        ensures { PlansPlaced (station_in self.now) (Ship to.now) result }
     {
         let replica = &self.replica;
         if replica.is_named(to) {
@@ -38,7 +35,7 @@ impl NodeState {
     // The same, where the texts of the rows that it knows are kept: a ship of all of these copies them.
     pub(crate) fn ship_with(&self, texts: &ArrayText, to: &NodeName) -> Result<Planned, Refusal>
         requires { AreRows (station_in self.now).node.known.rows texts.now.items }
-        ensures { (g : Weigher) (now : ℕ) → keeps_placed g (station_in self.now).node ≡ true → PlansEvent g (station_in self.now) (Ship to.now) now result }
+        ensures { PlansPlaced (station_in self.now) (Ship to.now) result }
     {
         let replica = &self.replica;
         if replica.is_named(to) {
@@ -58,7 +55,7 @@ impl NodeState {
 
     // A peer is sent the newest own operation.
     pub(crate) fn push(&self, to: &NodeName) -> Result<Planned, Refusal>
-        ensures { (g : Weigher) (now : ℕ) → keeps_placed g (station_in self.now).node ≡ true → PlansEvent g (station_in self.now) (Push to.now) now result }
+        ensures { PlansPlaced (station_in self.now) (Push to.now) result }
     {
         let replica = &self.replica;
         replica.is_counted();

@@ -29,7 +29,7 @@ impl NodeState {
     ghost use Rattle.sup_tables.specs.Joined.{join_states};
     ghost use Rattle.sup_node.specs.Changes.{ChangesTables, kept_by, station_after};
     ghost use Rattle.sup_node.specs.NodeStates.{station_in};
-    ghost use Rattle.sup_node.specs.NodeSteps.{MayChange, IsRestart, IsRestartRefused, fresh_station};
+    ghost use Rattle.sup_node.specs.NodeSteps.{MayChange, AnswersRestart, fresh_station};
     ghost use Rattle.sup_node.specs.Openings.{IsOpenState};
     ghost use Rattle.sup_node.specs.Placed.{keeps_placed};
 
@@ -58,7 +58,7 @@ impl NodeState {
         config: Config,
         weigher: &W,
     ) -> Result<(NodeState, Effects), Refusal>
-        ensures restarts { MatchResult result (λ r. IsRestart W.weight_of config image r.1 (station_in r.0)) (λ r. IsRestartRefused W.weight_of config image r) }
+        ensures restarts { AnswersRestart station_in W.weight_of config image result }
         ensures keeps { IfOk result (λ r. keeps_placed W.weight_of (station_in r.0).node ≡ true) }
     {
         let intensity = config.intensity() as usize;

@@ -6,8 +6,8 @@ ghost use Rattle.sup_tables.specs.Joined.{no_state};
 ghost use Rattle.sup_tables.specs.Planned.{IsPlanFor};
 ghost use Rattle.sup_tables.specs.Opened.{IsOpen};
 ghost use Rattle.sup_local_sup.specs.Planning.{restarted};
-ghost use Rattle.sup_node.specs.Changes.{ChangesTables, kept_by, newer};
-ghost use Rattle.sup_node.specs.Openings.{TablesBecome, kept_with};
+ghost use Rattle.sup_node.specs.Changes.{ChangesTables, ForChanged, kept_by, newer, taken_in};
+ghost use Rattle.sup_node.specs.Openings.{TablesBecome, ForBecoming, kept_with, closed_node};
 
 use crate::change::Intake;
 use crate::opened::OpenIntake;
@@ -38,7 +38,7 @@ impl Replica {
         requires tables { (new : State) × ChangesTables intake self.old.known new }
         requires given { (kept_by self.old.supervisor intake).given ≤ MOST }
         requires count { self.old.count < MOST }
-        ensures ok { OnOk result ((new : State) → ChangesTables intake self.old.known new → self.new ≡ record self.old { known = new; count = self.old.count + 1; supervisor = kept_by self.old.supervisor intake; newest = newer own self.old.newest }) }
+        ensures ok { OnOk result (ForChanged intake self.old.known (λ new. self.new ≡ taken_in self.old intake own new)) }
         ensures err { OnErr result (self.new ≡ self.old) }
     {
         match intake {
@@ -99,7 +99,7 @@ impl Replica {
     pub(crate) fn with_intake(self, intake: OpenIntake) -> Replica
         requires tables { (old : State) × (new : State) × TablesBecome intake self.known old new }
         requires given { (kept_with self.supervisor intake).given ≤ MOST }
-        ensures becomes { (old : State) (new : State) → TablesBecome intake self.known old new → result ≡ record self { known = new; supervisor = kept_with self.supervisor intake } }
+        ensures becomes { ForBecoming intake self.known (λ new. result ≡ closed_node self intake new) }
         ensures count { result.count ≡ self.count }
         ensures up { result.up ≡ self.up }
     {

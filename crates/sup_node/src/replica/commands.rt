@@ -1,15 +1,14 @@
 //! Commands, made ready. Nothing changes; each refuses with the first check that fails, or for memory.
 ghost use Rattle.std.specs.Prelude.{◌≡◌, ◌<◌, true, IfOk};
-ghost use Rattle.sup_specs.specs.declared.child.Status.TheVariants.{Open};
 ghost use Rattle.sup_specs.specs.declared.limits.TheConstants.{MAX as MOST};
 ghost use Rattle.sup_tables.specs.Rows.{members};
 ghost use Rattle.sup_tables.specs.Readers.{is_present, live_dots};
-ghost use Rattle.sup_tables.specs.Makers.{put_member, put_child, replace_child, put_name, drop_member, drain_member, drop_child, drop_name};
-ghost use Rattle.sup_tables.specs.OneOperation.{state_of_one, counter_in, next_at};
+ghost use Rattle.sup_tables.specs.Makers.{put_child, replace_child, put_name, drop_member, drain_member, drop_child, drop_name};
+ghost use Rattle.sup_tables.specs.OneOperation.{state_of_one, counter_in};
 ghost use Rattle.sup_replica.specs.declared.event.Event.TheVariants.{Join, Leave, Drain, Start, Replace, Delete, Register, Unregister};
 ghost use Rattle.sup_replica.specs.ByTables.{by_tables};
 ghost use Rattle.sup_replica.specs.Steps.{up_step};
-ghost use Rattle.sup_node.specs.Changes.{ReadiesOutcome, IsOwn};
+ghost use Rattle.sup_node.specs.Changes.{ReadiesOutcome, IsOwn, own_next, put_open_member};
 ghost use Rattle.sup_node.specs.Placed.{keeps_placed};
 
 use crate::change::Ready;
@@ -189,8 +188,8 @@ impl Replica {
 
     fn put_member(&self, label: &Text) -> Result<(Tables, Dot), AllocError>
         requires { counter_in self.now.known self.now.name < MOST }
-        ensures dot { IfOk result (λ put. put.1 ≡ next_at self.now.known self.now.name) }
-        ensures delta { IfOk result (λ put. put.0 ≡ state_of_one (put_member (next_at self.now.known self.now.name) self.now.name (record { label = label.now; status = Open }))) }
+        ensures dot { IfOk result (λ put. put.1 ≡ own_next self.now) }
+        ensures delta { IfOk result (λ put. put.0 ≡ state_of_one (put_open_member self.now label.now)) }
     {
         let label = label.try_clone(self.alloc)?;
         let put = self.tables.add_member(
@@ -205,8 +204,8 @@ impl Replica {
 
     fn put_child(&self, id: &ChildId, spec: &ChildSpec) -> Result<(Tables, Dot), AllocError>
         requires { counter_in self.now.known self.now.name < MOST }
-        ensures dot { IfOk result (λ put. put.1 ≡ next_at self.now.known self.now.name) }
-        ensures delta { IfOk result (λ put. put.0 ≡ state_of_one (put_child (next_at self.now.known self.now.name) id.now spec.now)) }
+        ensures dot { IfOk result (λ put. put.1 ≡ own_next self.now) }
+        ensures delta { IfOk result (λ put. put.0 ≡ state_of_one (put_child (own_next self.now) id.now spec.now)) }
     {
         let id = id.try_clone(self.alloc)?;
         let spec = spec.try_clone(self.alloc)?;
@@ -216,8 +215,8 @@ impl Replica {
 
     fn put_name(&self, name: &Name, id: &ChildId) -> Result<(Tables, Dot), AllocError>
         requires { counter_in self.now.known self.now.name < MOST }
-        ensures dot { IfOk result (λ put. put.1 ≡ next_at self.now.known self.now.name) }
-        ensures delta { IfOk result (λ put. put.0 ≡ state_of_one (put_name (next_at self.now.known self.now.name) name.now id.now)) }
+        ensures dot { IfOk result (λ put. put.1 ≡ own_next self.now) }
+        ensures delta { IfOk result (λ put. put.0 ≡ state_of_one (put_name (own_next self.now) name.now id.now)) }
     {
         let name = name.try_clone(self.alloc)?;
         let id = id.try_clone(self.alloc)?;
@@ -231,9 +230,9 @@ impl Replica {
         spec: &ChildSpec,
     ) -> Result<(Tables, Dot, Vec<Dot>), AllocError>
         requires { counter_in self.now.known self.now.name < MOST }
-        ensures dot { IfOk result (λ put. put.1 ≡ next_at self.now.known self.now.name) }
-        ensures dots { IfOk result (λ put. put.2.items ≡ (replace_child self.now.known.rows (next_at self.now.known self.now.name) id.now spec.now).removes) }
-        ensures delta { IfOk result (λ put. put.0 ≡ state_of_one (replace_child self.now.known.rows (next_at self.now.known self.now.name) id.now spec.now)) }
+        ensures dot { IfOk result (λ put. put.1 ≡ own_next self.now) }
+        ensures dots { IfOk result (λ put. put.2.items ≡ (replace_child self.now.known.rows (own_next self.now) id.now spec.now).removes) }
+        ensures delta { IfOk result (λ put. put.0 ≡ state_of_one (replace_child self.now.known.rows (own_next self.now) id.now spec.now)) }
     {
         let id = id.try_clone(self.alloc)?;
         let spec = spec.try_clone(self.alloc)?;
@@ -244,9 +243,9 @@ impl Replica {
     fn drain_member(&self, m: &NodeName) -> Result<(Tables, Dot, Vec<Dot>), AllocError>
         requires left { counter_in self.now.known self.now.name < MOST }
         requires there { is_present self.now.known.rows members m.now ≡ true }
-        ensures dot { IfOk result (λ put. put.1 ≡ next_at self.now.known self.now.name) }
+        ensures dot { IfOk result (λ put. put.1 ≡ own_next self.now) }
         ensures dots { IfOk result (λ put. put.2.items ≡ live_dots self.now.known.rows members m.now) }
-        ensures delta { IfOk result (λ put. put.0 ≡ state_of_one (drain_member self.now.known.rows (next_at self.now.known self.now.name) m.now)) }
+        ensures delta { IfOk result (λ put. put.0 ≡ state_of_one (drain_member self.now.known.rows (own_next self.now) m.now)) }
     {
         let put = self.tables.add_draining(self.name, m)?;
         Ok(put)

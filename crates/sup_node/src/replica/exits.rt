@@ -4,13 +4,12 @@ ghost use Rattle.sup_causal.specs.declared.dot.Dot.{Dot as DotValue};
 ghost use Rattle.sup_causal.specs.Dots.{IsCounted};
 ghost use Rattle.sup_tables.specs.Makers.{drop_member, finish_child};
 ghost use Rattle.sup_tables.specs.OneOperation.{state_of_one};
-ghost use Rattle.sup_placement.specs.Place.{Weigher};
 ghost use Rattle.sup_local_sup.specs.declared.leaving.Ruling.TheVariants.{Restart, Finish, GiveUp};
 ghost use Rattle.sup_local_sup.specs.Planning.{ruling};
 ghost use Rattle.sup_replica.specs.declared.event.Event.TheVariants.{Exit};
 ghost use Rattle.sup_replica.specs.ByTables.{by_tables};
 ghost use Rattle.sup_replica.specs.Steps.{up_step, exit_step};
-ghost use Rattle.sup_node.specs.Changes.{ReadiesOutcome, IsOwn};
+ghost use Rattle.sup_node.specs.Changes.{ReadiesOutcome, ReadiesPlaced, IsOwn};
 ghost use Rattle.sup_node.specs.Placed.{keeps_placed};
 
 use crate::change::{Change, Ready};
@@ -55,7 +54,7 @@ impl Replica {
 
     // The child begins a new run, and no table changes.
     fn begin_again(&self, id: &ChildId, now: u64) -> Result<Ready, Refusal>
-        ensures ready { (w : Weigher) → keeps_placed w self.now ≡ true → ReadiesOutcome w (exit_step by_tables w self.now id.now now Restart) self.now result }
+        ensures ready { ReadiesPlaced (λ w. exit_step by_tables w self.now id.now now Restart) self.now result }
         ensures own { IfOk result (λ p. IsOwn self.now p.change) }
     {
         let again = id.try_clone(self.alloc)?;

@@ -25,10 +25,8 @@ impl Replica {
         ensures intake { IfOk result (λ r. IsIntake W.weight_of self.now leaving.now delta.now r.0 r.1) }
         ensures refused { IfErr result (IsNoIntake W.weight_of self.now leaving.now delta.now) }
     {
-        if delta.is_small_beside(&self.tables) {
-            if let Some(found) = self.touched_intake(leaving, delta, weigher)? {
-                return Ok(found);
-            }
+        if let Some(found) = self.touched_intake(leaving, delta, weigher)? {
+            return Ok(found);
         }
         self.whole_intake(leaving, delta, weigher)
     }
@@ -56,7 +54,8 @@ impl Replica {
         }
     }
 
-    // By what the delta touches. There is none where other members are open with it, or all children leave.
+    // By what the delta touches. There is none where it changes much, where other members are open with it, or all children
+    // leave.
     fn touched_intake<W: Weigh>(
         &self,
         leaving: &Leaving,
@@ -67,7 +66,9 @@ impl Replica {
         ensures intake { IfOk result (λ found. IfSome found (λ r. IsIntake W.weight_of self.now leaving.now delta.now r.0 r.1)) }
         ensures refused { IfErr result (IsNoIntake W.weight_of self.now leaving.now delta.now) }
     {
-        let plan = self.tables.plan_join(self.alloc, delta)?;
+        let Some(plan) = self.tables.plan_small_join(self.alloc, delta)? else {
+            return Ok(None);
+        };
         let touched = self.tables.touched_by(self.alloc, &plan)?;
         if touched.members || !reaches(&touched.children, leaving) {
             return Ok(None);

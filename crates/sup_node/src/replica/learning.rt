@@ -3,8 +3,7 @@ ghost use Rattle.std.specs.Prelude.{◌≡◌, true, Ok, Some, None, IfOk};
 ghost use Rattle.sup_tables.specs.Joined.{join_states, covers_state};
 ghost use Rattle.sup_replica.specs.ByTables.{by_tables};
 ghost use Rattle.sup_replica.specs.Steps.{issues};
-ghost use Rattle.sup_replica.specs.Acts.{absorbs};
-ghost use Rattle.sup_node.specs.Changes.{ReadiesOutcome, IsOwn, IsOf, learns};
+ghost use Rattle.sup_node.specs.Changes.{ReadiesOutcome, IsOwn, IsOf, absorbed, learns};
 ghost use Rattle.sup_node.specs.Placed.{keeps_placed};
 
 use crate::change::{Change, Learned, Ready};
@@ -37,7 +36,7 @@ impl Replica {
     // Makes ready what comes of received tables.
     pub(crate) fn absorb<W: Weigh>(&self, delta: Tables, weigher: &W) -> Result<Ready, Refusal>
         requires keeps { keeps_placed W.weight_of self.now ≡ true }
-        ensures ready { ReadiesOutcome W.weight_of (Ok (absorbs by_tables W.weight_of self.now delta None (covers_state self.now.known delta))) self.now result }
+        ensures ready { ReadiesOutcome W.weight_of (Ok (absorbed W.weight_of self.now delta)) self.now result }
         ensures of { IfOk result (λ p. IsOf delta self.now p.change) }
     {
         // For its clause: no number is past the greatest.

@@ -1,14 +1,13 @@
 //! What is wanted now under the ids that a delta touches.
-ghost use Rattle.std.specs.Prelude.{◌≡◌, true, map, IfOk, IfSome};
+ghost use Rattle.std.specs.Prelude.{◌≡◌, true, IfOk, IfSome};
 ghost use Rattle.std.specs.Option.{option_copied};
 ghost use Rattle.sup_specs.specs.Values.{text_cmp};
 ghost use Rattle.sup_specs.specs.Rising.{among};
 ghost use Rattle.sup_causal.specs.Dots.{IsCounted};
-ghost use Rattle.sup_tables.specs.States.{State};
-ghost use Rattle.sup_tables.specs.Planned.{IsPlanFor};
 ghost use Rattle.sup_local_sup.specs.Keeping.{AreCounted};
 ghost use Rattle.sup_local_sup.specs.Changing.{news};
-ghost use Rattle.sup_node.specs.Placed.{ListsLeaving, ended_of, wanted_under, change_of};
+ghost use Rattle.sup_node.specs.Changes.{ForPlanned};
+ghost use Rattle.sup_node.specs.Placed.{ListsLeaving, ended_of, wanted_then, changes_then};
 
 use crate::placing::is_here;
 use crate::replica::Replica;
@@ -27,8 +26,8 @@ impl Replica {
         plan: &PlannedTables,
         ids: &[ChildId],
     ) -> Result<Vec<Change>, AllocError>
-        ensures changes { IfOk result (λ changes. (new : State) → IsPlanFor plan.now self.now.known new → changes.items ≡ map (change_of W.weight_of self.now.name hosts.now new.rows) ids.now) }
-        ensures counted { IfOk result (λ changes. (new : State) → IsPlanFor plan.now self.now.known new → AreCounted (news changes.items)) }
+        ensures changes { IfOk result (λ changes. ForPlanned plan.now self.now.known (λ new. changes.items ≡ changes_then W.weight_of self.now hosts.now ids.now new)) }
+        ensures counted { IfOk result (λ changes. ForPlanned plan.now self.now.known (λ _. AreCounted (news changes.items))) }
     {
         let mut changes = Vec::with_capacity(self.alloc, ids.len())?;
         for id in ids {
@@ -47,8 +46,8 @@ impl Replica {
         plan: &PlannedTables,
         id: &ChildId,
     ) -> Result<Option<Wanted>, AllocError>
-        ensures wanted { IfOk result (λ w. (new : State) → IsPlanFor plan.now self.now.known new → w ≡ wanted_under W.weight_of self.now.name hosts.now new.rows id.now) }
-        ensures counted { IfOk result (λ w. (new : State) → IsPlanFor plan.now self.now.known new → IfSome w (λ v. IsCounted v.dot)) }
+        ensures wanted { IfOk result (λ w. ForPlanned plan.now self.now.known (λ new. w ≡ wanted_then W.weight_of self.now hosts.now id.now new)) }
+        ensures counted { IfOk result (λ w. ForPlanned plan.now self.now.known (λ _. IfSome w (λ v. IsCounted v.dot))) }
     {
         let Some((dot, spec)) = self.tables.child_after(plan, id) else {
             return Ok(None);
