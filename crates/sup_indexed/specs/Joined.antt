@@ -10,6 +10,8 @@ use Rattle.sup_dot_store.specs.ByDot.{at_dot}
 use Rattle.sup_dot_store.specs.Contents.{values_of}
 use Rattle.sup_dot_store.specs.Index.{value_under}
 use Rattle.sup_dot_store.specs.Points.{standing, higher, value_at}
+use Rattle.sup_indexed.specs.declared.planning.PlannedMap.{PlannedMap}
+use Rattle.sup_indexed.specs.Contents.{functions_planned}
 use Rattle.sup_indexed.specs.Changed.{changed_at, changed_value, value_in}
 
 -- the value that the join of two states, each a context and its functions, has under a key and a dot
@@ -39,3 +41,7 @@ AreKnownIn mine o = (d : Dot) → IsSome (value_in o d) → has mine d ≡ true
 -- the function, or where there is none what stood there, is the join of two under their contexts
 abbrev pub IsChangeTo : {V : Type 0} → (V → V → Ordering) → Context → Option (DotFun V) → Context → Option (DotFun V) → Option (DotFun V) → Type 0
 IsChangeTo value_cmp mine here theirs there o = (d : Dot) → changed_at o (value_in here d) d ≡ value_at (higher (lesser value_cmp) (standing (has mine d) (value_in here d)) (standing (has theirs d) (value_in there d)))
+
+-- the planned functions change to the join
+abbrev pub IsJoinPlan : {K V : Type 0} → (K → K → Ordering) → (V → V → Ordering) → Context → BTreeMap K (DotFun V) → Context → BTreeMap K (DotFun V) → PlannedMap K V → Type 0
+IsJoinPlan key_cmp value_cmp mine stores theirs other plan = ChangesToJoin key_cmp value_cmp mine stores theirs other (functions_planned plan)

@@ -7,7 +7,7 @@ ghost use Rattle.sup_causal.specs.Dots.{has};
 ghost use Rattle.sup_dot_store.specs.ByDot.{at_dot};
 ghost use Rattle.sup_dot_store.specs.Contents.{values_of};
 ghost use Rattle.sup_indexed.specs.Changed.{value_in, IsKeptAt};
-ghost use Rattle.sup_indexed.specs.Joined.{AreKnown, AreKnownIn, ChangesToJoin, IsChangeTo};
+ghost use Rattle.sup_indexed.specs.Joined.{AreKnown, AreKnownIn, IsJoinPlan, IsChangeTo};
 
 use crate::indexed_map::IndexedMap;
 use crate::planning::PlannedMap;
@@ -19,7 +19,7 @@ use sup_dot_store::{DotFun, DotStore};
 use sup_specs::Plain;
 
 impl<K: Plain, V: Plain> IndexedMap<K, V> {
-    ghost use Rattle.sup_indexed.specs.Contents.{functions_of, functions_planned};
+    ghost use Rattle.sup_indexed.specs.Contents.{functions_of};
 
     /// What [`plan_with`](Self::plan_with) gives, by one pass over both maps, which is cheap where they have most in common.
     /// None where more than `most` keys may change. An `Err` is want of memory.
@@ -33,7 +33,7 @@ impl<K: Plain, V: Plain> IndexedMap<K, V> {
     ) -> Result<Option<PlannedMap<K, V>>, AllocError>
         requires mine { AreKnown K.cmp (functions_of self.now) mine.now }
         requires theirs { AreKnown K.cmp (functions_of other.now) theirs.now }
-        ensures { IfOk result (λ o. IfSome o (λ p. ChangesToJoin K.cmp V.cmp mine.now (functions_of self.now) theirs.now (functions_of other.now) (functions_planned p))) }
+        ensures { IfOk result (λ o. IfSome o (IsJoinPlan K.cmp V.cmp mine.now (functions_of self.now) theirs.now (functions_of other.now))) }
     {
         if !differ_under_few(&self.stores, &other.stores, theirs, most) {
             return Ok(None);

@@ -3,7 +3,7 @@
 ghost use Rattle.std.specs.Prelude.{◌≡◌, IfSome, IfOk};
 ghost use Rattle.std.specs.BTreeMap.{IsOrdered};
 ghost use Rattle.sup_causal.specs.Dots.{has};
-ghost use Rattle.sup_indexed.specs.Joined.{AreKnown, ChangesToJoin};
+ghost use Rattle.sup_indexed.specs.Joined.{AreKnown, ChangesToJoin, IsJoinPlan};
 ghost use Rattle.sup_indexed.specs.Listed.{stands, ListsAll, HasKeys, HasKnownKeys};
 
 use crate::indexed_map::IndexedMap;
@@ -38,7 +38,7 @@ impl<K: Plain, V: Plain> PlannedMap<K, V> {
 }
 
 impl<K: Plain, V: Plain> IndexedMap<K, V> {
-    ghost use Rattle.sup_indexed.specs.Contents.{functions_of, functions_planned};
+    ghost use Rattle.sup_indexed.specs.Contents.{functions_of};
 
     /// The functions that a join gives, where it may change one. Nothing changes. An `Err` is want of memory.
     pub fn plan_with(
@@ -50,7 +50,7 @@ impl<K: Plain, V: Plain> IndexedMap<K, V> {
     ) -> Result<PlannedMap<K, V>, AllocError>
         requires mine { AreKnown K.cmp (functions_of self.now) mine.now }
         requires theirs { AreKnown K.cmp (functions_of other.now) theirs.now }
-        ensures { IfOk result (λ p. ChangesToJoin K.cmp V.cmp mine.now (functions_of self.now) theirs.now (functions_of other.now) (functions_planned p)) }
+        ensures { IfOk result (IsJoinPlan K.cmp V.cmp mine.now (functions_of self.now) theirs.now (functions_of other.now)) }
     {
         let changed = planned(
             alloc,

@@ -37,7 +37,8 @@ use Rattle.sup_node.specs.declared.change.Intake.{Intake}
 use Rattle.sup_node.specs.declared.change.Intake.TheVariants.{Whole, Touched}
 use Rattle.sup_node.specs.declared.change.Learned.{Learned}
 use Rattle.sup_node.specs.declared.change.Ready.{Ready}
-use Rattle.sup_node.specs.Placed.{keeps_placed}
+use Rattle.sup_local_sup.specs.declared.change.Change.{Change as ChangeOf}
+use Rattle.sup_node.specs.Placed.{keeps_placed, changes_then}
 
 -- what a node keeps
 abbrev pub image_of : Node State → Image
@@ -211,3 +212,7 @@ absorbed g n delta = absorbs by_tables g n delta None (covers_state n.known delt
 -- a node as a new member that is open
 abbrev pub put_open_member : Node State → Bytes → Operation
 put_open_member n label = put_member (own_next n) n.name (record { label = label; status = Open })
+
+-- these are the changes under the ids in each state that the plan makes
+abbrev pub AreChangesThen : Weigher → Node State → List Bytes → List Bytes → PlannedTables → List ChangeOf → Type 0
+AreChangesThen g n hosts ids plan changes = ForPlanned plan n.known (λ new. changes ≡ changes_then g n hosts ids new)

@@ -6,8 +6,8 @@ ghost use Rattle.sup_specs.specs.Rising.{among};
 ghost use Rattle.sup_causal.specs.Dots.{IsCounted};
 ghost use Rattle.sup_local_sup.specs.Keeping.{AreCounted};
 ghost use Rattle.sup_local_sup.specs.Changing.{news};
-ghost use Rattle.sup_node.specs.Changes.{ForPlanned};
-ghost use Rattle.sup_node.specs.Placed.{ListsLeaving, ended_of, wanted_then, changes_then};
+ghost use Rattle.sup_node.specs.Changes.{ForPlanned, AreChangesThen};
+ghost use Rattle.sup_node.specs.Placed.{ListsLeaving, ended_of, wanted_then};
 
 use crate::placing::is_here;
 use crate::replica::Replica;
@@ -26,7 +26,7 @@ impl Replica {
         plan: &PlannedTables,
         ids: &[ChildId],
     ) -> Result<Vec<Change>, AllocError>
-        ensures changes { IfOk result (λ changes. ForPlanned plan.now self.now.known (λ new. changes.items ≡ changes_then W.weight_of self.now hosts.now ids.now new)) }
+        ensures changes { IfOk result (λ changes. AreChangesThen W.weight_of self.now hosts.now ids.now plan.now changes.items) }
         ensures counted { IfOk result (λ changes. ForPlanned plan.now self.now.known (λ _. AreCounted (news changes.items))) }
     {
         let mut changes = Vec::with_capacity(self.alloc, ids.len())?;
