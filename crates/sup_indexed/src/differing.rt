@@ -1,4 +1,4 @@
-//! Joins of maps that differ under few keys, planned by one pass over both.
+//! Joins of maps that have most in common, planned by one pass over both.
 
 ghost use Rattle.std.specs.Prelude.{◌≡◌, false, Some, [], ◌∷◌, IsSome, IsTrue, IfSome, IfOk};
 ghost use Rattle.std.specs.Option.{option_copied};
@@ -13,55 +13,30 @@ use crate::indexed_map::IndexedMap;
 use crate::planning::PlannedMap;
 use crate::touching::is_same;
 use std::alloc::{AllocError, Global};
-use std::collections::BTreeMap;
-use sup_causal::{CausalContext, Dot, KeyByKey, Merge, merge_maps};
+use sup_causal::{CausalContext, Dot, Merge, merge_maps};
 use sup_dot_store::{DotFun, DotStore};
 use sup_specs::Plain;
 
 impl<K: Plain, V: Plain> IndexedMap<K, V> {
     ghost use Rattle.sup_indexed.specs.Contents.{functions_of};
 
-    /// What [`plan_with`](Self::plan_with) gives, by one pass over both maps, which is cheap where they have most in common.
-    /// None where more than `most` keys may change. An `Err` is want of memory.
-    pub fn plan_few(
+    /// What [`plan_with`](Self::plan_with) gives, by one pass over both maps, which is cheap where they have most in common:
+    /// of a key under which both have the same one value nothing is planned. An `Err` is want of memory.
+    pub fn plan_by_walk(
         &self,
         alloc: Global,
         mine: &CausalContext,
         other: &Self,
         theirs: &CausalContext,
-        most: usize,
-    ) -> Result<Option<PlannedMap<K, V>>, AllocError>
+    ) -> Result<PlannedMap<K, V>, AllocError>
         requires mine { AreKnown K.cmp (functions_of self.now) mine.now }
         requires theirs { AreKnown K.cmp (functions_of other.now) theirs.now }
-        ensures { IfOk result (λ o. IfSome o (IsJoinPlan K.cmp V.cmp mine.now (functions_of self.now) theirs.now (functions_of other.now))) }
+        ensures { IfOk result (IsJoinPlan K.cmp V.cmp mine.now (functions_of self.now) theirs.now (functions_of other.now)) }
     {
-        if !differ_under_few(&self.stores, &other.stores, theirs, most) {
-            return Ok(None);
-        }
         let by = ChangesUnder { mine, theirs };
         let changed = merge_maps(alloc, &self.stores, &other.stores, &by)?;
-        Ok(Some(PlannedMap { changed }))
+        Ok(PlannedMap { changed })
     }
-}
-
-// Whether at most so many keys may change.
-fn differ_under_few<K: Plain, V: Plain>(
-    stores: &BTreeMap<K, DotFun<V>>,
-    other: &BTreeMap<K, DotFun<V>>,
-    theirs: &CausalContext,
-    most: usize,
-) -> bool {
-    let mut left = most;
-    for (_, here, there) in KeyByKey::new(stores, other) {
-        if is_kept(here, there, theirs) {
-            continue;
-        }
-        if left == 0 {
-            return false;
-        }
-        left -= 1;
-    }
-    true
 }
 
 // The contexts of two maps that are joined, of which only the functions are wanted that may change.

@@ -57,10 +57,10 @@ impl Tables {
         Ok(planned)
     }
 
-    /// Plans a join with other tables where it changes little: always where these know at most an eighth as many dots as
-    /// there are rows here ([`is_small_beside`](Tables::is_small_beside)), else where at most an eighth as many keys of a
-    /// table may change, which one pass over both tells. None elsewhere: a merge costs less then. Nothing changes. An `Err`
-    /// is want of memory, or of a count of the rows.
+    /// Plans a join with other tables where it costs less than a merge, which copies all rows: always where these know at most
+    /// an eighth as many dots as there are rows here ([`is_small_beside`](Tables::is_small_beside)), and else by one pass over
+    /// both, where these know few dots that aren't known here. None elsewhere. Nothing changes. An `Err` is want of memory, or
+    /// of a count of the rows.
     pub fn plan_small_join(
         &self,
         alloc: Global,
@@ -72,16 +72,26 @@ impl Tables {
         if delta.is_small_beside(self) {
             return Ok(Some(self.plan_join(alloc, delta)?));
         }
+        if !brings_few(self.context(), delta.context(), self.row_count() / SMALL)? {
+            return Ok(None);
+        }
+        let plan = self.plan_by_walk(alloc, delta)?;
+        Ok(Some(plan))
+    }
+
+    // Plans a join by one pass over both.
+    fn plan_by_walk(&self, alloc: Global, delta: &Tables) -> Result<PlannedTables, AllocError>
+        ensures { IfOk result (λ p. IsPlanFor p self.now (join_states self.now delta.now)) }
+    {
         let Some(_rows) = self.row_count().checked_add(delta.row_count()) else {
             return Err(AllocError);
         };
-        let planned = planned_few(
+        let planned = planned_by_walk(
             alloc,
             self.stores(),
             self.context(),
             delta.stores(),
             delta.context(),
-            self.row_count() / SMALL,
         )?;
         Ok(planned)
     }
@@ -196,45 +206,50 @@ fn planned(
     })
 }
 
-// The same where at most so many keys of each table may change, and None elsewhere.
-fn planned_few(
+// The same by one pass over both.
+fn planned_by_walk(
     alloc: Global,
     store: &Stores,
     mine: &CausalContext,
     other: &Stores,
     theirs: &CausalContext,
-    most: usize,
-) -> Result<Option<PlannedTables>, AllocError>
+) -> Result<PlannedTables, AllocError>
     requires mine { AreCovered mine.now (stored_in store.now) }
     requires theirs { AreCovered theirs.now (stored_in other.now) }
-    ensures contexts { IfOk result (λ o. IfSome o (λ p. (d : DotValue) → has p.context d ≡ (has mine.now d || has theirs.now d))) }
-    ensures planned { IfOk result (λ o. IfSome o (λ p. ArePlanned p mine.now (stored_in store.now) theirs.now (stored_in other.now))) }
+    ensures contexts { IfOk result (λ p. (d : DotValue) → has p.context d ≡ (has mine.now d || has theirs.now d)) }
+    ensures planned { IfOk result (λ p. ArePlanned p mine.now (stored_in store.now) theirs.now (stored_in other.now)) }
 {
     let here = &store.second;
     let there = &other.second;
-    let Some(members) = store
-        .first
-        .plan_few(alloc, mine, &other.first, theirs, most)?
-    else {
-        return Ok(None);
-    };
-    let Some(children) = here
-        .first
-        .plan_few(alloc, mine, &there.first, theirs, most)?
-    else {
-        return Ok(None);
-    };
-    let Some(names) = here
+    let members = store.first.plan_by_walk(alloc, mine, &other.first, theirs)?;
+    let children = here.first.plan_by_walk(alloc, mine, &there.first, theirs)?;
+    let names = here
         .second
-        .plan_few(alloc, mine, &there.second, theirs, most)?
-    else {
-        return Ok(None);
-    };
+        .plan_by_walk(alloc, mine, &there.second, theirs)?;
     let known = mine.joined(alloc, theirs)?;
-    Ok(Some(PlannedTables {
+    Ok(PlannedTables {
         members,
         children,
         names,
         context: known,
-    }))
+    })
+}
+
+// Whether a context has, as far as its runs tell, at most so many dots that another lacks. It decides of cost alone.
+fn brings_few(
+    mine: &CausalContext,
+    theirs: &CausalContext,
+    most: usize,
+) -> Result<bool, AllocError> {
+    let mut left = most as u64;
+    for (node, counter) in &theirs.vector()? {
+        let more = counter.saturating_sub(mine.greatest(node));
+        if left < more {
+            return Ok(false);
+        }
+        left -= more;
+    }
+    let beyond = theirs.cloud()?;
+    let unknown = beyond.iter().filter(|dot| !mine.contains(dot)).count();
+    Ok(unknown as u64 <= left)
 }
