@@ -3,6 +3,8 @@
 #![tactic(auto)]
 
 #[cfg(test)]
+mod few;
+#[cfg(test)]
 mod given;
 #[cfg(test)]
 mod joins;
