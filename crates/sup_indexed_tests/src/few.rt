@@ -1,5 +1,4 @@
-//! Joins of maps that differ under few keys, planned by one pass over both, at values that were
-//! worked out by hand.
+//! Joins planned by one pass over both maps, at values that were worked out by hand.
 use crate::given::{Indexed, Known, Plan, Rows, expect_rows, in_place, indexed};
 use std::process::Abort;
 use sup_causal::Lattice;
@@ -26,16 +25,15 @@ fn state(rt: &(impl Abort + AllocGlobal), further: Known<'_>) -> Causal<Indexed>
     indexed(rt, (&rows, further.1))
 }
 
-// What a join with another state changes, where at most so many keys may change.
-fn planned_few(
+// What a join with another state changes.
+fn walked(
     rt: &(impl Abort + AllocGlobal),
     state: &Causal<Indexed>,
     other: &Causal<Indexed>,
-    most: usize,
-) -> Option<Plan> {
+) -> Plan {
     let (store, theirs) = (state.store(), other.store());
     store
-        .plan_few(rt.alloc(), state.context(), theirs, other.context(), most)
+        .plan_by_walk(rt.alloc(), state.context(), theirs, other.context())
         .expect(rt, "room")
 }
 
@@ -87,10 +85,8 @@ fn expect_few(
     wanted: Rows<'_>,
 ) {
     let (here, there) = (state(rt, left), state(rt, right));
-    for most in 0..keys {
-        assert!(rt; planned_few(rt, &here, &there, most).is_none());
-    }
-    let plan = planned_few(rt, &here, &there, keys).expect(rt, "few keys");
+    let plan = walked(rt, &here, &there);
+    assert!(rt; plan.functions().len() == keys);
     expect_made(rt, here, plan, wanted);
     expect_joined(rt, left, right, wanted);
     expect_in_place(rt, left, right, wanted);
@@ -122,7 +118,7 @@ fn a_map_does_not_differ_from_itself(rt: HostRuntime) {
 fn a_value_that_is_known_and_gone_there_is_planned_to_go(rt: HostRuntime) {
     let here = state(&rt, (MORE, &[]));
     let there = state(&rt, (&[], &[("b", 1)]));
-    let plan = planned_few(&rt, &here, &there, 1).expect(&rt, "one key");
+    let plan = walked(&rt, &here, &there);
     assert!(rt; plan.functions().len() == 1);
     let left = plan.functions().get(&21).expect(&rt, "the key");
     assert!(rt; left.values().len() == 0);

@@ -7,6 +7,8 @@ mod acts;
 #[cfg(test)]
 mod draining;
 #[cfg(test)]
+mod few;
+#[cfg(test)]
 mod given;
 #[cfg(test)]
 mod in_place;
