@@ -31,6 +31,10 @@ released _ i j m = []
 abbrev pub behind : {X : Type 0} → List Verdict → List X → ℕ → ℕ → List X
 behind script sent n j = flat_map (λ i. released (verdict script i) i j (message sent i)) (numbers n)
 
+-- what one message more brings out, behind those sent: its own copies, and then what is released behind it
+abbrev pub brought_out : {X : Type 0} → List Verdict → List X → X → List X
+brought_out script sent m = copies (verdict script (length sent + 1)) (m ∷ []) ++ behind script (sent ++ m ∷ []) (length sent + 1) (length sent + 1)
+
 -- for each message in order: its copies, then each held message that is released behind it
 abbrev pub image : {X : Type 0} → List Verdict → List X → List X
 image script sent = flat_map (λ j. copies (verdict script j) (message sent j) ++ behind script sent (length sent) j) (numbers (length sent))

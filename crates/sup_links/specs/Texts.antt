@@ -1,5 +1,5 @@
 -- What the parcels of a channel say (this project).
-use Rattle.std.specs.Prelude.{◌≡◌, ℕ, Option, Some, None, List, [], ◌∷◌, length, take, map, flat_map, option_to_list}
+use Rattle.std.specs.Prelude.{◌≡◌, ℕ, Option, Some, None, List, [], ◌∷◌, ◌++◌, MatchOption, Result, MatchResult, length, take, map, flat_map, option_to_list}
 use Rattle.std.specs.declared.vec.Vec.{Vec}
 use Rattle.std.specs.declared.alloc.Global.{Global}
 use Rattle.crossbeam_channel.specs.Claims.{Pass, view}
@@ -29,9 +29,17 @@ put_said p = said (view p).put
 abbrev pub taken_said : Pass Parcel Seen → List (Option Bytes)
 taken_said p = said (view p).taken
 
+-- a parcel that went stands behind those put before; one that is handed back isn't put
+abbrev pub IsPutOrHandedBack : Pass Parcel Seen → Pass Parcel Seen → Parcel → Result (Unit {0}) Parcel → Type 0
+IsPutOrHandedBack p q parcel result = MatchResult result (λ _. (view q).put ≡ (view p).put ++ parcel ∷ []) (λ back. (back ≡ parcel) × ((view q).put ≡ (view p).put))
+
 -- the messages alone
 abbrev pub messages : List (Option Bytes) → List Bytes
 messages = flat_map option_to_list
+
+-- the message that was given stands behind those before; at None there are no more
+abbrev pub IsMessageAdded : List Bytes → List Bytes → Option (Vec ℕ Global) → Type 0
+IsMessageAdded before after given = MatchOption given (after ≡ before) (λ text. after ≡ before ++ text.items ∷ [])
 
 -- messages on their way
 abbrev pub on_way : List Bytes → List (Option Bytes)

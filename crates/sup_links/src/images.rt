@@ -1,9 +1,9 @@
 //! What a link lets through, of the whole list that was sent.
 
-ghost use Rattle.std.specs.Prelude.{◌≡◌, ℕ, ◌+◌, ◌++◌, ◌∷◌, [], List, length, IfOk, OnOk};
-ghost use Rattle.sup_links.specs.Image.{verdict, copies, behind, image as image_of};
+ghost use Rattle.std.specs.Prelude.{◌≡◌, ℕ, ◌+◌, ◌++◌, ◌∷◌, [], List, IfOk, OnOk};
+ghost use Rattle.sup_links.specs.Image.{verdict, copies, brought_out, image as image_of};
 ghost use Rattle.sup_links.specs.Texts.{Bytes, texts};
-ghost use Rattle.sup_links.specs.Waiting.{waiting, held_back, counted, due, kept};
+ghost use Rattle.sup_links.specs.Waiting.{waiting, held_back, counted_with, leaving, due, kept};
 ghost use Rattle.sup_links.specs.declared.script.Verdict.{Verdict};
 
 use crate::held::{Held, count_down, keep_waiting};
@@ -95,8 +95,8 @@ fn push_message(
     verdict: Verdict,
     text: &[u8],
 ) -> Result<(), AllocError>
-    ensures out { OnOk result (texts out.new.items ≡ texts out.old.items ++ (copies verdict (text.now ∷ []) ++ due (counted (waiting held.old.items ++ held_back verdict text.now)))) }
-    ensures held { OnOk result (waiting held.new.items ≡ kept (counted (waiting held.old.items ++ held_back verdict text.now))) }
+    ensures out { OnOk result (texts out.new.items ≡ texts out.old.items ++ leaving held.old.items verdict text.now) }
+    ensures held { OnOk result (waiting held.new.items ≡ kept (counted_with held.old.items verdict text.now)) }
 {
     push_copies(alloc, out, verdict, text)?;
     hold_back(alloc, held, verdict, text)?;
@@ -140,5 +140,5 @@ pub(crate) fn image_row()
 
 // What one message more brings out: its own copies, and then what is released behind it.
 pub(crate) fn image_grows()
-    ensures { (script : List Verdict) (sent : List Bytes) (m : Bytes) → image_of script (sent ++ m ∷ []) ≡ image_of script sent ++ (copies (verdict script (length sent + 1)) (m ∷ []) ++ behind script (sent ++ m ∷ []) (length sent + 1) (length sent + 1)) }
+    ensures { (script : List Verdict) (l : List Bytes) (m : Bytes) → image_of script (l ++ m ∷ []) ≡ image_of script l ++ brought_out script l m }
 {}

@@ -23,10 +23,10 @@ pub struct LinkOut {
 }
 
 impl LinkOut {
-    ghost use Rattle.std.specs.Prelude.{◌≡◌, ◌++◌, ◌∷◌, [], true, false, Ok, Err, Some, None, IfOk, OnErr, MatchOption};
+    ghost use Rattle.std.specs.Prelude.{◌≡◌, [], true, false, Ok, Err, Some, None, IfOk, OnErr, MatchOption};
     ghost use Rattle.crossbeam_channel.specs.Ends.{receives_on};
     ghost use Rattle.sup_links.specs.Image.{image};
-    ghost use Rattle.sup_links.specs.Texts.{IsFront};
+    ghost use Rattle.sup_links.specs.Texts.{IsFront, IsMessageAdded};
     ghost use Rattle.sup_links.specs.Ends.{taken_of, has_ended, SameOut, IsSentTo, sent_script, sent_put};
 
     pub(crate) fn new(exit: Exit) -> LinkOut
@@ -46,7 +46,7 @@ impl LinkOut {
     pub fn take<R: Wait>(&mut self, rt: &R) -> Result<Option<Vec<u8>>, Closed>
         ensures link { SameOut self.old self.new }
         // A message.
-        ensures taken { IfOk result (λ given. MatchOption given (taken_of self.new ≡ taken_of self.old) (λ text. taken_of self.new ≡ taken_of self.old ++ text.items ∷ [])) }
+        ensures taken { IfOk result (λ given. IsMessageAdded (taken_of self.old) (taken_of self.new) given) }
         ensures goes_on { IfOk result (λ given. MatchOption given (has_ended self.new ≡ true) (λ _. has_ended self.new ≡ false)) }
         // None.
         ensures stays_ended { has_ended self.old ≡ true → result ≡ Ok None }

@@ -1,9 +1,10 @@
 //! The two ends of the channel: what was taken is a beginning of what was put.
-ghost use Rattle.std.specs.Prelude.{◌≡◌, ◌<◌, ◌+◌, length, ◌++◌, [], ◌∷◌, List, true, false, IfOk, option_to_list, IfSome, MatchResult};
+ghost use Rattle.std.specs.Prelude.{◌≡◌, ◌<◌, ◌+◌, length, ◌++◌, [], List, true, false, IfOk, option_to_list, IfSome};
 ghost use Rattle.crossbeam_channel.specs.Claims.{view, IsSeatAt};
 ghost use Rattle.crossbeam_channel.specs.Ends.{sends_on, receives_on, ruled_capacity};
 ghost use Rattle.crossbeam_channel.specs.Err.{send_message};
 ghost use Rattle.sup_links.specs.Relay.{log};
+ghost use Rattle.sup_links.specs.Texts.{IsPutOrHandedBack};
 ghost use Rattle.sup_links.specs.declared.channel.Parcel.{Parcel};
 
 use crate::channel::{
@@ -52,7 +53,7 @@ impl Entry {
     /// Handed back where the other end is gone.
     pub fn put<R: Wait>(&mut self, rt: &R, parcel: Parcel) -> Result<(), Parcel>
         ensures end { self.new.end ≡ self.old.end }
-        ensures put { MatchResult result (λ _. (view self.new.pass).put ≡ (view self.old.pass).put ++ parcel ∷ []) (λ p. (p ≡ parcel) × ((view self.new.pass).put ≡ (view self.old.pass).put)) }
+        ensures put { IsPutOrHandedBack self.old.pass self.new.pass parcel result }
     {
         let Entry { end, pass } = self;
         match end.send_as::<Puts, R>(rt, pass, parcel) {
