@@ -1,8 +1,7 @@
 //! Jobs that run at once, each in a thread of its own, where their number is known only at run time.
 //!
 //! What each job gave is known by what the work says of it, place by place: `run_all` gives a result for each job, in the order of the
-//! jobs, `run_beside` one more, of a job that the calling thread does meanwhile, and `run_teams` the results of jobs that come in teams,
-//! team by team. Jobs may wait for one another, since none begins only where another one has ended: a thread that can't be made is refused.
+//! jobs, and `run_teams` the results of jobs that come in teams, team by team. Jobs may wait for one another, since none begins only where another one has ended: a thread that can't be made is refused.
 //!
 //! ```rust
 //! use sup_crew::{Work, run_all};
@@ -25,7 +24,6 @@
 #![tactic(auto)]
 
 mod all;
-mod beside;
 mod starts;
 mod team;
 mod team_threads;
@@ -33,7 +31,6 @@ mod teams;
 mod work;
 
 pub use all::run_all;
-pub use beside::run_beside;
 pub use team::Team;
 pub use teams::run_teams;
 pub use work::Work;

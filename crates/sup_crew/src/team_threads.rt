@@ -17,32 +17,8 @@ pub(crate) type TeamThreads<K, U, J, T, W> = Team<
     PromisedHandle<T, Given<J, W>>,
 >;
 
-// Starts a thread of the scope for each job of the team. Refused where one can't be made: the jobs that have none are dropped, and the
+// Starts a thread of the scope for each job of each team. Refused where one can't be made: the jobs that have none are dropped, and the
 // threads that run are left to the scope.
-fn start_team<
-    's,
-    E: 's,
-    K: Send + Drop + 's,
-    U: Send + Drop + 's,
-    J: Send + Drop + 's,
-    T: Send + Drop + 's,
-    W: Work<K, U> + Work<J, T> + Sync + 's,
->(
-    scope: &Scope<'s, E>,
-    alloc: Global,
-    team: Team<K, J>,
-    work: &'s W,
-) -> Result<TeamThreads<K, U, J, T, W>, AllocError>
-    requires { AllOfTeam (W.Work-1.takes work.now) (W.Work-2.takes work.now) team }
-    ensures { IfOk result (λ threads. TeamZip (IsFor work.now) (IsFor work.now) team threads) }
-{
-    let Team { lead, others } = team;
-    let lead = start(scope, lead, work)?;
-    let others = start_all(scope, alloc, others, work)?;
-    Ok(Team { lead, others })
-}
-
-// Starts a thread of the scope for each job of each team. Refused as `start_team` is.
 pub(crate) fn start_teams<
     's,
     E: 's,
@@ -62,8 +38,10 @@ pub(crate) fn start_teams<
 {
     let mut started = Vec::with_capacity(alloc, teams.len())?;
     for team in teams {
-        let threads = start_team(scope, alloc, team, work)?;
-        started.push(threads)?;
+        let Team { lead, others } = team;
+        let lead = start(scope, lead, work)?;
+        let others = start_all(scope, alloc, others, work)?;
+        started.push(Team { lead, others })?;
     }
     Ok(started)
 }

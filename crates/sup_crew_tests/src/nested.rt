@@ -1,13 +1,14 @@
 //! Threads that start threads, over one field that they share.
-ghost use Rattle.std.specs.Prelude.{◌≡◌, ⊤, IfOk, length};
+ghost use Rattle.std.specs.Prelude.{◌≡◌, ⊤, IfOk};
 ghost use Rattle.std.specs.List.{AllZip, slice_get};
 ghost use Rattle.std.specs.Thread.{IsSync};
+ghost use Rattle.sup_crew_tests.specs.Weights.{AreWeightsAt};
 
 use std::alloc::{AllocError, Global};
 use std::process::Abort;
 use std::sync::Wait;
 use std::thread::Threads;
-use sup_crew::{Work, run_all, run_beside};
+use sup_crew::{Work, run_all};
 
 // What all threads look at.
 #[derive(Drop)]
@@ -17,60 +18,41 @@ struct Field<'a, R> {
     weights: &'a [u64],
 }
 
-// Asks for the weight at a place.
-#[derive(Drop)]
-struct Place(usize);
-
-// Asks how many weights there are.
-#[derive(Drop)]
-struct Count;
-
-// Asks for the weights at places, each in a thread of its own, and for their count.
+// Asks for the weights at places, each in a thread of its own.
 #[derive(Drop)]
 struct Team {
-    places: Vec<Place>,
+    places: Vec<usize>,
 }
 
-// The weights at the places of a team, and the count of all weights.
-type Found = Result<(Vec<Option<u64>>, usize), AllocError>;
+// The weights at the places of a team.
+type Found = Result<Vec<Option<u64>>, AllocError>;
 
-impl<'a, R> Work<Place, Option<u64>> for Field<'a, R> {
+// Asked for the weight at a place.
+impl<'a, R> Work<usize, Option<u64>> for Field<'a, R> {
     ghost takes = { λ field place. ⊤ };
 
-    ghost gives = { λ field place weight. weight ≡ slice_get field.weights.now place.0 };
+    ghost gives = { λ field place weight. weight ≡ slice_get field.weights.now place };
 
-    fn run(&self, place: Place) -> Option<u64> {
-        self.weights.get(place.0).copied()
+    fn run(&self, place: usize) -> Option<u64> {
+        self.weights.get(place).copied()
     }
 }
 
-impl<'a, R> Work<Count, usize> for Field<'a, R> {
-    ghost takes = { λ field ask. ⊤ };
-
-    ghost gives = { λ field ask count. count ≡ length field.weights.now };
-
-    fn run(&self, _ask: Count) -> usize {
-        self.weights.len()
-    }
-}
-
-impl<'a, R: Threads + Wait + Sync> Work<Team, Result<(Vec<Option<u64>>, usize), AllocError>>
+impl<'a, R: Threads + Wait + Sync> Work<Team, Result<Vec<Option<u64>>, AllocError>>
     for Field<'a, R> {
     ghost takes = { λ field team. IsSync R.row };
 
-    ghost gives = { λ field team found. IfOk found (λ r. AllZip (λ place weight. weight ≡ slice_get field.weights.now place.0) team.places.items r.0.items × (r.1 ≡ length field.weights.now)) };
+    ghost gives = { λ field team found. IfOk found (λ r. AreWeightsAt field.weights.now team.places.items r.items) };
 
     fn run(&self, team: Team) -> Found {
-        run_beside(self.rt, self.alloc, team.places, Count, self)
+        run_all(self.rt, self.alloc, team.places, self)
     }
 }
 
 fn team_of(rt: &(impl Abort + AllocGlobal), places: &[usize]) -> Team {
-    let mut all = Vec::new(rt.alloc());
-    for place in places {
-        all.push(Place(*place)).expect(rt, "room");
+    Team {
+        places: places.to_vec(rt.alloc()).expect(rt, "room"),
     }
-    Team { places: all }
 }
 
 // The weights at the places of each team, in the order of the teams.
@@ -80,7 +62,7 @@ fn find_all<R: Threads + Wait + Sync>(
     weights: &[u64],
     teams: Vec<Team>,
 ) -> Result<Vec<Found>, AllocError>
-    ensures { IfOk result (λ all. AllZip (λ team found. IfOk found (λ r. AllZip (λ place weight. weight ≡ slice_get weights.now place.0) team.places.items r.0.items × (r.1 ≡ length weights.now))) teams.items all.items) }
+    ensures { IfOk result (λ all. AllZip (λ team found. IfOk found (λ r. AreWeightsAt weights.now team.places.items r.items)) teams.items all.items) }
 {
     run_all(rt, alloc, teams, &Field { rt, alloc, weights })
 }
@@ -93,8 +75,7 @@ fn threads_start_threads_over_one_field(rt: HostRuntime) {
     teams.push(team_of(&rt, &[3, 1, 1])).expect(&rt, "room");
     let mut found = Vec::new(rt.alloc());
     for done in find_all(&rt, rt.alloc(), &[10, 20, 30], teams).expect(&rt, "room") {
-        let (weights, count) = done.expect(&rt, "room");
-        assert!(rt; count == 3);
+        let weights = done.expect(&rt, "room");
         found.push(weights).expect(&rt, "room");
     }
     assert!(rt; found.len() == 3);

@@ -1,7 +1,7 @@
 //! Results come in the order of the jobs, which may borrow.
 ghost use Rattle.std.specs.Prelude.{◌≡◌, ⊤, ◌*◌, length};
 
-use sup_crew::{Work, run_all, run_beside};
+use sup_crew::{Work, run_all};
 
 struct Doubles;
 
@@ -12,16 +12,6 @@ impl Work<u32, u64> for Doubles {
 
     fn run(&self, job: u32) -> u64 {
         2 * job as u64
-    }
-}
-
-impl Work<(), bool> for Doubles {
-    ghost takes = { λ work job. ⊤ };
-
-    ghost gives = { λ work job done. ⊤ };
-
-    fn run(&self, _job: ()) -> bool {
-        true
     }
 }
 
@@ -45,26 +35,10 @@ fn results_come_in_the_order_of_the_jobs(rt: HostRuntime) {
 }
 
 #[test]
-fn the_results_of_the_threads_stand_beside_the_own_one(rt: HostRuntime) {
-    let jobs = [5, 3, 9].to_vec(rt.alloc()).expect(&rt, "room");
-    let (done, own) = run_beside(&rt, rt.alloc(), jobs, (), &Doubles).expect(&rt, "room");
-    assert!(rt; done.as_slice() == [10, 6, 18].as_slice());
-    assert!(rt; own);
-}
-
-#[test]
 fn of_no_jobs_there_are_no_results(rt: HostRuntime) {
     let jobs: Vec<u32> = Vec::new(rt.alloc());
     let done = run_all(&rt, rt.alloc(), jobs, &Doubles).expect(&rt, "room");
     assert!(rt; done.is_empty());
-}
-
-#[test]
-fn beside_no_jobs_the_own_one_runs(rt: HostRuntime) {
-    let jobs: Vec<u32> = Vec::new(rt.alloc());
-    let (done, own) = run_beside(&rt, rt.alloc(), jobs, (), &Doubles).expect(&rt, "room");
-    assert!(rt; done.is_empty());
-    assert!(rt; own);
 }
 
 #[test]

@@ -3,7 +3,7 @@ ghost use Rattle.std.specs.Prelude.{⊤};
 
 use crossbeam_channel::{Receiver, Sender, unbounded};
 use std::sync::Wait;
-use sup_crew::{Team, Work, run_all, run_beside, run_teams};
+use sup_crew::{Team, Work, run_all, run_teams};
 
 #[derive(Drop)]
 enum Side {
@@ -38,35 +38,6 @@ fn a_job_waits_for_the_one_behind_it(rt: HostRuntime) {
     jobs.push(Side::Tells(to)).expect(&rt, "room");
     let done = run_all(&rt, rt.alloc(), jobs, &Talks { rt: &rt }).expect(&rt, "room");
     assert!(rt; done.as_slice() == [Some(7), Some(7)].as_slice());
-}
-
-#[test]
-fn a_thread_waits_for_the_own_job(rt: HostRuntime) {
-    let (to, from) = unbounded(rt.alloc()).expect(&rt, "room");
-    let (further_to, further_from) = unbounded(rt.alloc()).expect(&rt, "room");
-    let mut jobs = Vec::new(rt.alloc());
-    jobs.push(Side::Hears(from)).expect(&rt, "room");
-    jobs.push(Side::Tells(further_to)).expect(&rt, "room");
-    let own = Side::Tells(to);
-    let (done, own) = run_beside(&rt, rt.alloc(), jobs, own, &Talks { rt: &rt }).expect(
-        &rt, "room",
-    );
-    assert!(rt; done.as_slice() == [Some(7), Some(7)].as_slice());
-    assert!(rt; own == Some(7));
-    assert!(rt; further_from.recv(&rt) == Ok(7));
-}
-
-#[test]
-fn the_own_job_waits_for_a_thread(rt: HostRuntime) {
-    let (to, from) = unbounded(rt.alloc()).expect(&rt, "room");
-    let mut jobs = Vec::new(rt.alloc());
-    jobs.push(Side::Tells(to)).expect(&rt, "room");
-    let own = Side::Hears(from);
-    let (done, own) = run_beside(&rt, rt.alloc(), jobs, own, &Talks { rt: &rt }).expect(
-        &rt, "room",
-    );
-    assert!(rt; done.as_slice() == [Some(7)].as_slice());
-    assert!(rt; own == Some(7));
 }
 
 #[test]

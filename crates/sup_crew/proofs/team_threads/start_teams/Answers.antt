@@ -11,5 +11,5 @@ loop-team-preserved g c = (
   append_assoc c.loop-team.yielded (c.in-Some.team ∷ []) c.next.new.self.rest.items ∙ (ap (λ l. c.loop-team.yielded ++ l) (sym (search rules)) ∙ c.loop-team.invariant.0),
   All-rest (AllOfTeam (g.W.Work-1.takes c.args.work.now) (g.W.Work-2.takes c.args.work.now)) c.in-Some.team _ _ (search rules) c.loop-team.invariant.1,
   subst (AllZip (TeamZip (IsFor c.args.work.now) (IsFor c.args.work.now)) (c.loop-team.yielded ++ c.in-Some.team ∷ [])) (sym (search rules))
-      (all_zipped_more (TeamZip (IsFor c.args.work.now) (IsFor c.args.work.now)) c.loop-team.yielded c.loop-team.started.items c.in-Some.team c.in_ok-threads.threads c.loop-team.invariant.2 c.in_ok-threads.ensures),
+      (all_zipped_more (TeamZip (IsFor c.args.work.now) (IsFor c.args.work.now)) c.loop-team.yielded c.loop-team.started.items c.in-Some.team (record { lead = c.in_ok-lead.lead; others = c.in_ok-others.others }) c.loop-team.invariant.2 (c.in_ok-lead.ensures, c.in_ok-others.ensures)),
 )
