@@ -1,5 +1,6 @@
 -- What a node answers to a line (this project's line protocol).
 use Rattle.std.specs.Prelude.{◌≡◌, ℕ, Bool, List, Option, Some, None, Result}
+use Rattle.std.specs.declared.vec.Vec.{Vec}
 use Rattle.std.specs.Option.{option_map}
 use Rattle.std.specs.List.{flat_map}
 use Rattle.std.specs.Prelude.{IsPermutation, IsSorted}
@@ -36,8 +37,8 @@ abbrev pub known : Bytes → KeptStation → List Bytes → Bool → AnsweringNo
 known name still peers lost = record { name = name; kept_station = still; peers = peers; lost = lost }
 
 -- the node of this name with this station, where this is what its keeper keeps and whether that has lost it
-abbrev pub known_at : {K W : Type 0} {g : _} {h : _} → (K → Bytes) → (K → Bool) → Bytes → Code K W g h → List Bytes → AnsweringNode
-known_at kept lost name station peers = known name (kept_station_of kept station) peers (lost (keeper_of station))
+abbrev pub node_at : {K W Z : Type 0} {g : _} {h : _} → (K → Bytes) → (K → Bool) → Bytes → Code K W g h → Vec Bytes Z → AnsweringNode
+node_at kept lost name station peers = known name (kept_station_of kept station) peers.items (lost (keeper_of station))
 
 -- what its node shows, and nothing while that is down
 abbrev pub shown_by : KeptStation → Option Shown

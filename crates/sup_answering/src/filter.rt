@@ -5,7 +5,7 @@ ghost use Rattle.sup_station.specs.KeptStations.{AnswersAct, kept_station_of};
 ghost use Rattle.sup_node_text.specs.Shown.{show_text, where_text};
 ghost use Rattle.sup_told.specs.Told.{ended_text};
 ghost use Rattle.sup_answering.specs.Heard.{HearsPeers, with_peer};
-ghost use Rattle.sup_answering.specs.AnsweringNodes.{AnswersAsked, IsDone, IsInspectedBy, known_at, members_of, shown_at};
+ghost use Rattle.sup_answering.specs.AnsweringNodes.{AnswersAsked, IsDone, IsInspectedBy, node_at, members_of, shown_at};
 
 use crate::members::members_of;
 use crate::peers::{acknowledger, in_order, is_acked};
@@ -37,8 +37,8 @@ impl<K: ImageKeeper, W: Weigh + Drop> Filter<K, W> {
     ///
     /// Where memory for the text was refused. What is asked for may be done then.
     pub fn answer_asked(&mut self, asked: Option<Asked>) -> Result<Vec<u8>, AllocError>
-        ensures { IfOk result (λ text. AnswersAsked W.weight_of (known_at K.kept K.lost self.old.name self.old.station self.old.peers.items) asked text.items
-            (known_at K.kept K.lost self.new.name self.new.station self.new.peers.items)) }
+        ensures { IfOk result (λ text. AnswersAsked W.weight_of (node_at K.kept K.lost self.old.name self.old.station self.old.peers) asked text.items
+            (node_at K.kept K.lost self.new.name self.new.station self.new.peers)) }
     {
         match asked {
             None => bad_text(self.alloc),
@@ -53,8 +53,8 @@ impl<K: ImageKeeper, W: Weigh + Drop> Filter<K, W> {
 
     // Does an event, and tells its end.
     fn answer_event(&mut self, event: Event, now: u64) -> Result<Vec<u8>, AllocError>
-        ensures { IfOk result (λ text. IsDone W.weight_of (known_at K.kept K.lost self.old.name self.old.station self.old.peers.items) event now text.items
-            (known_at K.kept K.lost self.new.name self.new.station self.new.peers.items)) }
+        ensures { IfOk result (λ text. IsDone W.weight_of (node_at K.kept K.lost self.old.name self.old.station self.old.peers) event now text.items
+            (node_at K.kept K.lost self.new.name self.new.station self.new.peers)) }
     {
         let act = Act::Event(event);
         let end = self.step(&act, now);
@@ -108,7 +108,7 @@ impl<K: ImageKeeper, W: Weigh + Drop> Filter<K, W> {
     }
 
     fn inspect(&self) -> Result<Vec<u8>, AllocError>
-        ensures { IfOk result (λ text. IsInspectedBy W.weight_of (known_at K.kept K.lost self.now.name self.now.station self.now.peers.items) text.items) }
+        ensures { IfOk result (λ text. IsInspectedBy W.weight_of (node_at K.kept K.lost self.now.name self.now.station self.now.peers) text.items) }
     {
         let peers = in_order(self.alloc, self.peers.as_slice())?;
         let lines = inspect_text(
