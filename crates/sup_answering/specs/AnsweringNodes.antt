@@ -1,5 +1,6 @@
 -- What a node answers to a line (this project's line protocol).
 use Rattle.std.specs.Prelude.{◌≡◌, ℕ, Bool, List, Option, Some, None, Result}
+use Rattle.std.specs.declared.vec.Vec.{Vec}
 use Rattle.std.specs.Option.{option_map}
 use Rattle.std.specs.List.{flat_map}
 use Rattle.std.specs.Prelude.{IsPermutation, IsSorted}
@@ -17,7 +18,8 @@ use Rattle.sup_replica.specs.declared.refusal.Refusal.{Refusal}
 use Rattle.sup_node_text.specs.Lines.{member_line}
 use Rattle.sup_node_text.specs.Shown.{Shown, shown_of, show_text, where_text, down_text}
 use Rattle.sup_node_text.specs.Inspected.{IsInspected}
-use Rattle.sup_station.specs.KeptStations.{KeptStation, AnswersAct}
+use Rattle.sup_station.specs.declared.station.Station.{Station as Code}
+use Rattle.sup_station.specs.KeptStations.{KeptStation, kept_station_of, keeper_of, AnswersAct}
 use Rattle.sup_told.specs.Told.{told_text, ended_text, bad_text}
 use Rattle.sup_asked.specs.Asking.{asked_of}
 use Rattle.sup_asked.specs.declared.asked.Asked.{Asked}
@@ -34,9 +36,17 @@ pub record AnsweringNode : Type 0 where
 abbrev pub known : Bytes → KeptStation → List Bytes → Bool → AnsweringNode
 known name still peers lost = record { name = name; kept_station = still; peers = peers; lost = lost }
 
+-- the node of this name with this station, where this is what its keeper keeps and whether that has lost it
+abbrev pub node_at : {K W Z : Type 0} {g : _} {h : _} → (K → Bytes) → (K → Bool) → Bytes → Code K W g h → Vec Bytes Z → AnsweringNode
+node_at kept lost name station peers = known name (kept_station_of kept station) peers.items (lost (keeper_of station))
+
 -- what its node shows, and nothing while that is down
 abbrev pub shown_by : KeptStation → Option Shown
 shown_by s = option_map shown_of s.node
+
+-- of a station, where this is what its keeper keeps
+abbrev pub shown_at : {K W : Type 0} {g : _} {h : _} → (K → Bytes) → Code K W g h → Option Shown
+shown_at kept station = shown_by (kept_station_of kept station)
 
 -- the lines of the members alone
 abbrev pub members_text : List Row → List ℕ

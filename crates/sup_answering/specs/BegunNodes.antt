@@ -12,7 +12,8 @@ use Rattle.sup_replica.specs.declared.done.Done.{Done}
 use Rattle.sup_replica.specs.declared.done.Reply.TheVariants.{Boot}
 use Rattle.sup_replica.specs.declared.refusal.Refusal.TheVariants.{BadMessage}
 use Rattle.sup_node.specs.Texts.{IsImageReadAs}
-use Rattle.sup_station.specs.KeptStations.{KeptStation, AnswersAct, RefusesAct}
+use Rattle.sup_station.specs.declared.station.Station.{Station as Code}
+use Rattle.sup_station.specs.KeptStations.{KeptStation, kept_station_of, AnswersAct, RefusesAct}
 use Rattle.sup_station.specs.OpenedStations.{OpensStation, IsKeepRefusal}
 use Rattle.sup_told.specs.Told.{told_text}
 use Rattle.sup_answering.specs.declared.begin.BeginFault.{BeginFault}
@@ -30,6 +31,10 @@ first_done = record { reply = Boot 1; effects = []; out = None }
 abbrev pub BeginsNode : Weigher → Bool → Bytes → Config → Bytes → KeptStation → List ℕ → Type 0
 BeginsNode weigher true name config kept after text = OpensStation name config after × (text ≡ told_text (Ok first_done))
 BeginsNode weigher false name config kept after text = (done : Done) × AnswersAct weigher (stopped name config kept) Restart 0 (Ok done) after × (text ≡ told_text (Ok done))
+
+-- the same of a station, where this is what its keeper keeps and what the one that it was given kept
+abbrev pub BeginsStation : {K W : Type 0} {g : _} {h : _} → (K → Bytes) → Weigher → Bool → Bytes → Config → K → Code K W g h → List ℕ → Type 0
+BeginsStation kept weigher is_new name config keeper station text = BeginsNode weigher is_new name config (kept keeper) (kept_station_of kept station) text
 
 -- the bytes are read as an image of another node
 abbrev pub IsOthersImage : Bytes → Bytes → Type 0

@@ -3,7 +3,7 @@
 ghost use Rattle.std.specs.Prelude.{◌≡◌, [], true, false, Ok, IfOk, IfErr};
 ghost use Rattle.sup_station.specs.KeptStations.{kept_station_of};
 ghost use Rattle.sup_told.specs.Told.{told_text};
-ghost use Rattle.sup_answering.specs.BegunNodes.{BeginsNode, IsImageFault, IsNoBegin};
+ghost use Rattle.sup_answering.specs.BegunNodes.{BeginsStation, IsImageFault, IsNoBegin};
 
 use crate::filter::Filter;
 use std::alloc::{AllocError, Global};
@@ -66,7 +66,7 @@ pub fn begin<K: ImageKeeper, W: Weigh + Drop>(
     is_new: bool,
     weigher: W,
 ) -> Result<Begun<K, W>, BeginFault>
-    ensures begins { IfOk result (λ b. BeginsNode W.weight_of is_new name config (K.kept keeper) (kept_station_of K.kept b.filter.station) b.first.items) }
+    ensures begins { IfOk result (λ b. BeginsStation K.kept W.weight_of is_new name config keeper b.filter.station b.first.items) }
     ensures name { IfOk result (λ b. b.filter.name ≡ name) }
     ensures peers { IfOk result (λ b. b.filter.peers.items ≡ []) }
     ensures fault { IfErr result (λ fault. IsNoBegin W.weight_of name config (K.kept keeper) fault) }
@@ -86,7 +86,7 @@ fn open<K: ImageKeeper, W: Weigh + Drop>(
     keeper: K,
     weigher: W,
 ) -> Result<Begun<K, W>, BeginFault>
-    ensures begins { IfOk result (λ b. BeginsNode W.weight_of true name config (K.kept keeper) (kept_station_of K.kept b.filter.station) b.first.items) }
+    ensures begins { IfOk result (λ b. BeginsStation K.kept W.weight_of true name config keeper b.filter.station b.first.items) }
     ensures name { IfOk result (λ b. b.filter.name ≡ name) }
     ensures peers { IfOk result (λ b. b.filter.peers.items ≡ []) }
     ensures fault { IfErr result (λ fault. IsNoBegin W.weight_of name config (K.kept keeper) fault) }
@@ -111,7 +111,7 @@ fn go_on<K: ImageKeeper, W: Weigh + Drop>(
     keeper: K,
     weigher: W,
 ) -> Result<Begun<K, W>, BeginFault>
-    ensures begins { IfOk result (λ b. BeginsNode W.weight_of false name config (K.kept keeper) (kept_station_of K.kept b.filter.station) b.first.items) }
+    ensures begins { IfOk result (λ b. BeginsStation K.kept W.weight_of false name config keeper b.filter.station b.first.items) }
     ensures name { IfOk result (λ b. b.filter.name ≡ name) }
     ensures peers { IfOk result (λ b. b.filter.peers.items ≡ []) }
     ensures fault { IfErr result (λ fault. IsNoBegin W.weight_of name config (K.kept keeper) fault) }

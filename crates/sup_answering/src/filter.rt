@@ -1,11 +1,11 @@
 //! A station that answers lines.
 
 ghost use Rattle.std.specs.Prelude.{◌≡◌, IfOk, OnOk};
-ghost use Rattle.sup_station.specs.KeptStations.{AnswersAct, keeper_of, kept_station_of};
+ghost use Rattle.sup_station.specs.KeptStations.{AnswersAct, kept_station_of};
 ghost use Rattle.sup_node_text.specs.Shown.{show_text, where_text};
 ghost use Rattle.sup_told.specs.Told.{ended_text};
 ghost use Rattle.sup_answering.specs.Heard.{HearsPeers, with_peer};
-ghost use Rattle.sup_answering.specs.AnsweringNodes.{AnswersAsked, IsDone, IsInspectedBy, known, members_of, shown_by};
+ghost use Rattle.sup_answering.specs.AnsweringNodes.{AnswersAsked, IsDone, IsInspectedBy, node_at, members_of, shown_at};
 
 use crate::members::members_of;
 use crate::peers::{acknowledger, in_order, is_acked};
@@ -37,8 +37,8 @@ impl<K: ImageKeeper, W: Weigh + Drop> Filter<K, W> {
     ///
     /// Where memory for the text was refused. What is asked for may be done then.
     pub fn answer_asked(&mut self, asked: Option<Asked>) -> Result<Vec<u8>, AllocError>
-        ensures { IfOk result (λ text. AnswersAsked W.weight_of (known self.old.name (kept_station_of K.kept self.old.station) self.old.peers.items (K.lost (keeper_of self.old.station))) asked text.items
-            (known self.new.name (kept_station_of K.kept self.new.station) self.new.peers.items (K.lost (keeper_of self.new.station)))) }
+        ensures { IfOk result (λ text. AnswersAsked W.weight_of (node_at K.kept K.lost self.old.name self.old.station self.old.peers) asked text.items
+            (node_at K.kept K.lost self.new.name self.new.station self.new.peers)) }
     {
         match asked {
             None => bad_text(self.alloc),
@@ -53,8 +53,8 @@ impl<K: ImageKeeper, W: Weigh + Drop> Filter<K, W> {
 
     // Does an event, and tells its end.
     fn answer_event(&mut self, event: Event, now: u64) -> Result<Vec<u8>, AllocError>
-        ensures { IfOk result (λ text. IsDone W.weight_of (known self.old.name (kept_station_of K.kept self.old.station) self.old.peers.items (K.lost (keeper_of self.old.station))) event now text.items
-            (known self.new.name (kept_station_of K.kept self.new.station) self.new.peers.items (K.lost (keeper_of self.new.station)))) }
+        ensures { IfOk result (λ text. IsDone W.weight_of (node_at K.kept K.lost self.old.name self.old.station self.old.peers) event now text.items
+            (node_at K.kept K.lost self.new.name self.new.station self.new.peers)) }
     {
         let act = Act::Event(event);
         let end = self.step(&act, now);
@@ -101,14 +101,14 @@ impl<K: ImageKeeper, W: Weigh + Drop> Filter<K, W> {
     }
 
     fn show(&self) -> Result<Vec<u8>, AllocError>
-        ensures { IfOk result (λ text. text.items ≡ ended_text (show_text W.weight_of self.now.name (shown_by (kept_station_of K.kept self.now.station)))) }
+        ensures { IfOk result (λ text. text.items ≡ ended_text (show_text W.weight_of self.now.name (shown_at K.kept self.now.station))) }
     {
         let lines = show_text(self.alloc, &self.name, self.station.node(), &self.weigher)?;
         ended_text(lines)
     }
 
     fn inspect(&self) -> Result<Vec<u8>, AllocError>
-        ensures { IfOk result (λ text. IsInspectedBy W.weight_of (known self.now.name (kept_station_of K.kept self.now.station) self.now.peers.items (K.lost (keeper_of self.now.station))) text.items) }
+        ensures { IfOk result (λ text. IsInspectedBy W.weight_of (node_at K.kept K.lost self.now.name self.now.station self.now.peers) text.items) }
     {
         let peers = in_order(self.alloc, self.peers.as_slice())?;
         let lines = inspect_text(
@@ -138,7 +138,7 @@ impl<K: ImageKeeper, W: Weigh + Drop> Filter<K, W> {
     }
 
     fn lead(&self, sought: &Name) -> Result<Vec<u8>, AllocError>
-        ensures { IfOk result (λ text. text.items ≡ ended_text (where_text W.weight_of self.now.name (shown_by (kept_station_of K.kept self.now.station)) sought.now)) }
+        ensures { IfOk result (λ text. text.items ≡ ended_text (where_text W.weight_of self.now.name (shown_at K.kept self.now.station) sought.now)) }
     {
         let lines = where_text(
             self.alloc,

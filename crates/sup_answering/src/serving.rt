@@ -1,7 +1,6 @@
 //! A node that answers until its host says no more.
 
-ghost use Rattle.sup_station.specs.KeptStations.{keeper_of, kept_station_of};
-ghost use Rattle.sup_answering.specs.AnsweringNodes.{known};
+ghost use Rattle.sup_answering.specs.AnsweringNodes.{node_at};
 ghost use Rattle.sup_answering.specs.ServedHosts.{ServesHost};
 
 use crate::filter::Filter;
@@ -23,8 +22,8 @@ pub fn serve<K: ImageKeeper, W: Weigh + Drop, H: Host>(
     first: &[u8],
     host: &mut H,
 ) -> Result<TalkEnd, TalkFault>
-    ensures { ServesHost W.weight_of LINE_LIMIT (known filter.old.name (kept_station_of K.kept filter.old.station) filter.old.peers.items (K.lost (keeper_of filter.old.station)))
-        (known filter.new.name (kept_station_of K.kept filter.new.station) filter.new.peers.items (K.lost (keeper_of filter.new.station))) first.now (H.seen host.old) (H.seen host.new) result }
+    ensures { ServesHost W.weight_of LINE_LIMIT (node_at K.kept K.lost filter.old.name filter.old.station filter.old.peers)
+        (node_at K.kept K.lost filter.new.name filter.new.station filter.new.peers) first.now (H.seen host.old) (H.seen host.new) result }
 {
     match host.tell(first) {
         Ok(()) => talk(alloc, filter, host),

@@ -1,6 +1,7 @@
 -- What a call of a run's thread does to its pass.
-use Rattle.std.specs.Prelude.{◌≡◌, ℕ, false, List, [], ◌∷◌, ◌++◌, length, map, flat_map, Option, None, Ok, Err}
+use Rattle.std.specs.Prelude.{◌≡◌, ℕ, Bool, false, List, [], ◌∷◌, ◌++◌, length, map, flat_map, Option, None, Ok, Err}
 use mathlib.Core.Option.{some}
+use Rattle.sup_specs.specs.Values.{Bytes}
 use Rattle.sup_placement.specs.Place.{Weigher}
 use Rattle.sup_local_sup.specs.declared.effect.Effect.{Effect}
 use Rattle.sup_replica.specs.declared.event.Act.{Act}
@@ -8,7 +9,10 @@ use Rattle.sup_replica.specs.declared.letter.Letter.{Letter}
 use Rattle.sup_replica.specs.declared.refusal.Refusal.TheVariants.{HistoryFull as Full, OutOfMemory as Wants}
 use Rattle.sup_node_gate.specs.declared.entry.Entry.{Entry}
 use Rattle.sup_node_gate.specs.declared.view.View.{View}
+use Rattle.sup_node_gate.specs.declared.gate.NodeGate.{NodeGate}
+use Rattle.sup_node_gate.specs.declared.gate.Pass.{Pass}
 use Rattle.sup_node_gate.specs.Calls.{IsFull, HasNoMemory}
+use Rattle.sup_node_gate.specs.Gates.{opening_of, bound_of, view_of}
 use Rattle.sup_node_gate.specs.Histories.{StationAnswer, CountedStation, IsPrefix, entry}
 use Rattle.sup_node_gate.specs.Views.{calls_of}
 use Rattle.sup_links.specs.declared.link_out.LinkOut.{LinkOut}
@@ -64,6 +68,10 @@ abbrev pub NotEntered : Weigher → CountedStation → ℕ → View → View →
 NotEntered g opening bound v v' HistoryFull = IsFull g opening bound v v'
 NotEntered g opening bound v v' LinkClosed = ⊥
 NotEntered g opening bound v v' OutOfMemory = HasNoMemory g opening bound v v'
+
+-- the same of a gate and its passes, where this is what a keeper keeps, how often it has failed and whether it is sound
+abbrev pub NotEnteredAtGate : {K W : Type 0} {g : _} {h : _} → (K → Bytes) → (K → ℕ) → (K → Bool) → Weigher → NodeGate K W g h → Pass K W g h → Pass K W g h → ThreadFault → Type 0
+NotEnteredAtGate kept failures sound weigh gate pass pass' = NotEntered weigh (opening_of kept failures sound gate) (bound_of gate) (view_of pass) (view_of pass')
 
 -- why a thread makes no more calls: the history is full, and it has seen it whole; or memory was refused
 abbrev pub StopsCalling : ℕ → View → ThreadFault → Type 0

@@ -1,11 +1,11 @@
 //! A call at a node's gate.
 ghost use Rattle.std.specs.Prelude.{◌≡◌, true, IfOk, IfErr, OnOk};
-ghost use Rattle.sup_node_gate.specs.Gates.{IsOf, view_of, opening_of, bound_of};
+ghost use Rattle.sup_node_gate.specs.Gates.{IsOf, view_of};
 ghost use Rattle.sup_node_gate.specs.InMemory.{failures_by, sound_by};
 ghost use Rattle.sup_node_gate.specs.Histories.{may_enter};
 ghost use Rattle.sup_station.specs.OpenedStations.{kept_by};
 ghost use Rattle.sup_posts.specs.Rounds.{effects_of};
-ghost use Rattle.sup_driving.specs.Called.{MadeCall, IsFaultIn, NotEntered, letter_of};
+ghost use Rattle.sup_driving.specs.Called.{MadeCall, IsFaultIn, NotEnteredAtGate, letter_of};
 
 use crate::field::Field;
 use std::alloc::Global;
@@ -70,7 +70,7 @@ impl<'a, R: Wait, W: Weigh, N, C> Field<'a, R, W, N, C> {
         requires { IsOf kept_by failures_by sound_by post.now.gate seat.old }
         ensures of { IsOf kept_by failures_by sound_by post.now.gate seat.new }
         ensures called { IfOk result (λ brought. MadeCall (view_of seat.old) act now brought.effects brought.letter (view_of seat.new)) }
-        ensures refused { IfErr result (NotEntered W.weight_of (opening_of kept_by failures_by sound_by post.now.gate) (bound_of post.now.gate) (view_of seat.old) (view_of seat.new)) }
+        ensures refused { IfErr result (NotEnteredAtGate kept_by failures_by sound_by W.weight_of post.now.gate seat.old seat.new) }
     {
         let answer = post.gate.call(self.rt, seat, act, now, self.weigher);
         entered(&answer)?;

@@ -1,6 +1,6 @@
 -- Each step of the gate keeps its rule.
 use Rattle.std.proofs.Common.{◌≡◌, ℕ, zero, suc, ◌+◌, ◌%◌, ◌^◌, ◌<◌, ◌≤◌, ◌≢◌, eqb, List, [], ◌∷◌, ◌++◌, length, get_or, set, sym, refl, ap, ◌∙◌, subst, ⊎_elim, arith, length-set, length-append, get_or-set_other, get_or-set_same, zero-le, None, Some}
-use Rattle.std.specs.Prelude.{is_some, true, false}
+use Rattle.std.specs.Prelude.{is_some, true, false, slice_index}
 use Rattle.std.specs.declared.option.Option as P
 use mathlib.Core.Option.{none, some, some-injective, some-ne-none}
 use lib.ListN.{get_elem?}
@@ -18,8 +18,8 @@ use Rattle.sup_node_gate.specs.declared.view.Parts.{Parts}
 use Rattle.sup_node_gate.specs.declared.view.View.{View}
 use Rattle.sup_node_gate.specs.Parts.{counted_in, counted_at, IsLike}
 use Rattle.sup_node_gate.specs.Views.{IsAmongPlaces, PlacesRise, newcomer, taking, losing, raising, freeing, looking}
-use Rattle.sup_node_gate.specs.Rule.{OpensAt, SavesAll, FitsView, HasTurn, AllApart, AllOwned, RuleHolds, IsSeenAt, took, raised, gave_back, looked, HasUncountedEntry}
-use Rattle.sup_node_gate.specs.Shares.{is_shared}
+use Rattle.sup_node_gate.specs.Rule.{OpensAt, SavesAll, FitsView, HasTurn, IsHeldBy, AllApart, AllOwned, all_shares, RuleHolds, IsSeenAt, took, raised, gave_back, looked, HasUncountedEntry}
+use Rattle.sup_node_gate.specs.Shares.{IsWhole, is_shared}
 use Rattle.sup_node_gate.proofs.ShareLaws.{first_whole, true_false}
 use Rattle.sup_node_gate.proofs.ViewShareLaws.{whole_stays}
 use Rattle.sup_node_gate.proofs.HistoryListLaws.{prefix_refl, prefix_longer, replays_one, saved_one, rises_more, rises_one, stands_below, stands_append, set_at, views_stay, apart_stays, held_stays, owned_stays, owned_one}
@@ -66,10 +66,14 @@ module _ {H : Type 0} where
   slot_or d (x ∷ xs) = held_or d x.1
 
   module _ (sight : H → Holding) (g : Weigher) (start : Parts) (bound : ℕ) where
-    -- a step that changes no word
-    unmoved : (s : State (P.Option H) View) (r : RuleHolds sight g start bound s) (i me : ℕ) (cs : List (ℕ × P.Option H)) (v w : View) → get_elem? s.views me ≡ some v → w.own ≡ v.own → w.turn ≡ v.turn → w.shares ≡ v.shares
-        → FitsView start r.held.history w → RuleHolds sight g start bound (stepped s i (get_or s.words i 0) me cs w keeps)
-    unmoved s r i me cs v w at own turn shares fits = subst (λ (ws : List ℕ). RuleHolds sight g start bound record { words = ws; homes = s.homes; views = set s.views me w }) (sym (set-get_or s.words i 0)) record {
+    -- the words and the homes stay, and so does what lies there
+    pub with_views : (s : State (P.Option H) View) (r : RuleHolds sight g start bound s) (views : List View)
+        → (slice_index s.words 1 ≢ 0 → IsHeldBy views r.holder)
+        → ((j : ℕ) (v : View) → get_elem? views j ≡ some v → FitsView start r.held.history v)
+        → ((j : ℕ) (v : View) → get_elem? views j ≡ some v → HasTurn r.held (slice_index s.words 1) r.holder j v.turn)
+        → AllApart views → AllOwned views (length r.held.history) → IsWhole (all_shares views)
+        → RuleHolds sight g start bound (record { words = s.words; homes = s.homes; views = views })
+    with_views s r views taken each_view each_turn apart owned whole = record {
       held = r.held;
       holder = r.holder;
       two = r.two;
@@ -78,14 +82,25 @@ module _ {H : Type 0} where
       within = r.within;
       counted = r.counted;
       free = r.free;
-      taken = λ n. held_stays s.views me v w r.holder at turn (r.taken n);
-      each_view = views_stay (λ _ d. FitsView start r.held.history d) s.views me w fits (λ j d _. r.each_view j d);
-      each_turn = views_stay (λ j d. HasTurn r.held (get_or s.words 1 0) r.holder j d.turn) s.views me w
-          (subst (HasTurn r.held (get_or s.words 1 0) r.holder me) (sym turn) (r.each_turn me v at)) (λ j d _. r.each_turn j d);
-      apart = apart_stays s.views me v w at own r.apart;
-      owned = owned_stays s.views me (length r.held.history) v w at (λ p t. subst (IsAmongPlaces p) (sym own) t) r.owned;
-      whole = whole_stays s.views me v w at shares r.whole;
+      taken = taken;
+      each_view = each_view;
+      each_turn = each_turn;
+      apart = apart;
+      owned = owned;
+      whole = whole;
     }
+
+    -- a step that changes no word
+    unmoved : (s : State (P.Option H) View) (r : RuleHolds sight g start bound s) (i me : ℕ) (cs : List (ℕ × P.Option H)) (v w : View) → get_elem? s.views me ≡ some v → w.own ≡ v.own → w.turn ≡ v.turn → w.shares ≡ v.shares
+        → FitsView start r.held.history w → RuleHolds sight g start bound (stepped s i (get_or s.words i 0) me cs w keeps)
+    unmoved s r i me cs v w at own turn shares fits = subst (λ (ws : List ℕ). RuleHolds sight g start bound record { words = ws; homes = s.homes; views = set s.views me w }) (sym (set-get_or s.words i 0)) (with_views s r (set s.views me w)
+        (λ n. held_stays s.views me v w r.holder at turn (r.taken n))
+        (views_stay (λ _ d. FitsView start r.held.history d) s.views me w fits (λ j d _. r.each_view j d))
+        (views_stay (λ j d. HasTurn r.held (get_or s.words 1 0) r.holder j d.turn) s.views me w
+        (subst (HasTurn r.held (get_or s.words 1 0) r.holder me) (sym turn) (r.each_turn me v at)) (λ j d _. r.each_turn j d))
+        (apart_stays s.views me v w at own r.apart)
+        (owned_stays s.views me (length r.held.history) v w at (λ p t. subst (IsAmongPlaces p) (sym own) t) r.owned)
+        (whole_stays s.views me v w at shares r.whole))
 
     seen_at : (s : State (P.Option H) View) (r : RuleHolds sight g start bound s) (me : ℕ) (v : View) → get_elem? s.views me ≡ some v → IsSeenAt g v r.held
     seen_at s r me v at = let f = r.each_view me v at in (

@@ -19,7 +19,7 @@ use Rattle.sup_node_gate.specs.Parts.{counted_in, counted_at}
 use Rattle.sup_node_gate.specs.Views.{PlacesRise, calls_of, merged, taking, raising, freeing, looking, joining}
 use Rattle.sup_node_gate.specs.Holdings.{AddsEntry}
 use Rattle.sup_node_gate.specs.Rule.{IsSeenAt, IsTurnTaken}
-use Rattle.sup_node_gate.specs.Calls.{EntersCall, KeepsOwn, IsFull, HasNoMemory, RefusesCall, ActsInTurn, JoinedViews, MayAct, IsIdle}
+use Rattle.sup_node_gate.specs.Calls.{EntersCall, KeepsOwn, IsFull, HasNoMemory, RefusesCall, ActsInTurn, JoinedViews, MayAct, IsIdle, KeepsStanding}
 use Rattle.sup_node_gate.specs.Shares.{is_shared}
 use Rattle.sup_node_gate.specs.Shuffles.{IsShuffle}
 use Rattle.sup_node_gate.proofs.GateRuleLaws.{slot_or}
@@ -101,9 +101,9 @@ module _ {H : Type 0} where
 
 -- once the turn is given back
 pub idle_after : {H : Type 0} (m : Me (P.Option H) View) (v w : View) → m ≡ (freeing w, []) → w.told ≡ [] → PlacesRise 0 w.own (length w.seen) → w.opening ≡ v.opening → w.tries ≡ v.tries → w.splits ≡ v.splits → w.shares ≡ v.shares → is_shared v.shares ≡ true
-    → IsIdle m × (m.0.opening ≡ v.opening) × (m.0.tries ≡ v.tries) × (m.0.splits ≡ v.splits) × (m.0.shares ≡ v.shares)
+    → IsIdle m × KeepsStanding v m.0
 idle_after {H = H} m v w is told rises opening tries splits shares shared =
-    subst (λ (x : Me (P.Option H) View). IsIdle x × (x.0.opening ≡ v.opening) × (x.0.tries ≡ v.tries) × (x.0.splits ≡ v.splits) × (x.0.shares ≡ v.shares)) (sym is) ((refl, told, refl, rises, ap is_shared shares ∙ shared), opening, tries, splits, shares)
+    subst (λ (x : Me (P.Option H) View). IsIdle x × KeepsStanding v x.0) (sym is) ((refl, told, refl, rises, ap is_shared shares ∙ shared), (opening, tries, splits, shares))
 
 enters_same : (g : Weigher) (s : CountedStation) (v u : View) (e : Entry) (v' : View) → v.seen ≡ u.seen → v.own ≡ u.own → EntersCall g s v e v' → EntersCall g s u e v'
 enters_same g s v u e v' seen own x = record {

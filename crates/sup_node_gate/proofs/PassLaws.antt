@@ -14,6 +14,7 @@ use Rattle.sup_node_gate.specs.declared.view.Parts.{Parts}
 use Rattle.sup_node_gate.specs.declared.view.View.{View}
 use Rattle.sup_node_gate.specs.Views.{IsAmongPlaces, calls_of, merged, first, second, spent, joining}
 use Rattle.sup_node_gate.specs.Rule.{FitsView, HasTurn, IsHeldBy, AllApart, AllOwned, OwnsByShare, RuleHolds}
+use Rattle.sup_node_gate.proofs.GateRuleLaws.{with_views}
 use Rattle.sup_node_gate.proofs.HistoryListLaws.{set_at, views_stay, apart_stays, held_stays, owned_stays, owned_more}
 use Rattle.sup_node_gate.specs.Shares.{is_shared}
 use Rattle.sup_node_gate.specs.Gates.{IsSole}
@@ -75,46 +76,28 @@ module _ {H : Type 0} (sight : H → Holding) (g : Weigher) (start : Parts) (bou
       let views : (j : ℕ) (d : View) → get_elem? vs j ≡ some d → FitsView start r.held.history d = views_stay (λ _ d. FitsView start r.held.history d) s.views id (first v) left (λ j d _. r.each_view j d) in
       let turns : (j : ℕ) (d : View) → get_elem? vs j ≡ some d → HasTurn r.held (get_or s.words 1 0) r.holder j d.turn =
       views_stay (λ j d. HasTurn r.held (get_or s.words 1 0) r.holder j d.turn) s.views id (first v) (r.each_turn id v at) (λ j d _. r.each_turn j d) in
-      let apart = apart_stays s.views id v (first v) at refl r.apart in record {
-        held = r.held;
-        holder = r.holder;
-        two = r.two;
-        replays = r.replays;
-        saves = r.saves;
-        within = r.within;
-        counted = r.counted;
-        free = r.free;
-        taken = λ n. let b = held_stays s.views id v (first v) r.holder at refl (r.taken n) in (b.0, b.1, at_longer vs (second v ∷ []) r.holder b.0 b.2, b.3);
-        each_view = λ j d there. ⊎_elim (views j d) (λ (t : second v ≡ d). subst (λ (x : View). FitsView start r.held.history x) t (f.0, f.1, (r.held.history, refl), zero-le, λ _. refl)) (at_snoc vs (second v) d j there);
-        each_turn = λ j d there. ⊎_elim (turns j d) (λ (t : second v ≡ d). subst (λ (x : View). HasTurn r.held (get_or s.words 1 0) r.holder j x.turn) t tt) (at_snoc vs (second v) d j there);
-        apart = λ i j p a b at_i at_j in_a in_b. ⊎_elim
-            (λ (x : get_elem? vs i ≡ some a). ⊎_elim (λ (y : get_elem? vs j ≡ some b). apart i j p a b x y in_a in_b) (λ (y : second v ≡ b). absurd (subst (λ (z : View). IsAmongPlaces p z.own) (sym y) in_b)) (at_snoc vs (second v) b j at_j))
-            (λ (x : second v ≡ a). absurd (subst (λ (z : View). IsAmongPlaces p z.own) (sym x) in_a)) (at_snoc vs (second v) a i at_i);
-        owned = owned_more vs (second v) (length r.held.history) (owned_stays s.views id (length r.held.history) v (first v) at (λ p t. t) r.owned);
-        whole = whole_split s.views id v (first v) (second v) at refl refl r.whole;
-      }
+      let apart = apart_stays s.views id v (first v) at refl r.apart in with_views sight g start bound s r (vs ++ second v ∷ [])
+      (λ n. let b = held_stays s.views id v (first v) r.holder at refl (r.taken n) in (b.0, b.1, at_longer vs (second v ∷ []) r.holder b.0 b.2, b.3))
+      (λ j d there. ⊎_elim (views j d) (λ (t : second v ≡ d). subst (λ (x : View). FitsView start r.held.history x) t (f.0, f.1, (r.held.history, refl), zero-le, λ _. refl)) (at_snoc vs (second v) d j there))
+      (λ j d there. ⊎_elim (turns j d) (λ (t : second v ≡ d). subst (λ (x : View). HasTurn r.held (get_or s.words 1 0) r.holder j x.turn) t tt) (at_snoc vs (second v) d j there))
+      (λ i j p a b at_i at_j in_a in_b. ⊎_elim
+      (λ (x : get_elem? vs i ≡ some a). ⊎_elim (λ (y : get_elem? vs j ≡ some b). apart i j p a b x y in_a in_b) (λ (y : second v ≡ b). absurd (subst (λ (z : View). IsAmongPlaces p z.own) (sym y) in_b)) (at_snoc vs (second v) b j at_j))
+      (λ (x : second v ≡ a). absurd (subst (λ (z : View). IsAmongPlaces p z.own) (sym x) in_a)) (at_snoc vs (second v) a i at_i))
+      (owned_more vs (second v) (length r.held.history) (owned_stays s.views id (length r.held.history) v (first v) at (λ p t. t) r.owned))
+      (whole_split s.views id v (first v) (second v) at refl refl r.whole)
 
   pub joins : (id : ℕ) (v : View) (other : ℕ) (u : View) → is_some u.turn ≡ false → Joins (RuleHolds sight g start bound) id v other u (joining v u) spent
   joins id v other u idle s r at not there' = let both = joining v u in let there : get_elem? s.views other ≡ some u = sym (set_else s.views id other both not) ∙ there' in
       let f = r.each_view id v at in let k = r.each_view other u there in
-      let rises = rises_merged u.own v.own 0 (length r.held.history) f.3 k.3 (λ q a b. not (sym (r.apart id other q v u at there a b))) in record {
-        held = r.held;
-        holder = r.holder;
-        two = r.two;
-        replays = r.replays;
-        saves = r.saves;
-        within = r.within;
-        counted = r.counted;
-        free = r.free;
-        taken = λ n. held_without (set s.views id both) other u spent r.holder there' idle (held_stays s.views id v both r.holder at refl (r.taken n));
-        each_view = views_stay (λ _ d. FitsView start r.held.history d) (set s.views id both) other spent (tt, (r.held.history, refl), (r.held.history, refl), zero-le, λ _. refl)
-            (λ j d _. views_stay (λ _ d. FitsView start r.held.history d) s.views id both (f.0, f.1, k.1, rises, λ bare. joined_none v u f.4 k.4 bare) (λ j d _. r.each_view j d) j d);
-        each_turn = views_stay (λ j d. HasTurn r.held (get_or s.words 1 0) r.holder j d.turn) (set s.views id both) other spent tt
-            (λ j d _. views_stay (λ j d. HasTurn r.held (get_or s.words 1 0) r.holder j d.turn) s.views id both (r.each_turn id v at) (λ j d _. r.each_turn j d) j d);
-        apart = joined_apart s.views id other v u at there r.apart not;
-        owned = joined_owned s.views id other (length r.held.history) v u at there r.owned not;
-        whole = whole_joined s.views id other v u both spent at there there' refl refl r.whole;
-      }
+      let rises = rises_merged u.own v.own 0 (length r.held.history) f.3 k.3 (λ q a b. not (sym (r.apart id other q v u at there a b))) in with_views sight g start bound s r (set (set s.views id both) other spent)
+      (λ n. held_without (set s.views id both) other u spent r.holder there' idle (held_stays s.views id v both r.holder at refl (r.taken n)))
+      (views_stay (λ _ d. FitsView start r.held.history d) (set s.views id both) other spent (tt, (r.held.history, refl), (r.held.history, refl), zero-le, λ _. refl)
+      (λ j d _. views_stay (λ _ d. FitsView start r.held.history d) s.views id both (f.0, f.1, k.1, rises, λ bare. joined_none v u f.4 k.4 bare) (λ j d _. r.each_view j d) j d))
+      (views_stay (λ j d. HasTurn r.held (get_or s.words 1 0) r.holder j d.turn) (set s.views id both) other spent tt
+      (λ j d _. views_stay (λ j d. HasTurn r.held (get_or s.words 1 0) r.holder j d.turn) s.views id both (r.each_turn id v at) (λ j d _. r.each_turn j d) j d))
+      (joined_apart s.views id other v u at there r.apart not)
+      (joined_owned s.views id other (length r.held.history) v u at there r.owned not)
+      (whole_joined s.views id other v u both spent at there there' refl refl r.whole)
 
   module _ (id : ℕ) (v : View) (ws : List ℕ) (xs : List (P.Option H)) (last : Final (Seen (RuleHolds sight g start bound) id v) ws xs) where
     -- what a seat has the turn with is within the bound

@@ -1,5 +1,6 @@
 -- The lines that are printed of entries and of kept children (this project's output format).
-use Rattle.std.specs.Prelude.{ℕ, List, [], ◌∷◌, codes, Option, Some, None}
+use Rattle.std.specs.Prelude.{◌≡◌, ℕ, List, [], ◌∷◌, codes, Option, Some, None, Result, IfOk, string_bytes}
+use Rattle.std.specs.declared.string.String.{String}
 use Rattle.sup_specs.specs.Values.{Bytes}
 use Rattle.sup_specs.specs.declared.child.ChildSpec.{ChildSpec}
 use Rattle.sup_specs.specs.declared.child.MemberInfo.{MemberInfo}
@@ -10,6 +11,10 @@ use Rattle.sup_tables.specs.Rows.{Table, members, children, names}
 use Rattle.sup_local_sup.specs.Keeping.{KeptChild}
 use Rattle.sup_node.specs.Whereabouts.{Where, unknown, gone, unplaced, on}
 use Rattle.sup_text.specs.Words.{text, dot_text, spec_text, incarnation_text}
+
+-- a text, where there is memory for it, of these bytes
+abbrev pub IsTextOf : {E Z : Type 0} → List ℕ → Result (String Z) E → Type 0
+IsTextOf bytes result = IfOk result (λ s. string_bytes s ≡ bytes)
 
 -- what an entry of a table is called
 abbrev pub table_word : Table → List ℕ

@@ -7,7 +7,7 @@ ghost use Rattle.sup_tables.specs.Readers.{eligible, winners};
 ghost use Rattle.sup_tables.specs.Stored.{child_row, member_row, name_row};
 ghost use Rattle.sup_node.specs.Contents.{where_told};
 ghost use Rattle.sup_node.specs.Whereabouts.{where_child, where_is};
-ghost use Rattle.sup_node_text.specs.Lines.{name_line};
+ghost use Rattle.sup_node_text.specs.Lines.{IsTextOf, name_line};
 ghost use Rattle.sup_node_text.specs.Shown.{child_lines, loser_lines, member_lines, name_lines, tables_text};
 
 use crate::line::{ChildLine, MemberLine};
@@ -59,7 +59,7 @@ fn member_text(
     tables: &Tables,
     winner: &Winner<NodeName, MemberInfo>,
 ) -> Result<String, AllocError>
-    ensures { IfOk result (λ s. string_bytes s ≡ member_lines tables.now.rows (member_row winner.now.key.now winner.now.dot.now winner.now.value.now)) }
+    ensures { IsTextOf (member_lines tables.now.rows (member_row winner.now.key.now winner.now.dot.now winner.now.value.now)) result }
 {
     let losers = member_losers_text(alloc, tables, winner.key)?;
     let losers = losers.as_str();
@@ -110,7 +110,7 @@ fn child_text<W: Weigh>(
     winner: &Winner<ChildId, ChildSpec>,
 ) -> Result<String, AllocError>
     requires { hosts.now ≡ eligible tables.now.rows }
-    ensures { IfOk result (λ s. string_bytes s ≡ child_lines W.weight_of tables.now.rows (child_row winner.now.key.now winner.now.dot.now winner.now.value.now)) }
+    ensures { IsTextOf (child_lines W.weight_of tables.now.rows (child_row winner.now.key.now winner.now.dot.now winner.now.value.now)) result }
 {
     let losers = child_losers_text(alloc, tables, winner.key)?;
     let losers = losers.as_str();
@@ -159,7 +159,7 @@ fn name_text<W: Weigh>(
     winner: &Winner<Name, ChildId>,
 ) -> Result<String, AllocError>
     requires { hosts.now ≡ eligible tables.now.rows }
-    ensures { IfOk result (λ s. string_bytes s ≡ name_lines W.weight_of tables.now.rows (name_row winner.now.key.now winner.now.dot.now winner.now.value.now)) }
+    ensures { IsTextOf (name_lines W.weight_of tables.now.rows (name_row winner.now.key.now winner.now.dot.now winner.now.value.now)) result }
 {
     let losers = name_losers_text(alloc, tables, winner.key)?;
     let losers = losers.as_str();
@@ -185,7 +185,7 @@ fn name_line<W: Weigh>(
     winner: &Winner<Name, ChildId>,
 ) -> Result<String, AllocError>
     requires { hosts.now ≡ eligible tables.now.rows }
-    ensures { IfOk result (λ s. string_bytes s ≡ name_line winner.now.key.now winner.now.dot.now (where_child W.weight_of tables.now.rows winner.now.value.now)) }
+    ensures { IsTextOf (name_line winner.now.key.now winner.now.dot.now (where_child W.weight_of tables.now.rows winner.now.value.now)) result }
 {
     let lead = LeadText(lead_of(weigher, hosts, tables, winner.value));
     let name = winner.key.as_str();

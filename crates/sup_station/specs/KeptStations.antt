@@ -1,6 +1,6 @@
 -- What a contract sees of a station, and what it answers to an act and becomes: a function of the station, the act, the moment and which call of
 -- its keeper fails (the rules of steps and of durability). The keeper counts here as the bytes that it keeps.
-use Rattle.std.specs.Prelude.{◌≡◌, ◌≢◌, ℕ, true, false, [], Option, Some, None, Result, Ok, Err}
+use Rattle.std.specs.Prelude.{◌≡◌, ◌≢◌, ℕ, Bool, true, false, [], Option, Some, None, Result, Ok, Err, MatchResult}
 use Rattle.std.specs.Option.{option_map}
 use mathlib.Core.Logic.{◌⊎◌}
 use Rattle.sup_specs.specs.Values.{Bytes}
@@ -61,6 +61,10 @@ IsForeign name bytes = (image : Option Image) × IsImageReadAs bytes image × Is
 -- why bytes give no image of the node
 abbrev pub IsNoOwnImage : Bytes → Bytes → Refusal → Type 0
 IsNoOwnImage name bytes r = ((r ≡ BadMessage) × IsForeign name bytes) ⊎ (r ≡ OutOfMemory)
+
+-- the image of the node of this name that the bytes are read as, or why they give none
+abbrev pub ReadsOwnImage : Bytes → Bytes → Result Image Refusal → Type 0
+ReadsOwnImage name bytes result = MatchResult result (IsOwnImage name bytes) (IsNoOwnImage name bytes)
 
 -- what is kept after a step: the new image's text where the step came to a save, which is where it's refused if that fails; else the old bytes
 abbrev pub KeepsImage : Result (StationMove State) Refusal → Bytes → Bytes → Image → Type 0
@@ -137,6 +141,17 @@ ComesToSave g s (Some n) Stop now = ⊥
 ComesToSave g s None Restart now =
     ((image : Image) → IsOwnImage s.name s.kept image → restart_of g s.config image false ≡ Err KeepFailed) × ¬ IsForeign s.name s.kept
 ComesToSave g s (Some n) Restart now = ⊥
+
+-- of a station, where this is what its keeper keeps: its save of the act is what fails; and the act comes to its save
+abbrev pub FailsActBySave : {K W : Type 0} {g : _} {h : _} → (K → Bytes) → Weigher → Code K W g h → Act → ℕ → Type 0
+FailsActBySave kept weigh s act now = FailsToSave weigh (kept_station_of kept s) (kept_station_of kept s).node act now
+
+abbrev pub BringsActToSave : {K W : Type 0} {g : _} {h : _} → (K → Bytes) → Weigher → Code K W g h → Act → ℕ → Type 0
+BringsActToSave kept weigh s act now = ComesToSave weigh (kept_station_of kept s) (kept_station_of kept s).node act now
+
+-- its keeper is failing, or sound
+abbrev pub IsFailingOrSound : {K W : Type 0} {g : _} {h : _} → (K → Bool) → (K → Bool) → Code K W g h → Type 0
+IsFailingOrSound failing sound s = (failing (keeper_of s) ≡ true) ⊎ (sound (keeper_of s) ≡ true)
 
 -- refused for a save, or for memory
 abbrev pub IsUnsaved : Result Done Refusal → Type 0

@@ -1,5 +1,5 @@
 -- An act that a station has made ready, and what becomes of the station once that is committed (the rule of durability).
-use Rattle.std.specs.Prelude.{◌≡◌, ◌≢◌, ◌≤◌, ℕ, Bool, true, false, List, Option, Some, None, Result, Ok, Err}
+use Rattle.std.specs.Prelude.{◌≡◌, ◌≢◌, ◌≤◌, ℕ, Bool, true, false, List, Option, Some, None, Result, Ok, Err, MatchResult}
 use mathlib.Core.Logic.{◌⊎◌}
 use Rattle.sup_specs.specs.Values.{Bytes}
 use Rattle.sup_tables.specs.declared.row.Row.{Row}
@@ -113,6 +113,10 @@ pub record IsPreparedFor (g : Weigher) (s : KeptStation) (act : Act) (now : ℕ)
 abbrev pub PreparesAct : Weigher → KeptStation → Act → ℕ → Result Prepared Refusal → Type 0
 PreparesAct g s act now (Ok p) = IsPreparedFor g s act now p
 PreparesAct g s act now (Err r) = (r ≢ KeepFailed) × RefusesAct g s s.node act now r
+
+-- what is made ready, or a refusal, whatever the reason
+abbrev pub IsPreparedOrRefused : Weigher → KeptStation → Act → ℕ → Result Prepared Refusal → Type 0
+IsPreparedOrRefused g s act now result = MatchResult result (IsPreparedFor g s act now) (RefusesAct g s s.node act now)
 
 -- why a commit is refused: its save fails, or for memory
 abbrev pub RefusesCommit : Prepared → Refusal → Type 0

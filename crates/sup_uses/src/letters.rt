@@ -1,7 +1,7 @@
 //! Two stations that exchange letters by hand.
 ghost use Rattle.std.specs.Prelude.{◌≡◌, false, true, IfOk};
 ghost use Rattle.sup_station.specs.KeptStations.{kept_station_of};
-ghost use Rattle.sup_uses.specs.Letters.{IsUpToDate, SentNothing};
+ghost use Rattle.sup_uses.specs.Letters.{IsUpToDate, StationsSendNothing};
 
 use sup_keeper::Keeper;
 use sup_placement::Weigh;
@@ -43,7 +43,7 @@ fn send<K: Keeper, W: Weigh>(
     receiver: NodeName,
     weigher: &W,
 ) -> Result<bool, Refusal>
-    ensures { IfOk result (λ sent. sent ≡ false → SentNothing W.weight_of receiver (kept_station_of K.kept from.old) (kept_station_of K.kept to.old) (kept_station_of K.kept from.new) (kept_station_of K.kept to.new)) }
+    ensures { IfOk result (λ sent. sent ≡ false → StationsSendNothing K.kept W.weight_of receiver from.old to.old from.new to.new) }
 {
     match from.step(Act::Event(Event::Ship(receiver)), 0, weigher) {
         Ok(done) => {

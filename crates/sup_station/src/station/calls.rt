@@ -1,13 +1,13 @@
 //! What a station is asked.
-ghost use Rattle.std.specs.Prelude.{◌≡◌, ◌≢◌, ◌⊎◌, ◌<◌, ◌≤◌, ◌+◌, true, Some, None, IsErr, IfErr, IfOk, OnOk, OnErr, MatchResult};
+ghost use Rattle.std.specs.Prelude.{◌≡◌, ◌≢◌, ◌<◌, ◌≤◌, ◌+◌, true, Some, None, IsErr, IfErr, IfOk, OnOk, OnErr};
 ghost use Rattle.std.specs.Option.{option_map, option_copied};
 ghost use Rattle.sup_node.specs.Contents.{station_of};
 ghost use Rattle.sup_replica.specs.declared.event.Act.TheVariants.{Restart};
 ghost use Rattle.sup_replica.specs.declared.refusal.Refusal.TheVariants.{KeepFailed};
 ghost use Rattle.sup_keeper.specs.Keeping.{failing_next};
 ghost use Rattle.sup_station.specs.OpenedStations.{OpensStation, IsKeepRefusal, kept_by};
-ghost use Rattle.sup_station.specs.PreparedActs.{IsPreparedFor, IsReadyFor, CommitsPrepared, is_saved};
-ghost use Rattle.sup_station.specs.KeptStations.{kept_station_of, keeper_of, AnswersAct, RefusesAct, FailsToSave, ComesToSave, IsUnsaved};
+ghost use Rattle.sup_station.specs.PreparedActs.{IsPreparedOrRefused, IsReadyFor, CommitsPrepared, is_saved};
+ghost use Rattle.sup_station.specs.KeptStations.{kept_station_of, keeper_of, AnswersAct, FailsActBySave, BringsActToSave, IsFailingOrSound, IsUnsaved};
 
 use crate::prepared::Prepared;
 use crate::station::becoming::{change_to, save_and_change};
@@ -99,7 +99,7 @@ impl<K: Keeper, W: Weigh> Station<K, W> {
     /// bytes are no image of this node, `CountSpent` where the boot would pass `MAX`, and `OutOfMemory`.
     pub fn prepare(&mut self, act: &Act, now: u64, weigher: &W) -> Result<Prepared, Refusal>
         ensures same { kept_station_of K.kept self.new ≡ kept_station_of K.kept self.old }
-        ensures answer { MatchResult result (IsPreparedFor W.weight_of (kept_station_of K.kept self.old) act.now now) (RefusesAct W.weight_of (kept_station_of K.kept self.old) (kept_station_of K.kept self.old).node act.now now) }
+        ensures answer { IsPreparedOrRefused W.weight_of (kept_station_of K.kept self.old) act.now now result }
         ensures loads { act.now ≢ Restart → (keeper_of self.new ≡ keeper_of self.old) × (result ≢ Err KeepFailed) }
         ensures rose { result ≡ Err KeepFailed → K.failures (keeper_of self.old) < K.failures (keeper_of self.new) }
         ensures told { K.failures (keeper_of self.old) < K.failures (keeper_of self.new) → result ≡ Err KeepFailed }
@@ -112,7 +112,7 @@ impl<K: Keeper, W: Weigh> Station<K, W> {
         ensures sound { K.sound (keeper_of self.old) ≡ true → result ≢ Err KeepFailed }
         ensures failing { K.failing (keeper_of self.old) ≡ true → result ≢ Err KeepFailed }
         ensures readable { K.readable (keeper_of self.old) ≡ true → result ≢ Err KeepFailed }
-        ensures steady { (K.failing (keeper_of self.old) ≡ true) ⊎ (K.sound (keeper_of self.old) ≡ true) → K.failures (keeper_of self.new) ≡ K.failures (keeper_of self.old) }
+        ensures steady { IsFailingOrSound K.failing K.sound self.old → K.failures (keeper_of self.new) ≡ K.failures (keeper_of self.old) }
     {
         match act {
             Act::Event(event) => self.prepare_event(event, now, weigher),
@@ -166,10 +166,10 @@ impl<K: Keeper, W: Weigh> Station<K, W> {
         ensures never_falls { K.failures (keeper_of self.old) ≤ K.failures (keeper_of self.new) }
         ensures by_one { K.failures (keeper_of self.new) ≤ K.failures (keeper_of self.old) + 1 }
         ensures uncounted { OnOk result (K.failures (keeper_of self.new) ≡ K.failures (keeper_of self.old)) }
-        ensures failing { K.failing (keeper_of self.old) ≡ true → ComesToSave W.weight_of (kept_station_of K.kept self.old) (kept_station_of K.kept self.old).node act now → IsUnsaved result }
+        ensures failing { K.failing (keeper_of self.old) ≡ true → BringsActToSave K.kept W.weight_of self.old act now → IsUnsaved result }
         ensures sound { K.sound (keeper_of self.old) ≡ true → result ≢ Err KeepFailed }
-        ensures unsaved { (K.failing (keeper_of self.old) ≡ true) ⊎ (K.sound (keeper_of self.old) ≡ true) → result ≡ Err KeepFailed → FailsToSave W.weight_of (kept_station_of K.kept self.old) (kept_station_of K.kept self.old).node act now }
-        ensures order { K.readable (keeper_of self.old) ≡ true → result ≡ Err KeepFailed → FailsToSave W.weight_of (kept_station_of K.kept self.old) (kept_station_of K.kept self.old).node act now }
+        ensures unsaved { IsFailingOrSound K.failing K.sound self.old → result ≡ Err KeepFailed → FailsActBySave K.kept W.weight_of self.old act now }
+        ensures order { K.readable (keeper_of self.old) ≡ true → result ≡ Err KeepFailed → FailsActBySave K.kept W.weight_of self.old act now }
         ensures stays_sound { K.sound (keeper_of self.old) ≡ true → K.sound (keeper_of self.new) ≡ true }
         ensures stays_readable { K.readable (keeper_of self.old) ≡ true → K.readable (keeper_of self.new) ≡ true }
         ensures steady { K.sound (keeper_of self.old) ≡ true → K.failures (keeper_of self.new) ≡ K.failures (keeper_of self.old) }

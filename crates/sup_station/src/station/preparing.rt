@@ -1,5 +1,5 @@
 //! What a station makes ready of an act.
-ghost use Rattle.std.specs.Prelude.{◌≡◌, ◌≤◌, ◌+◌, Some, None, IfOk, MatchResult};
+ghost use Rattle.std.specs.Prelude.{◌≡◌, ◌≤◌, ◌+◌, Some, None, IfOk};
 ghost use Rattle.sup_replica.specs.declared.event.Act.TheVariants.{Event as Of, Stop, Restart};
 ghost use Rattle.sup_specs.specs.declared.limits.TheConstants.{MAX as MOST};
 ghost use Rattle.sup_wire.specs.RowTexts.{AreRows};
@@ -7,8 +7,8 @@ ghost use Rattle.sup_node.specs.Changes.{image_after};
 ghost use Rattle.sup_node.specs.Contents.{station_of};
 ghost use Rattle.sup_node.specs.NodeSteps.{FitsNode};
 ghost use Rattle.sup_station.specs.Counts.{CountsLoad};
-ghost use Rattle.sup_station.specs.PreparedActs.{IsPreparedFor, PreparesAct, IsKept, IsKeptOf};
-ghost use Rattle.sup_station.specs.KeptStations.{kept_station_of, keeper_of, RefusesAct, IsOwnImage, IsNoOwnImage};
+ghost use Rattle.sup_station.specs.PreparedActs.{IsPreparedOrRefused, PreparesAct, IsKept, IsKeptOf};
+ghost use Rattle.sup_station.specs.KeptStations.{kept_station_of, keeper_of, IsOwnImage, ReadsOwnImage};
 
 use crate::prepared::{Next, Prepared};
 use crate::station::Station;
@@ -89,7 +89,7 @@ impl<K: Keeper, W: Weigh> Station<K, W> {
     // Makes a restart ready.
     pub(super) fn prepare_restart(&mut self, now: u64, weigher: &W) -> Result<Prepared, Refusal>
         ensures same { kept_station_of K.kept self.new ≡ kept_station_of K.kept self.old }
-        ensures answer { MatchResult result (IsPreparedFor W.weight_of (kept_station_of K.kept self.old) Restart now) (RefusesAct W.weight_of (kept_station_of K.kept self.old) (kept_station_of K.kept self.old).node Restart now) }
+        ensures answer { IsPreparedOrRefused W.weight_of (kept_station_of K.kept self.old) Restart now result }
         ensures counts { CountsLoad K.failures K.failing K.sound K.readable (keeper_of self.old) (keeper_of self.new) result }
     {
         if self.node.is_some() {
@@ -113,7 +113,7 @@ impl<K: Keeper, W: Weigh> Station<K, W> {
 
     // The image of this node that the bytes are read as.
     fn own_image(&self, bytes: &[u8]) -> Result<Image, Refusal>
-        ensures { MatchResult result (IsOwnImage (kept_station_of K.kept self.now).name bytes.now) (IsNoOwnImage (kept_station_of K.kept self.now).name bytes.now) }
+        ensures { ReadsOwnImage (kept_station_of K.kept self.now).name bytes.now result }
     {
         match decode_image(self.alloc, bytes) {
             Ok(image) => {

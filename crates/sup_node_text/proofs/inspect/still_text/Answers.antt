@@ -1,7 +1,5 @@
-use Rattle.std.proofs.Common.{◌≡◌, ◌∙◌, ap, sym, rules, string_bytes}
-use Rattle.std.specs.Prelude.{IfOk}
+use Rattle.std.proofs.Common.{◌≡◌, rules, string_bytes}
 use Rattle.sup_node_text.specs.Shown.{tables_text}
-use Rattle.sup_node_text.specs.Inspected.{stored_text}
 use Rattle.sup_node_text.proofs.InspectionLaws.{still_told}
 use Rattle.sup_node_text.proofs.inspect.still_text.Goals as goal
 
