@@ -9,14 +9,16 @@ use Rattle.sup_lines.specs.declared.line.Line.TheVariants as line
 use Rattle.sup_lines.specs.declared.numbered.NumberedLine.{NumberedLine}
 use Rattle.sup_model.specs.declared.step.Step.{Step}
 use Rattle.sup_model.specs.Worlds.{ModelWorld as Model}
+use Rattle.sup_world.specs.declared.state.World.{World}
+use Rattle.sup_picture.specs.declared.log.Log.{Log}
 use Rattle.sup_world.specs.declared.answer.Answer.{Answer}
 use Rattle.sup_world.specs.declared.settled.Settled.{Settled}
 use Rattle.sup_world.specs.CarriedSteps.{has_bytes}
 use Rattle.sup_world.specs.FollowedSteps.{StandsFor}
 use Rattle.sup_world.specs.Runs.{StepGoes}
-use Rattle.sup_world.specs.SeenNodes.{SeenNode, FailedNoMore}
+use Rattle.sup_world.specs.SeenNodes.{SeenNode, FailedNoMore, sites_of}
 use Rattle.sup_world.specs.SettledSites.{SettlesTo}
-use Rattle.sup_noting.specs.Noted.{Noted, answered, refused, settled, unsettled, looked}
+use Rattle.sup_noting.specs.Noted.{Noted, noted_of, answered, refused, settled, unsettled, looked}
 
 -- the lines of a script behind that of its nodes, each with its number
 abbrev pub Captions : Type 0
@@ -49,6 +51,10 @@ IsDry (line.Inspect name) = Unit {0}
 IsDry (line.Image name) = Unit {0}
 IsDry (line.Where name sought) = Unit {0}
 IsDry (line.Message name k) = Unit {0}
+
+-- a world and the log of what it told, as contracts see them
+abbrev pub played : {W : Type 0} {h : _} → World W h → Log → List SeenNode × Noted
+played world log = (sites_of world, noted_of log)
 
 module _ (weigher : Weigher) where
   -- the world makes the step, and the log has its answer
@@ -87,3 +93,13 @@ module _ (weigher : Weigher) where
   abbrev pub LinesGo : Captions → List SeenNode → Noted → List Line → List SeenNode → Noted → Type 0
   LinesGo captions sites n [] new n' = (new ≡ sites) × (n' ≡ n)
   LinesGo captions sites n (line ∷ lines) new n' = (mid : List SeenNode) × (m : Noted) × LineGoes captions sites n line mid m × LinesGo captions mid m lines new n'
+
+  -- the same from one world and its log to another
+  abbrev pub StepPlayed : List ℕ → List SeenNode × Noted → Step → List SeenNode × Noted → Type 0
+  StepPlayed caption old step new = StepNoted caption old.0 old.1 step new.0 new.1
+
+  abbrev pub LinePlayed : List NumberedLine → List SeenNode × Noted → Line → List SeenNode × Noted → Type 0
+  LinePlayed captions old line new = LineGoes (captions_of captions) old.0 old.1 line new.0 new.1
+
+  abbrev pub LinesPlayed : List NumberedLine → List SeenNode × Noted → List Line → List SeenNode × Noted → Type 0
+  LinesPlayed captions old lines new = LinesGo (captions_of captions) old.0 old.1 lines new.0 new.1

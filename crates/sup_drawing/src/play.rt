@@ -4,7 +4,7 @@ ghost use Rattle.std.specs.Prelude.{◌≡◌, All, OnOk, false};
 ghost use Rattle.sup_world.specs.CarriedSteps.{has_bytes};
 ghost use Rattle.sup_world.specs.SeenNodes.{sites_of};
 ghost use Rattle.sup_noting.specs.Noted.{noted_of};
-ghost use Rattle.sup_drawing.specs.Lines.{LineGoes, LinesGo, SettlingNoted, StepNoted, IsDry, caption_of, captions_of};
+ghost use Rattle.sup_drawing.specs.Lines.{LinePlayed, LinesPlayed, SettlingNoted, StepPlayed, IsDry, caption_of, captions_of, played};
 
 use std::alloc::{AllocError, Global};
 use sup_lines::{Line, NumberedLine};
@@ -27,7 +27,7 @@ pub fn play_lines<G: Weigh>(
     lines: &[Line],
 ) -> Result<(), AllocError>
     requires { All IsDry lines.now }
-    ensures { OnOk result (LinesGo G.weight_of (captions_of captions.now) (sites_of world.old) (noted_of log.old) lines.now (sites_of world.new) (noted_of log.new)) }
+    ensures { OnOk result (LinesPlayed G.weight_of captions.now (played world.old log.old) lines.now (played world.new log.new)) }
 {
     for line in lines {
         play_line(alloc, world, log, captions, line)?;
@@ -44,7 +44,7 @@ fn play_line<G: Weigh>(
     line: &Line,
 ) -> Result<(), AllocError>
     requires { IsDry line.now }
-    ensures { OnOk result (LineGoes G.weight_of (captions_of captions.now) (sites_of world.old) (noted_of log.old) line.now (sites_of world.new) (noted_of log.new)) }
+    ensures { OnOk result (LinePlayed G.weight_of captions.now (played world.old log.old) line.now (played world.new log.new)) }
 {
     let caption = caption_of(captions, log.rows.len());
     match line {
@@ -67,7 +67,7 @@ fn play_step<G: Weigh>(
     step: &Step,
 ) -> Result<(), AllocError>
     requires { has_bytes step.now ≡ false }
-    ensures { OnOk result (StepNoted G.weight_of caption.now (sites_of world.old) (noted_of log.old) step.now (sites_of world.new) (noted_of log.new)) }
+    ensures { OnOk result (StepPlayed G.weight_of caption.now (played world.old log.old) step.now (played world.new log.new)) }
 {
     match world.step(step) {
         Ok(answer) => note_answer(
