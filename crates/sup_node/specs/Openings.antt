@@ -9,6 +9,7 @@ use Rattle.sup_anti_entropy.specs.Buffers.{holds_more}
 use Rattle.sup_local_sup.specs.Changing.{carried}
 use Rattle.sup_local_sup.specs.Planning.{carried_out}
 use Rattle.sup_local_sup.specs.Supervising.{Supervisor}
+use Rattle.sup_replica.specs.Nodes.{Node}
 use Rattle.sup_replica.specs.Stations.{Station}
 use Rattle.sup_node.specs.declared.opened.OpenIntake.{OpenIntake}
 use Rattle.sup_node.specs.declared.opened.OpenIntake.TheVariants.{Whole, Touched}

@@ -32,7 +32,7 @@ pub(crate) enum OpenIntake {
 impl OpenState {
     ghost use Rattle.sup_tables.specs.States.{State};
     ghost use Rattle.sup_node.specs.NodeStates.{station_in};
-    ghost use Rattle.sup_node.specs.Openings.{TablesBecome, IsClosedStation, kept_with};
+    ghost use Rattle.sup_node.specs.Openings.{TablesBecome, IsClosedStation, kept_with, with_known};
 
     // The state with the delta. It takes no memory.
     pub fn carried_out(self) -> NodeState

@@ -1,5 +1,6 @@
 //! Which children run on a node.
 ghost use Rattle.std.specs.Prelude.{◌≡◌, ◌++◌, IfOk, OnOk};
+ghost use Rattle.sup_tables.specs.Lent.{winner_lent};
 ghost use Rattle.sup_tables.specs.Stored.{child_row};
 ghost use Rattle.sup_local_sup.specs.Keeping.{IdsRise, AreCounted};
 ghost use Rattle.sup_placement.specs.Place.{place};
@@ -55,7 +56,7 @@ fn push_wanted<W: Weigh>(
     winner: &Winner<ChildId, ChildSpec>,
 ) -> Result<(), AllocError>
     ensures { OnOk result (wanted.new.items ≡ wanted.old.items
-        ++ wanted_row W.weight_of me.now hosts.now (child_row winner.now.key.now winner.now.dot.now winner.now.value.now)) }
+        ++ wanted_row W.weight_of me.now hosts.now (winner_lent child_row winner.now)) }
 {
     if is_here(weigher, me, hosts, winner.key) {
         wanted.push(Wanted {
