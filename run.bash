@@ -35,7 +35,7 @@ is_built() {
 build() {
   local log
   log=$(mktemp "${TMPDIR:-/tmp}/$1-build-XXXXXX")
-  echo "$1: proving and building the program, half an hour to an hour the first time; the log is $log" >&2
+  echo "$1: proving and building the program, an hour or more the first time; the log is $log" >&2
   (cd "$top/crates/$1" && rt run) >"$log" 2>&1 </dev/null
   if ! grep -q '^rt: running ' "$log"; then
     cat "$log" >&2
