@@ -13,8 +13,6 @@ mod refused;
 #[cfg(test)]
 mod restarts;
 #[cfg(test)]
-mod scarce;
-#[cfg(test)]
 mod scarcity;
 #[cfg(test)]
 mod shared;

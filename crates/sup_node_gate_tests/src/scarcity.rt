@@ -2,10 +2,10 @@
 //! and the call made once more does what it should have done.
 use crate::given::{gate, station};
 use crate::refused::{ACTS, tells};
-use crate::scarce::Scarce;
 use std::process::Abort;
 use std::sync::Wait;
 use sup_keeper::MemKeeper;
+use sup_scarce::Scarce;
 
 // Whether a call of the story was refused where the keeper's call `k + 1` lacks memory. The history is the same in any case.
 fn tells_over_scarcity(rt: &(impl Abort + AllocGlobal + Wait), k: u64) -> bool {

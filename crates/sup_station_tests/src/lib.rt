@@ -25,8 +25,6 @@ mod refused;
 #[cfg(test)]
 mod rows;
 #[cfg(test)]
-mod scarce;
-#[cfg(test)]
 mod scarcity;
 #[cfg(test)]
 mod shows;

@@ -3,11 +3,11 @@
 //! its save.
 use crate::fuses::{OPENING, RESTARTED, STARTED, start};
 use crate::given::name;
-use crate::scarce::Scarce;
 use std::process::Abort;
 use sup_keeper::{Keeper, MemKeeper};
 use sup_placement::FlatWeigh;
 use sup_replica::{Act, Config, Refusal};
+use sup_scarce::Scarce;
 use sup_station::Station;
 
 type Scant = Station<Scarce, FlatWeigh>;
