@@ -47,6 +47,18 @@ pub(crate) const ACK_OF_JOINED: &str =
 pub(crate) const ACK_OF_REMOVED: &str =
     "{\"from\":\"a\",\"kind\":\"ack\",\"n\":2,\"to\":\"b\",\"v\":2}";
 
+pub(crate) const MESSAGES: [&str; 9] = [
+    ACK,
+    DELTA,
+    DRAINED,
+    STARTED,
+    JOINED,
+    REMOVED,
+    REPLACED,
+    ACK_OF_JOINED,
+    ACK_OF_REMOVED,
+];
+
 pub(crate) const OPENING: &str = "\
     {\"boot\":1,\"count\":0,\"ctx\":{\"cloud\":[],\"vector\":{}},\"kind\":\"image\",\"node\":\"a\",\
     \"rows\":[],\"v\":2}";

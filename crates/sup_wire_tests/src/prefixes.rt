@@ -1,8 +1,5 @@
 //! Texts that are cut short.
-use crate::given::{
-    ACK, ACK_OF_JOINED, ACK_OF_REMOVED, DELTA, DRAINED, IMAGE, JOINED, OLD_IMAGE, OPENING, REMOVED,
-    REPLACED, STARTED,
-};
+use crate::given::{IMAGE, MESSAGES, OLD_IMAGE, OPENING};
 use std::process::Abort;
 use sup_wire::{decode, decode_image};
 
@@ -17,18 +14,6 @@ fn expect_no_image(rt: &(impl Abort + AllocGlobal), text: &[u8]) {
         text.len()
     );
 }
-
-const MESSAGES: [&str; 9] = [
-    ACK,
-    DELTA,
-    DRAINED,
-    STARTED,
-    JOINED,
-    REMOVED,
-    REPLACED,
-    ACK_OF_JOINED,
-    ACK_OF_REMOVED,
-];
 
 #[test]
 fn no_front_of_a_message_is_a_message(rt: HostRuntime) {
