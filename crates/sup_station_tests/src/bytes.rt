@@ -1,12 +1,13 @@
 //! Bytes that are nearly a message: the messages of two rows, of version 1 and of version 2, cut short, of a version that
 //! there is not, or with their rows or dots backwards. A node refuses them before it looks who they are for, and stays as it is.
 use crate::given::{child, message, name, worker};
-use crate::told::{line_of, put, shown};
+use crate::told::{line_of, put};
 use std::process::Abort;
 use sup_keeper::MemKeeper;
 use sup_placement::FlatWeigh;
 use sup_replica::{Act, Config, Event, Refusal};
 use sup_station::Station;
+use sup_test_texts::shown;
 
 type Kept = Station<MemKeeper, FlatWeigh>;
 
@@ -51,7 +52,7 @@ fn begun(rt: &(impl Abort + AllocGlobal), of: &str) -> Kept {
 
 // What the node shows and keeps.
 fn seen(rt: &(impl Abort + AllocGlobal), station: &Kept, of: &str) -> String {
-    let mut text = shown(rt, &name(rt, of), station.node());
+    let mut text = shown(rt.alloc(), &name(rt, of), station.node()).expect(rt, "room");
     let image = line_of(rt, station.keeper().stored());
     put(rt, &mut text, image.as_str());
     text

@@ -2,12 +2,13 @@
 //! is made once more. The calls promise nothing, and end the test where one of a station's fails.
 use crate::given::{called, message, name};
 use crate::line::Line;
-use crate::told::{answered, led, line_of, put, refused, shown};
+use crate::told::{answered, line_of, put};
 use std::process::Abort;
 use sup_keeper::{Keeper, MemKeeper};
 use sup_placement::FlatWeigh;
 use sup_replica::{Act, Config, Done, Event, Letter, Refusal};
 use sup_station::Station;
+use sup_test_texts::{led, refused, shown};
 
 #[derive(Drop)]
 pub(crate) struct Stage {
@@ -216,7 +217,7 @@ impl Stage {
     fn tells(&mut self, rt: &(impl Abort + AllocGlobal), at: &str, answer: Result<Done, Refusal>) {
         match answer {
             Err(refusal) => {
-                let text = refused(rt, refusal);
+                let text = refused(rt.alloc(), refusal).expect(rt, "room");
                 put(rt, &mut self.told, text.as_str());
             }
             Ok(done) => self.tells_done(rt, at, done),
@@ -251,9 +252,9 @@ impl Stage {
 
     fn shows(&mut self, rt: &(impl Abort + AllocGlobal), at: &str) {
         let text = if at == "a" {
-            shown(rt, &name(rt, at), self.a.node())
+            shown(rt.alloc(), &name(rt, at), self.a.node()).expect(rt, "room")
         } else {
-            shown(rt, &name(rt, at), self.b.node())
+            shown(rt.alloc(), &name(rt, at), self.b.node()).expect(rt, "room")
         };
         put(rt, &mut self.told, text.as_str());
     }
@@ -276,9 +277,9 @@ impl Stage {
         let at = name(rt, line.at);
         let sought = called(rt.alloc(), line.word).expect(rt, "room");
         let text = if line.at == "a" {
-            led(rt, &at, self.a.node(), &sought)
+            led(rt.alloc(), &at, self.a.node(), &sought).expect(rt, "room")
         } else {
-            led(rt, &at, self.b.node(), &sought)
+            led(rt.alloc(), &at, self.b.node(), &sought).expect(rt, "room")
         };
         put(rt, &mut self.told, text.as_str());
     }

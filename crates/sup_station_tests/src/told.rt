@@ -1,12 +1,9 @@
 //! What is told of a row, line by line. What is printed of a station's answer and of its node are the texts of a script's
 //! lines. Where memory is refused a call is made once more.
 use std::process::Abort;
-use sup_node::Node;
-use sup_node_text::{show_text, where_text};
-use sup_placement::FlatWeigh;
-use sup_replica::{Done, Refusal};
-use sup_specs::{Name, NodeName};
-use sup_text::{answer_text, refusal_text};
+use sup_replica::Done;
+use sup_specs::NodeName;
+use sup_text::answer_text;
 
 /// Puts a text behind another one.
 pub(crate) fn put(rt: &impl Abort, told: &mut String, text: &str) {
@@ -24,35 +21,6 @@ pub(crate) fn answered(
 ) -> String {
     answer_text(rt.alloc(), at, done, number)
         .or_else(|_| answer_text(rt.alloc(), at, done, number))
-        .expect(rt, "room")
-}
-
-pub(crate) fn refused(rt: &(impl Abort + AllocGlobal), refusal: Refusal) -> String {
-    refusal_text(rt.alloc(), refusal)
-        .or_else(|_| refusal_text(rt.alloc(), refusal))
-        .expect(rt, "room")
-}
-
-/// What a node shows, or that it is down.
-pub(crate) fn shown(
-    rt: &(impl Abort + AllocGlobal),
-    at: &NodeName,
-    node: Option<&Node<FlatWeigh>>,
-) -> String {
-    show_text(rt.alloc(), at, node, &FlatWeigh)
-        .or_else(|_| show_text(rt.alloc(), at, node, &FlatWeigh))
-        .expect(rt, "room")
-}
-
-/// Where a name leads at a node.
-pub(crate) fn led(
-    rt: &(impl Abort + AllocGlobal),
-    at: &NodeName,
-    node: Option<&Node<FlatWeigh>>,
-    sought: &Name,
-) -> String {
-    where_text(rt.alloc(), at, node, sought, &FlatWeigh)
-        .or_else(|_| where_text(rt.alloc(), at, node, sought, &FlatWeigh))
         .expect(rt, "room")
 }
 

@@ -4,12 +4,13 @@ use crate::given::{name, names, step, steps, world};
 use crate::made::{made, ran};
 use crate::runs::{MIXED, MIXED_TOLD};
 use crate::seen::seen;
-use crate::told::{answered, put, settled, shown};
+use crate::told::{answered, put, settled};
 use std::process::Abort;
 use sup_model::Step;
 use sup_placement::FlatWeigh;
 use sup_replica::{Config, Refusal};
 use sup_specs::NodeName;
+use sup_test_texts::shown;
 use sup_world::{Answers, World, WorldFault};
 
 fn new_world(
@@ -137,7 +138,8 @@ fn sure_settling(rt: &(impl Abort + AllocGlobal), world: &mut World<FlatWeigh>) 
 fn shows(rt: &(impl Abort + AllocGlobal), world: &World<FlatWeigh>, word: &str, wanted: &str) {
     let at = name(rt, word);
     let node = world.station(&at).and_then(|station| station.node());
-    assert!(rt; shown(rt, &at, node).as_str() == wanted, "{word}");
+    let text = shown(rt.alloc(), &at, node).expect(rt, "room");
+    assert!(rt; text.as_str() == wanted, "{word}");
 }
 
 #[test]

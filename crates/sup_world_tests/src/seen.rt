@@ -1,11 +1,12 @@
 //! All that can be seen of a world: what its nodes show, keep and know of one another, and the messages.
-use crate::told::{put, shown};
+use crate::told::put;
 use std::process::Abort;
 use std::str::from_utf8;
 use sup_keeper::Keeper;
 use sup_node::Node;
 use sup_placement::FlatWeigh;
 use sup_specs::NodeName;
+use sup_test_texts::shown;
 use sup_world::World;
 
 /// What these nodes show and keep, what they hold for others, and each message that they sent.
@@ -32,7 +33,7 @@ fn put_node(
     let Some(station) = world.station(name) else {
         panic!(rt; "no such node")
     };
-    let lines = shown(rt, name, station.node());
+    let lines = shown(rt.alloc(), name, station.node()).expect(rt, "room");
     put(rt, text, lines.as_str());
     put_bytes(rt, text, station.keeper().stored());
     if let Some(node) = station.node() {

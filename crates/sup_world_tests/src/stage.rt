@@ -1,13 +1,14 @@
 //! A world that plays the lines of a script, one after another. Where memory is refused a call is made once more.
 use crate::given::{script, world_of};
 use crate::made::made;
-use crate::told::{answered, led, put, settled, shown};
+use crate::told::{answered, put, settled};
 use std::process::Abort;
 use sup_lines::Line;
 use sup_model::Step;
 use sup_placement::FlatWeigh;
 use sup_replica::Refusal;
 use sup_specs::{Name, NodeName};
+use sup_test_texts::{led, shown};
 use sup_world::{Answer, World};
 
 #[derive(Drop)]
@@ -82,14 +83,14 @@ impl Stage {
 
     fn shows(&self, rt: &(impl Abort + AllocGlobal), node: &NodeName) -> String {
         match self.world.station(node) {
-            Some(station) => shown(rt, node, station.node()),
+            Some(station) => shown(rt.alloc(), node, station.node()).expect(rt, "room"),
             None => panic!(rt; "no such node"),
         }
     }
 
     fn leads(&self, rt: &(impl Abort + AllocGlobal), node: &NodeName, name: &Name) -> String {
         match self.world.station(node) {
-            Some(station) => led(rt, node, station.node(), name),
+            Some(station) => led(rt.alloc(), node, station.node(), name).expect(rt, "room"),
             None => panic!(rt; "no such node"),
         }
     }

@@ -1,11 +1,8 @@
 //! What is told of a world, as a script's lines print it. Where memory is refused a call is made once more.
 use std::process::Abort;
-use sup_node::Node;
-use sup_node_text::{show_text, where_text};
-use sup_placement::FlatWeigh;
 use sup_replica::Refusal;
-use sup_specs::{Name, NodeName};
-use sup_text::{answer_text, refusal_text, settled_text};
+use sup_test_texts::refused;
+use sup_text::{answer_text, settled_text};
 use sup_world::{Answer, Settled};
 
 /// Puts a text behind another one.
@@ -22,19 +19,13 @@ pub(crate) fn answered(
 ) -> String {
     match answer {
         Ok(answer) => done(rt, answer),
-        Err(refusal) => refused(rt, *refusal),
+        Err(refusal) => refused(rt.alloc(), *refusal).expect(rt, "room"),
     }
 }
 
 fn done(rt: &(impl Abort + AllocGlobal), answer: &Answer) -> String {
     answer_text(rt.alloc(), &answer.at, &answer.done, answer.number)
         .or_else(|_| answer_text(rt.alloc(), &answer.at, &answer.done, answer.number))
-        .expect(rt, "room")
-}
-
-pub(crate) fn refused(rt: &(impl Abort + AllocGlobal), refusal: Refusal) -> String {
-    refusal_text(rt.alloc(), refusal)
-        .or_else(|_| refusal_text(rt.alloc(), refusal))
         .expect(rt, "room")
 }
 
@@ -45,7 +36,7 @@ pub(crate) fn settled(
 ) -> String {
     match answer {
         Ok(settled) => settled_lines(rt, settled),
-        Err(refusal) => refused(rt, *refusal),
+        Err(refusal) => refused(rt.alloc(), *refusal).expect(rt, "room"),
     }
 }
 
@@ -53,28 +44,5 @@ fn settled_lines(rt: &(impl Abort + AllocGlobal), settled: &Settled) -> String {
     let effects = settled.effects.as_slice();
     settled_text(rt.alloc(), settled.messages, effects)
         .or_else(|_| settled_text(rt.alloc(), settled.messages, effects))
-        .expect(rt, "room")
-}
-
-/// What a node shows, or that it is down.
-pub(crate) fn shown(
-    rt: &(impl Abort + AllocGlobal),
-    at: &NodeName,
-    node: Option<&Node<FlatWeigh>>,
-) -> String {
-    show_text(rt.alloc(), at, node, &FlatWeigh)
-        .or_else(|_| show_text(rt.alloc(), at, node, &FlatWeigh))
-        .expect(rt, "room")
-}
-
-/// Where a name leads at a node.
-pub(crate) fn led(
-    rt: &(impl Abort + AllocGlobal),
-    at: &NodeName,
-    node: Option<&Node<FlatWeigh>>,
-    sought: &Name,
-) -> String {
-    where_text(rt.alloc(), at, node, sought, &FlatWeigh)
-        .or_else(|_| where_text(rt.alloc(), at, node, sought, &FlatWeigh))
         .expect(rt, "room")
 }
