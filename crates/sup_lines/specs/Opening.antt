@@ -1,5 +1,5 @@
 -- The first line of a script, which names the nodes (this project's script format).
-use Rattle.std.specs.Prelude.{Bool, true, not, ◌&&◌, nat_le, nat_lt, List, [], ◌∷◌, length, Option, Some, None, if◌then◌else◌, codes}
+use Rattle.std.specs.Prelude.{ℕ, Bool, true, not, ◌&&◌, nat_le, List, [], ◌∷◌, length, Option, Some, None, if◌then◌else◌, codes}
 use Rattle.std.specs.Str.{bytes_eq}
 use Rattle.std.specs.List.{list_any}
 use Rattle.sup_lines.specs.Words.{Word, Name, ◌>>=◌}
@@ -25,9 +25,9 @@ if_distinct names = if are_distinct names then Some names else None
 abbrev pub distinct_names_of : List Word → Option (List Name)
 distinct_names_of words = names_of words >>= if_distinct
 
--- nodes NAME.., 1 to 16 distinct names
-unfoldable pub nodes_of : List Word → Option (List Name)
-nodes_of [] = None
-nodes_of (verb ∷ words) =
-    if bytes_eq verb (codes "nodes") && nat_lt 0 (length words) && nat_le (length words) 16
+-- nodes NAME.., distinct names, at least and at most so many
+abbrev pub nodes_within : ℕ → ℕ → List Word → Option (List Name)
+nodes_within least most [] = None
+nodes_within least most (verb ∷ words) =
+    if bytes_eq verb (codes "nodes") && nat_le least (length words) && nat_le (length words) most
     then distinct_names_of words else None

@@ -2,7 +2,7 @@
 use Rattle.std.specs.Prelude.{◌≡◌, ℕ, Bool, true, not, ◌&&◌, ◌||◌, ◌==◌, nat_le, List, [], ◌∷◌, length, slice_index, filter, Option, Some, None, Result, Ok, Err, if◌then◌else◌}
 use Rattle.std.specs.List.{slice_split, enumerate_from, list_all}
 use Rattle.sup_lines.specs.Words.{Word, Name, ReadsWhere}
-use Rattle.sup_lines.specs.Opening.{nodes_of}
+use Rattle.sup_lines.specs.Opening.{nodes_within}
 use Rattle.sup_lines.specs.Lines.{form_of}
 use Rattle.sup_lines.specs.declared.line.Line.{Line}
 use Rattle.sup_lines.specs.declared.fault.LineFault.{LineFault}
@@ -30,9 +30,13 @@ words_of line = slice_split (λ byte. byte == 32) line
 unfoldable pub line_of : List ℕ → Option Line
 line_of bytes = if is_plain bytes then form_of (words_of bytes) else None
 
--- the nodes that the bytes of the first line say
-unfoldable pub opening_of : List ℕ → Option (List Name)
-opening_of bytes = if is_plain bytes then nodes_of (words_of bytes) else None
+-- the nodes that the bytes of a first line say, at least and at most so many
+unfoldable pub opening_within : ℕ → ℕ → List ℕ → Option (List Name)
+opening_within least most bytes = if is_plain bytes then nodes_within least most (words_of bytes) else None
+
+-- the nodes that the bytes of the first line say, 1 to 16 distinct ones
+abbrev pub opening_of : List ℕ → Option (List Name)
+opening_of bytes = opening_within 1 16 bytes
 
 -- the fault of a script whose line of this number was not read
 abbrev pub fault_at : ℕ → LineFault → ScriptFault

@@ -18,7 +18,7 @@ mod words;
 pub use fault::{LineFault, ScriptFault};
 pub use line::Line;
 pub use numbered::{NumberedLine, number_lines};
-pub use opening::{MOST_NODES, read_distinct};
+pub use opening::{MOST_NODES, read_distinct, read_nodes_within};
 pub use options::value_after;
 pub use script::{Script, read_script};
 pub use values::{read_child_id, read_node_name, read_number};

@@ -2,8 +2,8 @@
 
 ghost use Rattle.std.specs.Prelude.{◌≡◌, ◌≢◌, IfErr, None};
 ghost use Rattle.sup_lines.specs.Words.{Reads, texts};
-ghost use Rattle.sup_lines.specs.Opening.{are_distinct, distinct_names_of, names_of, nodes_of};
-ghost use Rattle.sup_lines.specs.Script.{ReadsLine, opening_of};
+ghost use Rattle.sup_lines.specs.Opening.{are_distinct, distinct_names_of, names_of, nodes_within};
+ghost use Rattle.sup_lines.specs.Script.{ReadsLine, opening_of, opening_within};
 
 use crate::fault::LineFault;
 use crate::values::read_node_name;
@@ -11,31 +11,55 @@ use crate::words::{plain_text, words_of};
 use std::alloc::Global;
 use sup_specs::NodeName;
 
+/// A world has at least this many nodes.
+const LEAST_NODES: usize = 1;
+
 /// A world has at most this many nodes.
 pub const MOST_NODES: usize = 16;
 
 /// The nodes of a script, 1 to 16 distinct ones.
-#[tactic(auto, unfolding(crate::specs::Script::opening_of))]
 pub fn read_opening(alloc: Global, line: &[u8]) -> Result<Vec<NodeName>, LineFault>
     ensures { ReadsLine (λ v. v.items) line.now result (opening_of line.now) }
+{
+    read_nodes_within(alloc, line, LEAST_NODES, MOST_NODES)
+}
+
+/// The nodes that a first line names, at least and at most so many distinct ones.
+///
+/// # Errors
+///
+/// - `LineFault::Bad` where the line names no such nodes: always where it isn't plain.
+/// - `LineFault::OutOfMemory` where memory was refused.
+#[tactic(auto, unfolding(crate::specs::Script::opening_within))]
+pub fn read_nodes_within(
+    alloc: Global,
+    line: &[u8],
+    least: usize,
+    most: usize,
+) -> Result<Vec<NodeName>, LineFault>
+    ensures { ReadsLine (λ v. v.items) line.now result (opening_within least most line.now) }
 {
     match plain_text(line) {
         Some(text) => {
             let words = words_of(alloc, text)?;
-            read_nodes(alloc, words.as_slice())
+            read_nodes(alloc, words.as_slice(), least, most)
         }
         None => Err(LineFault::Bad),
     }
 }
 
-#[tactic(auto, unfolding(crate::specs::Opening::nodes_of))]
-fn read_nodes(alloc: Global, words: &[&str]) -> Result<Vec<NodeName>, LineFault>
-    ensures { Reads (λ v. v.items) result (nodes_of (texts words.now)) }
+fn read_nodes(
+    alloc: Global,
+    words: &[&str],
+    least: usize,
+    most: usize,
+) -> Result<Vec<NodeName>, LineFault>
+    ensures { Reads (λ v. v.items) result (nodes_within least most (texts words.now)) }
 {
     let Some((verb, words)) = words.split_first() else {
         return Err(LineFault::Bad);
     };
-    if *verb != "nodes" || words.is_empty() || words.len() > MOST_NODES {
+    if *verb != "nodes" || words.len() < least || words.len() > most {
         return Err(LineFault::Bad);
     }
     read_distinct(alloc, words)
