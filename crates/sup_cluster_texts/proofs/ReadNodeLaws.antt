@@ -9,9 +9,9 @@ use Rattle.std.proofs.lemmas.Map.Keys.{IsDistinct-cons}
 use Rattle.std.proofs.lemmas.Bool.{and_parts, not-true}
 use Rattle.sup_lines.specs.Words.{Word, Name, ◌>>=◌}
 use Rattle.sup_lines.specs.Values.{node_name_of}
-use Rattle.sup_lines.specs.Opening.{are_distinct, distinct_names_of, if_distinct, names_of}
-use Rattle.sup_lines.specs.Script.{is_plain, words_of}
-use Rattle.sup_cluster_lines.specs.Nodes.{few_nodes_of, opening_of}
+use Rattle.sup_lines.specs.Opening.{are_distinct, distinct_names_of, if_distinct, names_of, nodes_within}
+use Rattle.sup_lines.specs.Script.{is_plain, words_of, opening_within}
+use Rattle.sup_cluster_lines.specs.Nodes.{opening_of}
 use Rattle.sup_cluster_texts.proofs.ChoiceLaws.{chosen}
 use Rattle.sup_plan.proofs.ApartItemLaws.{unfound}
 
@@ -41,8 +41,7 @@ named words nodes h = option_and_then_some if_distinct (names_of words) nodes h 
     let same : names ≡ nodes = same_Some names nodes taken.1 in
     subst (λ l. (length l ≡ length words) × IsDistinct bytes_eq l) same (counted words names are, differ names taken.0))
 
-few : (words : List Word) (nodes : List Name) → few_nodes_of words ≡ Some nodes → AreFew nodes
-unfolding few_nodes_of
+few : (words : List Word) (nodes : List Name) → nodes_within 2 5 words ≡ Some nodes → AreFew nodes
 few [] nodes h = absurd (none-some nodes h)
 few (verb ∷ words) nodes h =
     let taken = chosen (bytes_eq verb (codes "nodes") && nat_le 2 (length words) && nat_le (length words) 5) (distinct_names_of words) nodes h in
@@ -55,5 +54,5 @@ few (verb ∷ words) nodes h =
     }
 
 pub opened_few : (bytes : List ℕ) (nodes : List Name) → opening_of bytes ≡ Some nodes → AreFew nodes
-unfolding opening_of
-opened_few bytes nodes h = few (words_of bytes) nodes (chosen (is_plain bytes) (few_nodes_of (words_of bytes)) nodes h).1
+unfolding opening_within
+opened_few bytes nodes h = few (words_of bytes) nodes (chosen (is_plain bytes) (nodes_within 2 5 (words_of bytes)) nodes h).1
