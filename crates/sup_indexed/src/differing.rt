@@ -7,36 +7,29 @@ ghost use Rattle.sup_causal.specs.Dots.{has};
 ghost use Rattle.sup_dot_store.specs.ByDot.{at_dot};
 ghost use Rattle.sup_dot_store.specs.Contents.{values_of};
 ghost use Rattle.sup_indexed.specs.Changed.{value_in, IsKeptAt};
-ghost use Rattle.sup_indexed.specs.Joined.{AreKnown, AreKnownIn, IsJoinPlan, IsChangeTo};
+ghost use Rattle.sup_indexed.specs.Joined.{AreKnown, AreKnownIn, ChangesToJoin, IsChangeTo};
 
-use crate::indexed_map::IndexedMap;
-use crate::planning::PlannedMap;
 use crate::touching::is_same;
 use std::alloc::{AllocError, Global};
+use std::collections::BTreeMap;
 use sup_causal::{CausalContext, Dot, Merge, merge_maps};
 use sup_dot_store::{DotFun, DotStore};
 use sup_specs::Plain;
 
-impl<K: Plain, V: Plain> IndexedMap<K, V> {
-    ghost use Rattle.sup_indexed.specs.Contents.{functions_of};
-
-    /// What [`plan_with`](Self::plan_with) gives, by one pass over both maps, which is cheap where they have most in common:
-    /// of a key under which both have the same one value nothing is planned. An `Err` is want of memory.
-    pub fn plan_by_walk(
-        &self,
-        alloc: Global,
-        mine: &CausalContext,
-        other: &Self,
-        theirs: &CausalContext,
-    ) -> Result<PlannedMap<K, V>, AllocError>
-        requires mine { AreKnown K.cmp (functions_of self.now) mine.now }
-        requires theirs { AreKnown K.cmp (functions_of other.now) theirs.now }
-        ensures { IfOk result (IsJoinPlan K.cmp V.cmp mine.now (functions_of self.now) theirs.now (functions_of other.now)) }
-    {
-        let by = ChangesUnder { mine, theirs };
-        let changed = merge_maps(alloc, &self.stores, &other.stores, &by)?;
-        Ok(PlannedMap { changed })
-    }
+// The functions that a join gives, where it may change one, by one pass over both maps. An `Err` is want of memory.
+pub(crate) fn walked<K: Plain, V: Plain>(
+    alloc: Global,
+    here: &BTreeMap<K, DotFun<V>>,
+    mine: &CausalContext,
+    there: &BTreeMap<K, DotFun<V>>,
+    theirs: &CausalContext,
+) -> Result<BTreeMap<K, DotFun<V>>, AllocError>
+    requires mine { AreKnown K.cmp here.now mine.now }
+    requires theirs { AreKnown K.cmp there.now theirs.now }
+    ensures { IfOk result (ChangesToJoin K.cmp V.cmp mine.now here.now theirs.now there.now) }
+{
+    let by = ChangesUnder { mine, theirs };
+    merge_maps(alloc, here, there, &by)
 }
 
 // The contexts of two maps that are joined, of which only the functions are wanted that may change.

@@ -19,5 +19,5 @@ mod touching;
 pub use indexed_map::IndexedMap;
 pub use opening::ReadyMap;
 pub use place::Place;
-pub use planning::PlannedMap;
+pub use planning::{Looks, PlannedMap};
 pub use property::Property;

@@ -6,6 +6,7 @@ ghost use Rattle.sup_causal.specs.Dots.{has};
 ghost use Rattle.sup_indexed.specs.Joined.{AreKnown, ChangesToJoin, IsJoinPlan};
 ghost use Rattle.sup_indexed.specs.Listed.{stands, ListsAll, HasKeys, HasKnownKeys};
 
+use crate::differing::walked;
 use crate::indexed_map::IndexedMap;
 use crate::joining::joined_under;
 use crate::place::Place;
@@ -15,6 +16,16 @@ use std::collections::{BTreeMap, BTreeSet};
 use sup_causal::{CausalContext, keys_rise};
 use sup_dot_store::DotFun;
 use sup_specs::Plain;
+
+/// Which keys a plan of a join looks at. Each gives a plan of the same join.
+#[derive(Clone, Copy, Debug, PartialEq, Eq)]
+pub enum Looks {
+    /// At those that the other map has, and at those here under which it knows a dot: cheap where these are few.
+    AtTouched,
+    /// At all keys of both, in one pass: cheap where they have most in common. Of a key under which both have the same one
+    /// value nothing is planned.
+    AtAll,
+}
 
 /// The functions that a map gets by a join, by key. It borrows nothing.
 #[derive(Drop)]
@@ -40,26 +51,25 @@ impl<K: Plain, V: Plain> PlannedMap<K, V> {
 impl<K: Plain, V: Plain> IndexedMap<K, V> {
     ghost use Rattle.sup_indexed.specs.Contents.{functions_of};
 
-    /// The functions that a join gives, where it may change one. Nothing changes. An `Err` is want of memory.
+    /// The functions that a join gives, where it may change one, found as `looks` says. Nothing changes. An `Err` is want of
+    /// memory.
     pub fn plan_with(
         &self,
         alloc: Global,
         mine: &CausalContext,
         other: &Self,
         theirs: &CausalContext,
+        looks: Looks,
     ) -> Result<PlannedMap<K, V>, AllocError>
         requires mine { AreKnown K.cmp (functions_of self.now) mine.now }
         requires theirs { AreKnown K.cmp (functions_of other.now) theirs.now }
         ensures { IfOk result (IsJoinPlan K.cmp V.cmp mine.now (functions_of self.now) theirs.now (functions_of other.now)) }
     {
-        let changed = planned(
-            alloc,
-            &self.index,
-            &self.stores,
-            mine,
-            &other.stores,
-            theirs,
-        )?;
+        let (here, there) = (&self.stores, &other.stores);
+        let changed = match looks {
+            Looks::AtTouched => planned(alloc, &self.index, here, mine, there, theirs)?,
+            Looks::AtAll => walked(alloc, here, mine, there, theirs)?,
+        };
         Ok(PlannedMap { changed })
     }
 }

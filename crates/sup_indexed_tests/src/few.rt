@@ -1,9 +1,9 @@
 //! Joins planned by one pass over both maps, at values that were worked out by hand.
-use crate::given::{Indexed, Known, Plan, Rows, expect_rows, in_place, indexed};
+use crate::given::{Indexed, Known, Plan, Rows, expect_rows, in_place, indexed, planned};
 use std::process::Abort;
 use sup_causal::Lattice;
 use sup_dot_store::Causal;
-use sup_indexed::IndexedMap;
+use sup_indexed::{IndexedMap, Looks};
 
 // Twenty rows under as many keys, and further rows behind them.
 fn twenty_and<'a>(
@@ -23,18 +23,6 @@ fn twenty_and<'a>(
 fn state(rt: &(impl Abort + AllocGlobal), further: Known<'_>) -> Causal<Indexed> {
     let rows = twenty_and(rt, further.0);
     indexed(rt, (&rows, further.1))
-}
-
-// What a join with another state changes.
-fn walked(
-    rt: &(impl Abort + AllocGlobal),
-    state: &Causal<Indexed>,
-    other: &Causal<Indexed>,
-) -> Plan {
-    let (store, theirs) = (state.store(), other.store());
-    store
-        .plan_by_walk(rt.alloc(), state.context(), theirs, other.context())
-        .expect(rt, "room")
 }
 
 // Expects the plan, once it is carried out beside the twenty rows, to leave them and these.
@@ -85,7 +73,7 @@ fn expect_few(
     wanted: Rows<'_>,
 ) {
     let (here, there) = (state(rt, left), state(rt, right));
-    let plan = walked(rt, &here, &there);
+    let plan = planned(rt, &here, &there, Looks::AtAll);
     assert!(rt; plan.functions().len() == keys);
     expect_made(rt, here, plan, wanted);
     expect_joined(rt, left, right, wanted);
@@ -118,7 +106,7 @@ fn a_map_does_not_differ_from_itself(rt: HostRuntime) {
 fn a_value_that_is_known_and_gone_there_is_planned_to_go(rt: HostRuntime) {
     let here = state(&rt, (MORE, &[]));
     let there = state(&rt, (&[], &[("b", 1)]));
-    let plan = walked(&rt, &here, &there);
+    let plan = planned(&rt, &here, &there, Looks::AtAll);
     assert!(rt; plan.functions().len() == 1);
     let left = plan.functions().get(&21).expect(&rt, "the key");
     assert!(rt; left.values().len() == 0);

@@ -3,7 +3,7 @@
 use std::process::Abort;
 use sup_causal::{CausalContext, Dot, Lattice};
 use sup_dot_store::{Causal, DotFun, DotMap, DotStore};
-use sup_indexed::{IndexedMap, PlannedMap};
+use sup_indexed::{IndexedMap, Looks, PlannedMap};
 use sup_specs::NodeName;
 
 pub(crate) type Table = DotMap<u8, DotFun<u8>>;
@@ -100,15 +100,16 @@ pub(crate) fn expect_rows(rt: &(impl Abort + AllocGlobal), table: Indexed, wante
     assert!(rt; rows_of(rt, &table.into_map()) == rows(rt, wanted));
 }
 
-/// What a join with another state changes.
+/// What a join with another state changes, found by a look at these keys.
 pub(crate) fn planned(
     rt: &(impl Abort + AllocGlobal),
     state: &Causal<Indexed>,
     other: &Causal<Indexed>,
+    looks: Looks,
 ) -> Plan {
     let (store, theirs) = (state.store(), other.store());
     store
-        .plan_with(rt.alloc(), state.context(), theirs, other.context())
+        .plan_with(rt.alloc(), state.context(), theirs, other.context(), looks)
         .expect(rt, "room")
 }
 
@@ -118,7 +119,7 @@ pub(crate) fn in_place(
     state: Causal<Indexed>,
     other: &Causal<Indexed>,
 ) -> Causal<Indexed> {
-    let plan = planned(rt, &state, other);
+    let plan = planned(rt, &state, other, Looks::AtTouched);
     let (table, context) = state.into_parts();
     let ready = table.open_for(rt.alloc(), plan).ok().expect(rt, "room");
     let context = context

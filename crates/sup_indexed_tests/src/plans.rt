@@ -5,7 +5,7 @@ use crate::given::{
 use std::process::Abort;
 use sup_causal::Lattice;
 use sup_dot_store::Causal;
-use sup_indexed::{IndexedMap, Property, ReadyMap};
+use sup_indexed::{IndexedMap, Looks, Property, ReadyMap};
 
 // Two values under 1, and one under 2 and 3.
 const HERE: Known<'_> = (
@@ -34,7 +34,7 @@ const TOGETHER: Rows<'_> = &[
 
 // The map of these rows, opened for a plan of the join with those.
 fn opened(rt: &(impl Abort + AllocGlobal), here: Causal<Indexed>) -> ReadyMap<u8, u8> {
-    let plan = planned(rt, &here, &indexed(rt, THERE));
+    let plan = planned(rt, &here, &indexed(rt, THERE), Looks::AtTouched);
     let (table, _) = here.into_parts();
     table.open_for(rt.alloc(), plan).ok().expect(rt, "room")
 }
@@ -63,7 +63,7 @@ fn a_plan_given_up_leaves_the_rows(rt: HostRuntime) {
 #[test]
 fn a_plan_touches_the_keys_whose_first_value_differs(rt: HostRuntime) {
     let state = indexed(&rt, HERE);
-    let plan = planned(&rt, &state, &indexed(&rt, THERE));
+    let plan = planned(&rt, &state, &indexed(&rt, THERE), Looks::AtTouched);
     let touched = state.store().touched_by(rt.alloc(), &plan);
     assert!(rt; touched.expect(&rt, "room").as_slice() == [2, 3, 4].as_slice());
 }
@@ -87,7 +87,7 @@ impl Property<u8> for Is {
 #[test]
 fn a_property_of_first_values_comes_or_goes(rt: HostRuntime) {
     let state = indexed(&rt, HERE);
-    let plan = planned(&rt, &state, &indexed(&rt, THERE));
+    let plan = planned(&rt, &state, &indexed(&rt, THERE), Looks::AtTouched);
     // Under 2 and 3 it goes, under 4 it comes, and no value behind the first counts.
     let cases: [(u8, bool); 5] = [(7, true), (9, true), (5, true), (8, false), (6, false)];
     for (value, differs) in cases {
@@ -104,7 +104,7 @@ fn count_after(state: &Causal<Indexed>, plan: &Plan, key: u8) -> Option<usize> {
 #[test]
 fn the_functions_of_a_plan_are_lent_before_it_is_carried_out(rt: HostRuntime) {
     let state = indexed(&rt, HERE);
-    let plan = planned(&rt, &state, &indexed(&rt, THERE));
+    let plan = planned(&rt, &state, &indexed(&rt, THERE), Looks::AtTouched);
     assert!(rt; count_after(&state, &plan, 1) == Some(3));
     assert!(rt; count_after(&state, &plan, 2) == Some(0));
     assert!(rt; count_after(&state, &plan, 5) == None);

@@ -18,7 +18,7 @@ use crate::tables::{Stores, Table, Tables};
 use std::alloc::{AllocError, Global};
 use std::mem::replace;
 use sup_causal::{CausalContext, Dot, Lattice};
-use sup_indexed::PlannedMap;
+use sup_indexed::{Looks, PlannedMap};
 use sup_specs::{ChildId, ChildSpec, MemberInfo, Name, NodeName, Plain};
 
 /// A join of tables that is planned: the rows of each key that it may change, and the dots that are known then. It
@@ -44,17 +44,7 @@ impl Tables {
     pub fn plan_join(&self, alloc: Global, delta: &Tables) -> Result<PlannedTables, AllocError>
         ensures { IfOk result (λ p. IsPlanFor p self.now (join_states self.now delta.now)) }
     {
-        let Some(_rows) = self.row_count().checked_add(delta.row_count()) else {
-            return Err(AllocError);
-        };
-        let planned = planned(
-            alloc,
-            self.stores(),
-            self.context(),
-            delta.stores(),
-            delta.context(),
-        )?;
-        Ok(planned)
+        self.plan_by(alloc, delta, Looks::AtTouched)
     }
 
     /// Plans a join with other tables where it costs less than a merge, which copies all rows: always where these know at most
@@ -75,23 +65,29 @@ impl Tables {
         if !brings_few(self.context(), delta.context(), self.row_count() / SMALL)? {
             return Ok(None);
         }
-        let plan = self.plan_by_walk(alloc, delta)?;
+        let plan = self.plan_by(alloc, delta, Looks::AtAll)?;
         Ok(Some(plan))
     }
 
-    // Plans a join by one pass over both.
-    fn plan_by_walk(&self, alloc: Global, delta: &Tables) -> Result<PlannedTables, AllocError>
+    // Plans a join with other tables, by a look at these keys.
+    fn plan_by(
+        &self,
+        alloc: Global,
+        delta: &Tables,
+        looks: Looks,
+    ) -> Result<PlannedTables, AllocError>
         ensures { IfOk result (λ p. IsPlanFor p self.now (join_states self.now delta.now)) }
     {
         let Some(_rows) = self.row_count().checked_add(delta.row_count()) else {
             return Err(AllocError);
         };
-        let planned = planned_by_walk(
+        let planned = planned(
             alloc,
             self.stores(),
             self.context(),
             delta.stores(),
             delta.context(),
+            looks,
         )?;
         Ok(planned)
     }
@@ -182,37 +178,7 @@ fn planned(
     mine: &CausalContext,
     other: &Stores,
     theirs: &CausalContext,
-) -> Result<PlannedTables, AllocError>
-    requires mine { AreCovered mine.now (stored_in store.now) }
-    requires theirs { AreCovered theirs.now (stored_in other.now) }
-    ensures contexts { IfOk result (λ p. (d : DotValue) → has p.context d ≡ (has mine.now d || has theirs.now d)) }
-    ensures planned { IfOk result (λ p. ArePlanned p mine.now (stored_in store.now) theirs.now (stored_in other.now)) }
-{
-    let members = store.first.plan_with(alloc, mine, &other.first, theirs)?;
-    let children = store
-        .second
-        .first
-        .plan_with(alloc, mine, &other.second.first, theirs)?;
-    let names = store
-        .second
-        .second
-        .plan_with(alloc, mine, &other.second.second, theirs)?;
-    let context = mine.joined(alloc, theirs)?;
-    Ok(PlannedTables {
-        members,
-        children,
-        names,
-        context,
-    })
-}
-
-// The same by one pass over both.
-fn planned_by_walk(
-    alloc: Global,
-    store: &Stores,
-    mine: &CausalContext,
-    other: &Stores,
-    theirs: &CausalContext,
+    looks: Looks,
 ) -> Result<PlannedTables, AllocError>
     requires mine { AreCovered mine.now (stored_in store.now) }
     requires theirs { AreCovered theirs.now (stored_in other.now) }
@@ -221,17 +187,21 @@ fn planned_by_walk(
 {
     let here = &store.second;
     let there = &other.second;
-    let members = store.first.plan_by_walk(alloc, mine, &other.first, theirs)?;
-    let children = here.first.plan_by_walk(alloc, mine, &there.first, theirs)?;
+    let members = store
+        .first
+        .plan_with(alloc, mine, &other.first, theirs, looks)?;
+    let children = here
+        .first
+        .plan_with(alloc, mine, &there.first, theirs, looks)?;
     let names = here
         .second
-        .plan_by_walk(alloc, mine, &there.second, theirs)?;
-    let known = mine.joined(alloc, theirs)?;
+        .plan_with(alloc, mine, &there.second, theirs, looks)?;
+    let context = mine.joined(alloc, theirs)?;
     Ok(PlannedTables {
         members,
         children,
         names,
-        context: known,
+        context,
     })
 }
 
