@@ -12,24 +12,27 @@ ghost use Rattle.sup_image_text.specs.Next.{edited_rows, IsMadeWith};
 use crate::searching::place_from;
 use json::Scratch;
 use std::alloc::{AllocError, Global};
-use sup_array_text::{ArrayBuilding, ArrayText};
+use sup_array_text::{ArrayBuilding, ArrayText, Room};
 use sup_edits::Edit;
 use sup_tables::LentRow;
 use sup_wire::{RowItem, closed_image};
 
-// The text with other rows behind this front: those of `texts`, of which some go, and some that come, in the order of their places.
+// The text with other rows behind this front, in this room: those of `texts`, of which some go, and some that come, in the order
+// of their places.
 pub(crate) fn edited(
     alloc: Global,
     texts: &ArrayText,
     edits: &[Edit<LentRow<'_>>],
-    front: Vec<u8>,
+    front: &[u8],
+    room: Room,
 ) -> Result<ArrayText, AllocError>
     ensures written { IfOk result (λ t. AllByRecursion (IsComing IsWritten) (map (edit_of row_lent) edits.now)) }
-    ensures text { IfOk result (λ t. ForRows texts.now.items (λ rows. t ≡ closed_shown front.items (texts_of (edited_rows edits.now rows)))) }
+    ensures text { IfOk result (λ t. ForRows texts.now.items (λ rows. t ≡ closed_shown front.now (texts_of (edited_rows edits.now rows)))) }
 {
     let mut scratch = Scratch::new(alloc);
     let mut next = 0;
-    let mut made = ArrayBuilding::new(
+    let mut made = ArrayBuilding::in_room(
+        room,
         front,
         texts.count().saturating_add(edits.len()),
         texts.text().len(),

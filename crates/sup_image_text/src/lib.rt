@@ -2,13 +2,14 @@
 //! that stay are copied, and those that come are written.
 //!
 //! ```rust
+//! use sup_array_text::Room;
 //! use sup_image_text::{NextImage, RowChange, text_after};
 //!
 //! // The text of the last image, with its rows' texts.
 //! let texts = sup_wire::text_of(alloc, &image)?;
 //! let rows = RowChange::Edits(tables.lent_edits_after(alloc, &plan)?);
 //! // The same bytes as `sup_wire::encode_image` gives of the next image.
-//! let next = text_after(alloc, &texts, &NextImage { heading, rows })?;
+//! let next = text_after(alloc, &texts, &NextImage { heading, rows }, Room::new(alloc))?;
 //! ```
 #![tactic(auto)]
 

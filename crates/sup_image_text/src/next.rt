@@ -11,13 +11,13 @@ use crate::editing::edited;
 use crate::next_image::{NextImage, RowChange};
 use crate::writing::written;
 use std::alloc::{AllocError, Global};
-use sup_array_text::ArrayText;
+use sup_array_text::{ArrayText, Room};
 use sup_edits::Edit;
 use sup_tables::LentRow;
 use sup_wire::{Heading, image_front};
 
 /// The text of the image that comes of another, of which this is the text. It changes nothing, and takes all memory: what it
-/// gives takes the old text's place by a move.
+/// gives takes the old text's place by a move. Where few rows come and go it is put together in this room.
 ///
 /// # Errors
 ///
@@ -26,12 +26,13 @@ pub fn text_after(
     alloc: Global,
     texts: &ArrayText,
     next: &NextImage<'_>,
+    room: Room,
 ) -> Result<ArrayText, AllocError>
     ensures { IfOk result (λ t. (old : List Row) (new : Image) → AreRows old texts.now.items → IsNext old new next.now → IsTextFor new t) }
 {
     match &next.rows {
         RowChange::Edits(edits) => {
-            let text = edited_text(alloc, texts, edits, &next.heading)?;
+            let text = edited_text(alloc, texts, edits, &next.heading, room)?;
             Ok(text)
         }
         RowChange::All(rows) => {
@@ -47,11 +48,12 @@ fn edited_text(
     texts: &ArrayText,
     edits: &[Edit<LentRow<'_>>],
     heading: &Heading<'_>,
+    room: Room,
 ) -> Result<ArrayText, AllocError>
     ensures { IfOk result (λ t. IsEditedText texts.now.items edits.now heading.now t) }
 {
     let front = image_front(alloc, heading)?;
-    let text = edited(alloc, texts, edits, front)?;
+    let text = edited(alloc, texts, edits, &front, room)?;
     Ok(text)
 }
 

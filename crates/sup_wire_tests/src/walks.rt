@@ -2,7 +2,7 @@
 use crate::walked_acts::{delta, node};
 use std::process::Abort;
 use std::test::Fail;
-use sup_array_text::ArrayText;
+use sup_array_text::{ArrayText, Room};
 use sup_causal::Lattice;
 use sup_image_text::{NextImage, RowChange, text_after};
 use sup_tables::{PlannedTables, Tables};
@@ -36,7 +36,7 @@ fn next(
         },
         rows: RowChange::Edits(edits),
     };
-    text_after(rt.alloc(), texts, &next).expect(rt, "room")
+    text_after(rt.alloc(), texts, &next, Room::new(rt.alloc())).expect(rt, "room")
 }
 
 // A number that tells nothing of the one before it.

@@ -14,6 +14,8 @@ use crate::station::becoming::{change_to, save_and_change};
 use crate::station::opening::open;
 use crate::station::{Refused, Station};
 use std::alloc::Global;
+use std::mem::replace;
+use sup_array_text::Room;
 use sup_keeper::{Keeper, MemKeeper};
 use sup_node::Node;
 use sup_placement::Weigh;
@@ -52,6 +54,7 @@ impl<K: Keeper, W: Weigh> Station<K, W> {
                 config,
                 node: Some(node),
                 texts: Some(text),
+                room: Room::new(alloc),
                 keeper,
                 alloc,
             }),
@@ -70,6 +73,7 @@ impl<K: Keeper, W: Weigh> Station<K, W> {
             config,
             node,
             texts: None,
+            room: Room::new(alloc),
             keeper,
             alloc,
         }
@@ -115,7 +119,12 @@ impl<K: Keeper, W: Weigh> Station<K, W> {
         ensures steady { IsFailingOrSound K.failing K.sound self.old → K.failures (keeper_of self.new) ≡ K.failures (keeper_of self.old) }
     {
         match act {
-            Act::Event(event) => self.prepare_event(event, now, weigher),
+            Act::Event(event) => {
+                let mut room = replace(&mut self.room, Room::new(self.alloc));
+                let prepared = self.prepare_event(event, now, weigher, &mut room);
+                self.room = room;
+                prepared
+            }
             Act::Stop => self.prepare_stop(now),
             Act::Restart => self.prepare_restart(now, weigher),
         }
@@ -148,6 +157,7 @@ impl<K: Keeper, W: Weigh> Station<K, W> {
                 &mut self.keeper,
                 &mut self.node,
                 &mut self.texts,
+                &mut self.room,
                 next,
                 text,
             ),

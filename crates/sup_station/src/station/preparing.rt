@@ -14,7 +14,8 @@ use crate::prepared::{Next, Prepared};
 use crate::station::Station;
 use crate::station::saving::{refusal, text_of};
 use std::alloc::{AllocError, Global};
-use sup_array_text::ArrayText;
+use std::mem::replace;
+use sup_array_text::{ArrayText, Room};
 use sup_image_text::text_after;
 use sup_keeper::Keeper;
 use sup_local_sup::Effects;
@@ -30,6 +31,7 @@ impl<K: Keeper, W: Weigh> Station<K, W> {
         event: &Event,
         now: u64,
         weigher: &W,
+        room: &mut Room,
     ) -> Result<Prepared, Refusal>
         ensures { PreparesAct W.weight_of (kept_station_of K.kept self.now) (Of event.now) now result }
     {
@@ -37,7 +39,7 @@ impl<K: Keeper, W: Weigh> Station<K, W> {
             return Err(Refusal::Down);
         };
         let planned = node.plan_with(self.texts_of(node), event, now, weigher)?;
-        let text = self.text_after(node, &planned)?;
+        let text = self.text_after(node, &planned, room)?;
         Ok(Prepared {
             next: Next::Changes(planned),
             text,
@@ -45,7 +47,12 @@ impl<K: Keeper, W: Weigh> Station<K, W> {
     }
 
     // The text of its node's next image, if what was made ready changes it.
-    fn text_after(&self, node: &Node<W>, planned: &Planned) -> Result<Option<ArrayText>, AllocError>
+    fn text_after(
+        &self,
+        node: &Node<W>,
+        planned: &Planned,
+        room: &mut Room,
+    ) -> Result<Option<ArrayText>, AllocError>
         requires here { (kept_station_of K.kept self.now).node ≡ Some (station_of node.now) }
         requires fits { FitsNode W.weight_of (station_of node.now) planned.now.change }
         ensures { IfOk result (λ text. IsKeptOf (image_after (station_of node.now).node planned.now.change) text) }
@@ -53,7 +60,8 @@ impl<K: Keeper, W: Weigh> Station<K, W> {
         let Some(next) = node.next_image(planned)? else {
             return Ok(None);
         };
-        let text = text_after(self.alloc, self.texts_of(node), &next)?;
+        let taken = replace(room, Room::new(self.alloc));
+        let text = text_after(self.alloc, self.texts_of(node), &next, taken)?;
         Ok(Some(text))
     }
 

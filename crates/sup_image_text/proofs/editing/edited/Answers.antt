@@ -33,5 +33,5 @@ returns-clause-text c rows are =
     let all : c.in_ok-all.all.items ≡ want =
     last_run (edit_of row_lent) rows c.args.texts.now.items c.loop-edit.made.items c.in_ok-all.all.items c.args.edits.now c.loop-edit.edit-index c.loop-edit.next c.count-2.result want are
     c.loop-edit-test.false c.count-2.ensures (ap (λ b. b.items) c.in_ok-all.ensures) (c.loop-edit.invariant.items rows are) in
-    let front : c.in_ok-all.all.front ≡ c.args.front.items = ap (λ b. b.front) c.in_ok-all.ensures ∙ c.loop-edit.invariant.front ∙ ap (λ b. b.front) c.in_ok-made.ensures in
+    let front : c.in_ok-all.all.front ≡ c.args.front.now = ap (λ b. b.front) c.in_ok-all.ensures ∙ c.loop-edit.invariant.front ∙ ap (λ b. b.front) c.in_ok-made.ensures in
     c.in_ok-text.ensures ∙ ap₂ (λ f (ps : List Bytes). shown (whole f ps image_back) ps) front all
