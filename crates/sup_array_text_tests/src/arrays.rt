@@ -2,7 +2,7 @@
 use crate::words::{Word, begun, expect_text};
 use std::alloc::{AllocError, AllocGlobal};
 use std::test::Fail;
-use sup_array_text::ArrayText;
+use sup_array_text::{ArrayBuilding, ArrayText, Room};
 
 const FRONT: &str = "{\"rows\":";
 
@@ -72,5 +72,49 @@ fn an_empty_run_changes_nothing(rt: HostRuntime) -> Result<(), Fail> {
         .with_run(&array, 2, 2)?
         .closed(b"")?;
     expect_text(&rt, &one, "[one]", 1);
+    Ok(())
+}
+
+// An array in a room of another one's buffers, told to be of so many items and bytes.
+fn in_room_of_three(
+    rt: &impl AllocGlobal,
+    front: &[u8],
+    items: usize,
+    bytes: usize,
+) -> Result<ArrayText, AllocError> {
+    ArrayBuilding::in_room(three(rt)?.into_room(), front, items, bytes)?
+        .with_item(&Word("four"))?
+        .closed(b"}")
+}
+
+#[test]
+fn nothing_is_left_of_what_a_room_held(rt: HostRuntime) -> Result<(), Fail> {
+    let shorter = in_room_of_three(&rt, b"{", 1, 8)?;
+    expect_text(&rt, &shorter, "{[four]}", 1);
+    let longer = in_room_of_three(&rt, b"{\"a front that is longer than the room\":", 100, 1000)?;
+    expect_text(
+        &rt,
+        &longer,
+        "{\"a front that is longer than the room\":[four]}",
+        1,
+    );
+    Ok(())
+}
+
+#[test]
+fn more_may_come_than_a_room_was_told_of(rt: HostRuntime) -> Result<(), Fail> {
+    let empty = ArrayBuilding::in_room(Room::new(rt.alloc()), b"", 0, 0)?.closed(b"")?;
+    expect_text(&rt, &empty, "[]", 0);
+    let grown = in_room_of_three(&rt, FRONT.as_bytes(), 0, 0)?;
+    expect_text(&rt, &grown, "{\"rows\":[four]}", 1);
+    Ok(())
+}
+
+#[test]
+fn more_room_than_there_is_memory_is_refused(rt: HostRuntime) -> Result<(), Fail> {
+    let room = Room::new(rt.alloc());
+    assert!(rt; ArrayBuilding::in_room(room, b"{", 0, usize::MAX).is_err());
+    let room = Room::new(rt.alloc());
+    assert!(rt; ArrayBuilding::in_room(room, b"{", usize::MAX, 0).is_err());
     Ok(())
 }

@@ -152,7 +152,13 @@ impl<K: Keeper, W: Weigh> Station<K, W> {
     {
         let Prepared { next, text } = prepared;
         match text {
-            None => change_to(&mut self.node, &mut self.texts, next),
+            None => change_to(
+                self.alloc,
+                &mut self.node,
+                &mut self.texts,
+                &mut self.room,
+                next,
+            ),
             Some(text) => save_and_change(
                 &mut self.keeper,
                 &mut self.node,
