@@ -14,6 +14,7 @@ use Rattle.sup_world.specs.FollowedSteps.{StandsFor}
 use Rattle.sup_world.specs.Runs.{StepGoes}
 use Rattle.sup_world.specs.SeenNodes.{SeenNode, FailedNoMore}
 use Rattle.sup_world.specs.SettledSites.{SettlesTo}
+use Rattle.sup_world.specs.Settlements.{SettlesBy}
 use Rattle.sup_picture.specs.declared.log.Change.{Change}
 use Rattle.sup_picture.specs.declared.log.Post.{Post}
 use Rattle.sup_picture.specs.declared.log.Row.{Row}
@@ -33,11 +34,11 @@ module _ (weigher : Weigher) (caption : List ℕ) (sites new : List SeenNode) (n
   step_noted step answer (Ok done) goes rows posts changes = record { answer = answer; goes = goes; noted = same_noted n' (with_answer n caption step answer) rows posts changes }
   step_noted step answer (Err e) goes rows posts changes = tt
 
-  pub settling_noted : (told : Result Settled Refusal) (r : Result (Unit {0}) E) → ((model : Model) → StandsFor weigher sites model → SettlesTo weigher model told new) → AllZip FailedNoMore sites new
+  pub settling_noted : (told : Result Settled Refusal) (r : Result (Unit {0}) E) → SettlesBy weigher sites told new → ((model : Model) → StandsFor weigher sites model → SettlesTo weigher model told new) → AllZip FailedNoMore sites new
       → OnOk r (n'.rows ≡ (with_settling n caption told).rows) → OnOk r (n'.posts ≡ (with_settling n caption told).posts) → OnOk r (n'.changes ≡ (with_settling n caption told).changes)
       → OnOk r (SettlingNoted weigher caption sites n new n')
-  settling_noted told (Ok done) goes counted rows posts changes = record { told = told; goes = goes; counted = counted; noted = same_noted n' (with_settling n caption told) rows posts changes }
-  settling_noted told (Err e) goes counted rows posts changes = tt
+  settling_noted told (Ok done) steps follows counted rows posts changes = record { told = told; steps = steps; follows = follows; counted = counted; noted = same_noted n' (with_settling n caption told) rows posts changes }
+  settling_noted told (Err e) steps follows counted rows posts changes = tt
 
 -- to look is no step
 pub look_noted : (weigher : Weigher) (caption : List ℕ) (sites : List SeenNode) (n n' : Noted) {E : Type 0} (r : Result (Unit {0}) E)

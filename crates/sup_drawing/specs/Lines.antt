@@ -18,6 +18,7 @@ use Rattle.sup_world.specs.FollowedSteps.{StandsFor}
 use Rattle.sup_world.specs.Runs.{StepGoes}
 use Rattle.sup_world.specs.SeenNodes.{SeenNode, FailedNoMore, sites_of}
 use Rattle.sup_world.specs.SettledSites.{SettlesTo}
+use Rattle.sup_world.specs.Settlements.{SettlesBy}
 use Rattle.sup_noting.specs.Noted.{Noted, noted_of, answered, refused, settled, unsettled, looked}
 
 -- the lines of a script behind that of its nodes, each with its number
@@ -66,7 +67,8 @@ module _ (weigher : Weigher) where
   -- the world settles, and the log has what that told
   pub record SettlingNoted (caption : List ℕ) (sites : List SeenNode) (n : Noted) (new : List SeenNode) (n' : Noted) : Type 0 where
     pub told : Result Settled Refusal
-    pub goes : (model : Model) → StandsFor weigher sites model → SettlesTo weigher model told new
+    pub steps : SettlesBy weigher sites told new
+    pub follows : (model : Model) → StandsFor weigher sites model → SettlesTo weigher model told new
     pub counted : AllZip FailedNoMore sites new
     pub noted : n' ≡ with_settling n caption told
 

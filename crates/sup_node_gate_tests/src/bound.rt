@@ -9,7 +9,7 @@ use crate::given::{child, start, station};
 use crate::told::{refused, tried};
 use std::process::Abort;
 use sup_keeper::MemKeeper;
-use sup_node_gate::{Busy, NodeGate, Pass};
+use sup_node_gate::{Busy, MAX_BOUND, NodeGate, Pass};
 use sup_placement::FlatWeigh;
 use sup_replica::{Done, Refusal};
 
@@ -45,6 +45,11 @@ fn tries(
     }
     assert!(rt; at.seen(pass) == before);
     at.try_call(pass, start(rt, id), 0, &FlatWeigh)
+}
+
+#[test]
+fn the_greatest_bound_is_a_million_entries(rt: HostRuntime) {
+    assert!(rt; MAX_BOUND == 1_000_000);
 }
 
 #[test]
