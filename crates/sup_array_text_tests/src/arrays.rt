@@ -91,7 +91,12 @@ fn in_room_of_three(
 fn nothing_is_left_of_what_a_room_held(rt: HostRuntime) -> Result<(), Fail> {
     let shorter = in_room_of_three(&rt, b"{", 1, 8)?;
     expect_text(&rt, &shorter, "{[four]}", 1);
-    let longer = in_room_of_three(&rt, b"{\"a front that is longer than the room\":", 100, 1000)?;
+    let longer = in_room_of_three(
+        &rt,
+        b"{\"a front that is longer than the room\":",
+        100,
+        1000,
+    )?;
     expect_text(
         &rt,
         &longer,
