@@ -10,12 +10,13 @@ ghost use Rattle.sup_image_text.specs.Places.{ForRows};
 ghost use Rattle.sup_image_text.specs.Next.{edited_rows, IsMadeWith};
 
 use crate::searching::place_from;
+use crate::writing::CopiedRow;
 use json::Scratch;
 use std::alloc::{AllocError, Global};
 use sup_array_text::{ArrayBuilding, ArrayText, Room};
 use sup_edits::Edit;
 use sup_tables::LentRow;
-use sup_wire::{RowItem, closed_image};
+use sup_wire::closed_image;
 
 // The text with other rows behind this front, in this room: those of `texts`, of which some go, and some that come, in the order
 // of their places.
@@ -38,7 +39,7 @@ pub(crate) fn edited(
         texts.text().len(),
     )?;
     for edit in edits {
-        let (more, past) = with_edit(texts, made, next, edit, &mut scratch)?;
+        let (more, past) = with_edit(alloc, texts, made, next, edit, &mut scratch)?;
         made = more;
         next = past;
     }
@@ -49,6 +50,7 @@ pub(crate) fn edited(
 
 // What is made so far with what one edit makes of the items from `next` on, and from where on items are left.
 fn with_edit(
+    alloc: Global,
     texts: &ArrayText,
     made: ArrayBuilding,
     next: usize,
@@ -65,7 +67,7 @@ fn with_edit(
         Edit::Comes(row) => {
             let at = place_from(texts, next, row, scratch)?;
             let before = made.with_run(texts, next, at)?;
-            let more = before.with_item(&RowItem { row: *row })?;
+            let more = before.with_item(&CopiedRow { row: *row, alloc })?;
             Ok((more, at))
         }
         Edit::Goes(row) => {

@@ -17,7 +17,7 @@ use sup_tables::LentRow;
 use sup_wire::{Heading, image_front};
 
 /// The text of the image that comes of another, of which this is the text. It changes nothing, and takes all memory: what it
-/// gives takes the old text's place by a move. Where few rows come and go it is put together in this room.
+/// gives takes the old text's place by a move. It is put together in this room.
 ///
 /// # Errors
 ///
@@ -36,7 +36,7 @@ pub fn text_after(
             Ok(text)
         }
         RowChange::All(rows) => {
-            let text = all_text(alloc, rows, &next.heading)?;
+            let text = all_text(alloc, rows, &next.heading, room)?;
             Ok(text)
         }
     }
@@ -62,11 +62,12 @@ fn all_text(
     alloc: Global,
     rows: &[LentRow<'_>],
     heading: &Heading<'_>,
+    room: Room,
 ) -> Result<ArrayText, AllocError>
     ensures { IfOk result (λ t. IsTextWith heading.now (rows_lent rows.now) t) }
 {
     let front = image_front(alloc, heading)?;
-    let text = written(alloc, rows, front)?;
+    let text = written(alloc, rows, &front, room)?;
     Ok(text)
 }
 

@@ -7,7 +7,7 @@ ghost use Rattle.sup_wire.specs.ImageTexts.{closed_shown};
 ghost use Rattle.sup_wire.specs.RowTexts.{texts_of};
 
 use std::alloc::{AllocError, Global};
-use sup_array_text::{ArrayBuilding, ArrayText, Item};
+use sup_array_text::{ArrayBuilding, ArrayText, Item, Room};
 use sup_tables::LentRow;
 use sup_wire::{RowItem, closed_image};
 
@@ -16,9 +16,9 @@ const ROW: usize = 128;
 
 // A row that is written by itself, and then copied: a writer fills much of the room behind what it is given, at each row.
 #[derive(Clone, Copy)]
-struct CopiedRow<'a> {
-    row: LentRow<'a>,
-    alloc: Global,
+pub(crate) struct CopiedRow<'a> {
+    pub(crate) row: LentRow<'a>,
+    pub(crate) alloc: Global,
 }
 
 impl Item for CopiedRow<'_> {
@@ -39,16 +39,18 @@ impl Item for CopiedRow<'_> {
     }
 }
 
-// The text with these rows behind this front.
+// The text with these rows behind this front, in this room.
 pub(crate) fn written(
     alloc: Global,
     rows: &[LentRow<'_>],
-    front: Vec<u8>,
+    front: &[u8],
+    room: Room,
 ) -> Result<ArrayText, AllocError>
     ensures written { IfOk result (λ t. AllByRecursion IsWritten (rows_lent rows.now)) }
-    ensures text { IfOk result (λ t. t ≡ closed_shown front.items (texts_of (rows_lent rows.now))) }
+    ensures text { IfOk result (λ t. t ≡ closed_shown front.now (texts_of (rows_lent rows.now))) }
 {
-    let begun = ArrayBuilding::new(front, rows.len(), rows.len().saturating_mul(ROW))?;
+    let bytes = rows.len().saturating_mul(ROW);
+    let begun = ArrayBuilding::in_room(room, front, rows.len(), bytes)?;
     let made = with_rows(alloc, begun, rows)?;
     let text = closed_image(made)?;
     Ok(text)
