@@ -35,7 +35,10 @@ pub fn shown(
 ) -> Result<String, AllocError>
     ensures { IfOk result (λ s. string_bytes s ≡ show_text flat_weight at.now (shown_at node.entry)) }
 {
-    show_text(alloc, at, node, &FlatWeigh).or_else(|_| show_text(alloc, at, node, &FlatWeigh))
+    match show_text(alloc, at, node, &FlatWeigh) {
+        Ok(text) => Ok(text),
+        Err(_) => show_text(alloc, at, node, &FlatWeigh),
+    }
 }
 
 /// Where a name leads at a node.
@@ -51,7 +54,8 @@ pub fn led(
 ) -> Result<String, AllocError>
     ensures { IfOk result (λ s. string_bytes s ≡ where_text flat_weight at.now (shown_at node.entry) sought.now) }
 {
-    where_text(alloc, at, node, sought, &FlatWeigh).or_else(|_| where_text(
-        alloc, at, node, sought, &FlatWeigh,
-    ))
+    match where_text(alloc, at, node, sought, &FlatWeigh) {
+        Ok(text) => Ok(text),
+        Err(_) => where_text(alloc, at, node, sought, &FlatWeigh),
+    }
 }
