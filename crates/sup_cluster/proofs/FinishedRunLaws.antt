@@ -1,5 +1,5 @@
 -- The histories are a run of the plan.
-use Rattle.std.specs.Prelude.{◌≡◌, ◌≢◌, ◌==◌, ◌≤◌, ◌<◌, ◌+◌, ℕ, suc, List, [], ◌∷◌, ◌++◌, length, map, flat_map, All, Contains, Some, Result, Ok, slice_get, refl}
+use Rattle.std.specs.Prelude.{◌≡◌, ◌≢◌, ◌==◌, ◌≤◌, ◌<◌, ◌+◌, ℕ, suc, Bool, List, [], ◌∷◌, ◌++◌, length, map, flat_map, All, Contains, Some, Result, Ok, slice_get, refl}
 use Rattle.std.specs.List.{AllZip, filter}
 use Rattle.std.proofs.Common.{arith, sym, ap, ◌∙◌, subst, length-append}
 use Rattle.std.proofs.lemmas.Grind.{flat_map-append}
@@ -11,6 +11,7 @@ use lib.ListN.{get_elem?}
 use Rattle.sup_specs.specs.Values.{Bytes}
 use Rattle.sup_placement.specs.Place.{Weigher}
 use Rattle.sup_placement.specs.declared.weigh.Weigh.{Ghosts as WeighGhosts}
+use Rattle.sup_local_sup.specs.declared.effect.Effect.{Effect}
 use Rattle.sup_replica.specs.Configs.{Config}
 use Rattle.sup_station.specs.OpenedStations.{OpensStation, kept_by}
 use Rattle.sup_node_gate.specs.Gates.{opening_of, view_of}
@@ -28,14 +29,14 @@ use Rattle.sup_plan.specs.Sublists.{Sublist}
 use Rattle.sup_plan.specs.declared.histories.History.{History}
 use Rattle.sup_plan.specs.declared.plan.Plan.{Plan}
 use Rattle.sup_posts.specs.Jobs.{Seat, CarriedLetters, GivesDriven, DrivesNode}
-use Rattle.sup_posts.specs.Rounds.{IsRound, delivery}
+use Rattle.sup_posts.specs.Rounds.{IsRound, StoodByAll, delivery}
 use Rattle.sup_posts.specs.declared.thread_fault.ThreadFault.{ThreadFault}
 use Rattle.sup_posts.specs.declared.shared_node.SharedNode.{SharedNode}
 use Rattle.sup_posts.specs.declared.jobs.Lane.{Lane}
 use Rattle.sup_posts.specs.declared.jobs.Drive.{Drive}
 use Rattle.sup_posts.specs.declared.jobs.Driven.{Driven}
 use Rattle.sup_posts.specs.declared.jobs.Arrived.{Arrived}
-use Rattle.sup_cluster.specs.Runs.{HasRun, ReachesReceiver, RanCommands, CameFrom, IsMadeOfRounds, IsRunOf, in_a_row}
+use Rattle.sup_cluster.specs.Runs.{HasRun, ReachesReceiver, RanCommands, CameFrom, IsMadeOfRounds, IsRunOf, HasStoodBy, in_a_row}
 use Rattle.sup_posts.proofs.ItemLaws.{zip_append}
 use Rattle.sup_run_ends.specs.Passes.{of_arrived, passes_to, shares_of, calls_by, dealt_by, IsFresh, HaveWhole, AreMadeBy}
 use Rattle.sup_run_ends.specs.Steps.{BeginsWithSeen, IsSharedNodeOf, IsLaneTo, IsDriveOf, IsHistoryOf, EndsHistory, AreFinished, LeadsToItsNode, others_of, places}
@@ -46,15 +47,37 @@ use Rattle.sup_cluster.proofs.HistorySublistLaws.{in_history, in_deliveries}
 use Rattle.sup_cluster.proofs.PassPlaceLaws.{one_other, not_itself, none_comes, one_comes, passes_both, same_shares}
 use Rattle.sup_cluster.proofs.ShuffleImageLaws.{shuffle_of_images, row_image, some_injective}
 
-module _ {W : Type 0} {h : WeighGhosts W} where
+module _ {W : Type 0} {h : WeighGhosts W} (did : Bytes → Effect → Bool → Type 0) (stood : Bytes → ℕ → Type 0) where
   abbrev passes_of : List (Driven W h) → List (Arrived W h)
   passes_of = flat_map (λ d. d.arrived.items)
+
+  -- the name of a driver's node, as its history says it
+  node_named : (plan : Plan) (posts : List (SharedNode W h)) (post : SharedNode W h) (drive : Drive W h) (driven : Driven W h) (x : History)
+      → IsDriveOf plan posts post drive → (r : DrivesNode did stood posts drive driven) → x.node ≡ post.name → r.seat.0.name ≡ x.node
+  node_named plan posts post drive driven x is r named = ap (λ (p : SharedNode W h). p.name) (same_place posts drive.at drive.at r.seat.0 post r.seat.1 is.place refl) ∙ sym named
+
+  -- the checkpoint stood by each of the node's commands
+  stood_at : (g : Weigher) (plan : Plan) (posts : List (SharedNode W h)) (drives : List (Drive W h)) (driven : List (Driven W h)) (all : List History)
+      → AllZip (IsDriveOf plan posts) posts drives → AllZip (DrivesNode did stood posts) drives driven → AllZip (IsHistoryOf g) posts all
+      → (i : ℕ) (x : History) → slice_get all i ≡ Some x → HasStoodBy stood plan x
+  stood_at g plan posts drives driven all ds gs hs i x e =
+      let p = zip_right (IsHistoryOf g) posts all i x hs e in
+      let d = zip_left (IsDriveOf plan posts) posts drives i p.0 ds p.1 in
+      let r = zip_left (DrivesNode did stood posts) drives driven i d.0 gs d.1 in
+      subst (λ l. StoodByAll (stood x.node) (length l)) (d.2.commands ∙ ap (λ n. commands_of n plan.commands.items) (sym p.2.named))
+      (subst (λ n. StoodByAll (stood n) (length d.0.commands.items)) (node_named plan posts p.0 d.0 r.0 x d.2 r.2 p.2.named) r.2.stood_by)
+
+  pub all_stood : (g : Weigher) (plan : Plan) (posts : List (SharedNode W h)) (drives : List (Drive W h)) (results : List (Result (Driven W h) ThreadFault)) (all : List History)
+      → AllZip (IsDriveOf plan posts) posts drives → AllZip (GivesDriven did stood posts) drives results → AreFinished g posts results all → All (HasStoodBy stood plan) all
+  all_stood g plan posts drives results all ds gs f =
+      let given : AllZip (DrivesNode did stood posts) drives f.driven = zip_map (GivesDriven did stood posts) Ok drives f.driven (subst (AllZip (GivesDriven did stood posts) drives) f.given gs) in
+      all_at (HasStoodBy stood plan) all (stood_at g plan posts drives f.driven all ds given f.histories)
 
   -- what a lane carried, said of the two histories
   reached : (plan : Plan) (posts : List (SharedNode W h)) (all : List History) (entries : List Entry) (from to : History) (post other : SharedNode W h) (at : ℕ)
       (lane : Lane W h) (a : Arrived W h)
       → from.node ≡ post.name → to.node ≡ other.name → slice_get posts at ≡ Some other → slice_get all at ≡ Some to
-      → IsLaneTo plan.scripts.items post.name at other lane → CarriedLetters posts entries lane a → EndsHistory all a → ReachesReceiver plan entries from to
+      → IsLaneTo plan.scripts.items post.name at other lane → CarriedLetters did posts entries lane a → EndsHistory all a → ReachesReceiver plan entries from to
   reached plan posts all entries from to post other at lane a named met stands ends l c e =
       let same : c.post ≡ other = same_place posts lane.to at c.post other c.stands stands l.to in
       let here : e.history ≡ to = same_place all a.to at e.history to e.stands ends (c.to ∙ l.to) in
@@ -69,13 +92,13 @@ module _ {W : Type 0} {h : WeighGhosts W} where
       }
 
   drove_at : (g : Weigher) (plan : Plan) (posts : List (SharedNode W h)) (drives : List (Drive W h)) (driven : List (Driven W h)) (all : List History)
-      → AllZip (IsDriveOf plan posts) posts drives → AllZip (DrivesNode posts) drives driven
+      → AllZip (IsDriveOf plan posts) posts drives → AllZip (DrivesNode did stood posts) drives driven
       → AllZip (IsHistoryOf g) posts all → AllZip (λ d k. BeginsWithSeen d.seat k) driven all → All (EndsHistory all) (passes_of driven)
       → (i : ℕ) (x : History) → slice_get all i ≡ Some x → RanCommands plan all x
   drove_at g plan posts drives driven all ds gs hs own others i x e =
       let p = zip_right (IsHistoryOf g) posts all i x hs e in
       let d = zip_left (IsDriveOf plan posts) posts drives i p.0 ds p.1 in
-      let r = zip_left (DrivesNode posts) drives driven i d.0 gs d.1 in
+      let r = zip_left (DrivesNode did stood posts) drives driven i d.0 gs d.1 in
       let o = zip_left (λ (d : Driven W h) (k : History). BeginsWithSeen d.seat k) driven all i r.0 own r.1 in
       let begins : BeginsWithSeen r.0.seat x = subst (λ (k : History). BeginsWithSeen r.0.seat k) (same_place all i i o.0 x o.1 e refl) o.2 in
       record {
@@ -88,7 +111,7 @@ module _ {W : Type 0} {h : WeighGhosts W} where
             let apart : at.0 ≢ d.0.at = (λ same. ne (q.2.named ∙ ap (λ (y : SharedNode W h). y.name) (same_place posts at.0 d.0.at q.0 p.0 q.1 d.2.place same) ∙ sym p.2.named)) in
             let lane = d.2.reach at.0 q.0 q.1 apart in
             let stands = place_of d.0.lanes.items lane.0 lane.1 in
-            let a = zip_left (CarriedLetters posts r.2.entries) d.0.lanes.items r.0.arrived.items stands.0 lane.0 r.2.carried stands.1 in
+            let a = zip_left (CarriedLetters did posts r.2.entries) d.0.lanes.items r.0.arrived.items stands.0 lane.0 r.2.carried stands.1 in
             let in_all = flat_contains (λ (y : Driven W h). y.arrived.items) driven i r.0 a.0 r.1 (stands_in r.0.arrived.items stands.0 a.0 a.1) in
             reached plan posts all r.2.entries x k p.0 q.0 at.0 lane.0 a.0 p.2.named q.2.named q.1 at.1 lane.2 a.2 (contained (EndsHistory all) (passes_of driven) a.0 others in_all);
       }
@@ -99,11 +122,11 @@ module _ {W : Type 0} {h : WeighGhosts W} where
   lane_script plan posts post drive is lane stands j to other at = (contained (LeadsToItsNode plan.scripts.items post.name posts) drive.lanes.items lane is.lead stands other (ap (slice_get posts) to ∙ at)).script
 
   module _ (g : Weigher) (plan : Plan) (posts : List (SharedNode W h)) (drives : List (Drive W h)) (driven : List (Driven W h)) (all : List History)
-      (ds : AllZip (IsDriveOf plan posts) posts drives) (gs : AllZip (DrivesNode posts) drives driven) (hs : AllZip (IsHistoryOf g) posts all) (own : AllZip (λ d k. BeginsWithSeen d.seat k) driven all)
+      (ds : AllZip (IsDriveOf plan posts) posts drives) (gs : AllZip (DrivesNode did stood posts) drives driven) (hs : AllZip (IsHistoryOf g) posts all) (own : AllZip (λ d k. BeginsWithSeen d.seat k) driven all)
       (at_places : map (λ (d : Drive W h). d.at) drives ≡ places (length posts)) where
     -- what a driver's links brought to the node at another place
     abbrev Sends : ℕ → History → Driven W h → History → Type 0
-    Sends j to r from = (rounds : List (List Entry)) × CameFrom plan to from rounds × (calls_by (passes_to j (map of_arrived r.arrived.items)) ≡ map some (in_a_row rounds) ∷ [])
+    Sends j to r from = (rounds : List (List Entry)) × CameFrom (did to.node) plan to from rounds × (calls_by (passes_to j (map of_arrived r.arrived.items)) ≡ map some (in_a_row rounds) ∷ [])
 
     drive_place : (i : ℕ) (d : Drive W h) → slice_get drives i ≡ Some d → d.at ≡ i
     drive_place i d e =
@@ -117,12 +140,12 @@ module _ {W : Type 0} {h : WeighGhosts W} where
     sends_at j to i r from at_to apart at_r at_from =
         let p = zip_right (IsHistoryOf g) posts all i from hs at_from in
         let q = zip_right (IsHistoryOf g) posts all j to hs at_to in
-        let d = zip_right (DrivesNode posts) drives driven i r gs at_r in
+        let d = zip_right (DrivesNode did stood posts) drives driven i r gs at_r in
         let pd = zip_right (IsDriveOf plan posts) posts drives i d.0 ds d.1 in
         let is : IsDriveOf plan posts p.0 d.0 = subst (λ (x : SharedNode W h). IsDriveOf plan posts x d.0) (same_place posts i i pd.0 p.0 pd.1 p.1 refl) pd.2 in
         let here = drive_place i d.0 d.1 in
         let low : j < length posts = slice_get_within posts j q.0 q.1 in
-        let one = one_comes posts d.2.entries j d.0.lanes.items r.arrived.items d.2.carried
+        let one = one_comes did posts d.2.entries j d.0.lanes.items r.arrived.items d.2.carried
         (ap (filter (λ k. k == j)) is.only ∙ one_other d.0.at j (length posts) low (λ e. apart (sym (e ∙ here)))) in
         let c = one.carried in
         let same : c.post ≡ q.0 = same_place posts one.lane.to j c.post q.0 c.stands q.1 one.to in
@@ -138,32 +161,33 @@ module _ {W : Type 0} {h : WeighGhosts W} where
             stand = in_history d.2.entries (view_of r.seat).seen from.entries.items begins d.2.seen;
             put = c.put;
             letters = subst (λ n. Sublist (letters_to n d.2.entries) c.put) (ap (λ (x : SharedNode W h). x.name) same ∙ sym q.2.named) c.letters;
-            delivered = subst (λ (l : List Verdict). AllZip IsRound (map delivery (image l c.put)) c.made.rounds) script c.made.are;
+            delivered = subst (λ (l : List Verdict). AllZip (IsRound (did to.node)) (map delivery (image l c.put)) c.made.rounds) script
+                (subst (λ n. AllZip (IsRound (did n)) (map delivery (image (script_of one.lane.entry) c.put)) c.made.rounds) (ap (λ (x : SharedNode W h). x.name) same ∙ sym q.2.named) c.made.are);
           },
           ap calls_by one.only ∙ ap (λ l. l ∷ []) (c.made.own ∙ ap (λ l. l ++ flat_map (map some) c.made.rounds) (fresh_calls one.lane.seat (contained (λ (l : Lane W h). IsFresh l.seat) d.0.lanes.items one.lane is.all_fresh one.stands))
               ∙ row_image some c.made.rounds),
         )
 
     all_sent : (j : ℕ) (to : History) (rs : List (Driven W h)) (ks : List History) → AllZip (Sends j to) rs ks
-        → (received : List (List (List Entry))) × AllZip (CameFrom plan to) ks received × (calls_by (passes_to j (map of_arrived (passes_of rs))) ≡ map (map some) (map in_a_row received))
+        → (received : List (List (List Entry))) × AllZip (CameFrom (did to.node) plan to) ks received × (calls_by (passes_to j (map of_arrived (passes_of rs))) ≡ map (map some) (map in_a_row received))
     all_sent j to [] [] z = ([], tt, refl)
     all_sent j to [] (k ∷ ks) z = absurd z
     all_sent j to (r ∷ rs) [] z = absurd z
     all_sent j to (r ∷ rs) (k ∷ ks) z = let more = all_sent j to rs ks z.1 in (
       z.0.0 ∷ more.0,
       (z.0.1, more.1),
-      ap calls_by (passes_both posts j r.arrived.items (passes_of rs)) ∙ map-append (λ (s : Seat W h). calls_of (view_of s)) (passes_to j (map of_arrived r.arrived.items)) (passes_to j (map of_arrived (passes_of rs)))
+      ap calls_by (passes_both did posts j r.arrived.items (passes_of rs)) ∙ map-append (λ (s : Seat W h). calls_of (view_of s)) (passes_to j (map of_arrived r.arrived.items)) (passes_to j (map of_arrived (passes_of rs)))
           ∙ ap (λ l. l ++ calls_by (passes_to j (map of_arrived (passes_of rs)))) z.0.2 ∙ ap (λ l. map some (in_a_row z.0.0) ∷ l) more.2,
     )
 
     module _ (whole : HaveWhole (map (λ (d : Drive W h). d.seat) drives) (dealt_by drives)) (made : AreMadeBy (map (λ (d : Driven W h). d.seat) driven) (passes_of driven) all) where
-      rounds_at : (before : List History) (x : History) (after : List History) → all ≡ before ++ x ∷ after → IsMadeOfRounds plan (before ++ after) x
+      rounds_at : (before : List History) (x : History) (after : List History) → all ≡ before ++ x ∷ after → IsMadeOfRounds (did x.node) plan (before ++ after) x
       rounds_at before x after e =
           let j : ℕ = length before in
           let at_x : slice_get all j ≡ Some x = ap (λ l. slice_get l j) e ∙ get_next before after x in
           let p = zip_right (IsHistoryOf g) posts all j x hs at_x in
           let d = zip_left (IsDriveOf plan posts) posts drives j p.0 ds p.1 in
-          let r = zip_left (DrivesNode posts) drives driven j d.0 gs d.1 in
+          let r = zip_left (DrivesNode did stood posts) drives driven j d.0 gs d.1 in
           let parts = split_place driven j r.0 r.1 in
           let long : length (parts.0 ++ r.0 ∷ parts.1) ≡ length (before ++ x ∷ after) = ap length (sym parts.2) ∙ zip_same_length (λ (y : Driven W h) (k : History). BeginsWithSeen y.seat k) driven all own ∙ ap length e in
           let rest : length parts.1 ≡ length after = omega (arith, long, parts.3, length-append parts.0 (r.0 ∷ parts.1), length-append before (x ∷ after)) in
@@ -176,27 +200,28 @@ module _ {W : Type 0} {h : WeighGhosts W} where
           (ap (λ l. slice_get l (j + suc i)) e ∙ get_right before (x ∷ after) (suc i) ∙ v)) in
           let b = all_sent j x parts.0 before sent_before in let a = all_sent j x parts.1 after sent_after in
           let here = drive_place j d.0 d.1 in
-          let none : passes_to j (map of_arrived r.0.arrived.items) ≡ [] = none_comes posts r.2.entries j d.0.lanes.items r.0.arrived.items r.2.carried
+          let none : passes_to j (map of_arrived r.0.arrived.items) ≡ [] = none_comes did posts r.2.entries j d.0.lanes.items r.0.arrived.items r.2.carried
           (ap (filter (λ k. k == j)) d.2.only ∙ ap (λ n. filter (λ k. k == j) (others_of n (places (length posts)))) here ∙ not_itself j (places (length posts))) in
           let others : calls_by (passes_to j (map of_arrived (passes_of driven))) ≡ map (map some) (map in_a_row (b.0 ++ a.0))
           = ap (λ l. calls_by (passes_to j (map of_arrived (passes_of l)))) parts.2
           ∙ ap (λ l. calls_by (passes_to j (map of_arrived l))) (flat_map-append (λ (y : Driven W h). y.arrived.items) parts.0 (r.0 ∷ parts.1))
-          ∙ ap calls_by (passes_both posts j (passes_of parts.0) (r.0.arrived.items ++ passes_of parts.1) ∙ ap (λ l. passes_to j (map of_arrived (passes_of parts.0)) ++ l)
-          (passes_both posts j r.0.arrived.items (passes_of parts.1) ∙ ap (λ l. l ++ passes_to j (map of_arrived (passes_of parts.1))) none))
+          ∙ ap calls_by (passes_both did posts j (passes_of parts.0) (r.0.arrived.items ++ passes_of parts.1) ∙ ap (λ l. passes_to j (map of_arrived (passes_of parts.0)) ++ l)
+          (passes_both did posts j r.0.arrived.items (passes_of parts.1) ∙ ap (λ l. l ++ passes_to j (map of_arrived (passes_of parts.1))) none))
           ∙ map-append (λ (s : Seat W h). calls_of (view_of s)) (passes_to j (map of_arrived (passes_of parts.0))) (passes_to j (map of_arrived (passes_of parts.1)))
           ∙ (λ i. b.2 i ++ a.2 i)
           ∙ sym (ap (map (map some)) (map-append in_a_row b.0 a.0) ∙ map-append (map some) (map in_a_row b.0) (map in_a_row a.0)) in
           let mine : calls_of (view_of r.0.seat) ≡ map some (in_a_row r.2.made.rounds)
           = r.2.made.own ∙ ap (λ l. l ++ flat_map (map some) r.2.made.rounds) (fresh_calls d.0.seat d.2.fresh) ∙ row_image some r.2.made.rounds in
           let shares : IsWhole ((view_of r.0.seat).shares ++ shares_of (passes_to j (map of_arrived (passes_of driven))))
-          = subst (λ (y : List ℕ × List ℕ). IsWhole (y.0 ++ y.1)) (λ i. (sym r.2.made.shares i, sym (same_shares posts j drives driven gs) i))
+          = subst (λ (y : List ℕ × List ℕ). IsWhole (y.0 ++ y.1)) (λ i. (sym r.2.made.shares i, sym (same_shares did posts stood j drives driven gs) i))
           (whole j d.0.seat (get_map (λ (y : Drive W h). y.seat) drives j d.0 d.1)) in
           let calls = made j r.0.seat x (get_map (λ (y : Driven W h). y.seat) driven j r.0 r.1) at_x shares in
           record {
             own = r.2.made.rounds;
-            commands = subst (λ l. AllZip IsRound (map asked l) r.2.made.rounds) (d.2.commands ∙ ap (λ n. commands_of n plan.commands.items) (sym p.2.named)) r.2.made.are;
+            commands = subst (λ l. AllZip (IsRound (did x.node)) (map asked l) r.2.made.rounds) (d.2.commands ∙ ap (λ n. commands_of n plan.commands.items) (sym p.2.named))
+                (subst (λ n. AllZip (IsRound (did n)) (map asked d.0.commands.items) r.2.made.rounds) (node_named plan posts p.0 d.0 r.0 x d.2 r.2 p.2.named) r.2.made.are);
             received = b.0 ++ a.0;
-            came = zip_append (CameFrom plan x) before b.0 after a.0 b.1 a.1;
+            came = zip_append (CameFrom (did x.node) plan x) before b.0 after a.0 b.1 a.1;
             whole = shuffle_of_images some some_injective (map in_a_row (b.0 ++ a.0)) (in_a_row r.2.made.rounds) x.entries.items
                 (subst (λ (y : List (M.Option Entry) × List (List (M.Option Entry))). IsShuffleOf y.0 y.1 (map some x.entries.items)) (λ i. (mine i, others i)) calls);
           }
@@ -210,11 +235,11 @@ module _ {W : Type 0} {h : WeighGhosts W} where
       subst (λ (b : ℕ). length x.entries.items ≤ b) n.2.bound p.2.within)
 
   pub is_run : (g : Weigher) (plan : Plan) (bound : ℕ) (posts : List (SharedNode W h)) (drives : List (Drive W h)) (results : List (Result (Driven W h) ThreadFault)) (all : List History)
-      → AllZip (IsSharedNodeOf plan.config bound) plan.nodes.items posts → AllZip (IsDriveOf plan posts) posts drives → AllZip (GivesDriven posts) drives results
+      → AllZip (IsSharedNodeOf plan.config bound) plan.nodes.items posts → AllZip (IsDriveOf plan posts) posts drives → AllZip (GivesDriven did stood posts) drives results
       → map (λ (d : Drive W h). d.at) drives ≡ places (length posts) → HaveWhole (map (λ (d : Drive W h). d.seat) drives) (dealt_by drives)
-      → AreFinished g posts results all → IsRunOf g plan all
+      → AreFinished g posts results all → IsRunOf g did plan all
   is_run g plan bound posts drives results all ps ds gs at_places whole f =
-      let given : AllZip (DrivesNode posts) drives f.driven = zip_map (GivesDriven posts) Ok drives f.driven (subst (AllZip (GivesDriven posts) drives) f.given gs) in
+      let given : AllZip (DrivesNode did stood posts) drives f.driven = zip_map (GivesDriven did stood posts) Ok drives f.driven (subst (AllZip (GivesDriven did stood posts) drives) f.given gs) in
       record {
         nodes =
             zip_equal (λ (p : SharedNode W h). p.name) (λ (k : History). k.node) posts all (zip_weaken (IsHistoryOf g) (λ p k. k.node ≡ p.name) (λ p k y. y.named) posts all f.histories)

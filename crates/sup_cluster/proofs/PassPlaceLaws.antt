@@ -1,12 +1,14 @@
 -- Which passes come back to a place: of each other driver one, and none of its own.
 use Rattle.std.specs.Prelude.{◌≡◌, ◌≢◌, ◌==◌, ◌<◌, ◌≤◌, not, ℕ, zero, suc, Bool, true, false, cond, List, [], ◌∷◌, ◌++◌, map, flat_map, Contains, refl}
 use Rattle.std.specs.List.{AllZip, filter}
-use Rattle.std.proofs.Common.{arith, sym, ap, ◌∙◌, subst, append-nil}
+use Rattle.std.proofs.Common.{arith, sym, ap, ◌∙◌, subst}
 use Rattle.std.proofs.lemmas.Grind.{flat_map-append}
 use Rattle.std.proofs.lemmas.List.{map-append}
 use Rattle.std.proofs.lemmas.List.Elements.{filter-append}
 use mathlib.Core.Logic.{dite}
 use native.Mathlib.Decide.{ℕ_discrete}
+use Rattle.sup_specs.specs.Values.{Bytes}
+use Rattle.sup_local_sup.specs.declared.effect.Effect.{Effect}
 use Rattle.sup_placement.specs.declared.weigh.Weigh.{Ghosts as WeighGhosts}
 use Rattle.sup_node_gate.specs.declared.entry.Entry.{Entry}
 use Rattle.sup_node_gate.specs.Gates.{view_of}
@@ -16,7 +18,7 @@ use Rattle.sup_posts.specs.declared.jobs.Lane.{Lane}
 use Rattle.sup_posts.specs.declared.jobs.Drive.{Drive}
 use Rattle.sup_posts.specs.declared.jobs.Driven.{Driven}
 use Rattle.sup_posts.specs.declared.jobs.Arrived.{Arrived}
-use Rattle.sup_run_ends.specs.Passes.{of_lane, of_arrived, passes_to, shares_of, dealt_by, dealt_in}
+use Rattle.sup_run_ends.specs.Passes.{of_lane, of_arrived, passes_to, shares_of, dealt_by}
 use Rattle.sup_run_ends.specs.Steps.{ends_of, others_of, places}
 use Rattle.sup_run_ends.proofs.PlacedPassLaws.{passes_append, pass_here, pass_apart}
 use Rattle.sup_run_ends.proofs.ReturnedPassLaws.{is_same, isnt_same}
@@ -65,9 +67,9 @@ not_itself j (x ∷ xs) = by_test (not_itself j xs) (x == j) refl
     by_test rest true e = rest
     by_test rest false e = ap (λ b. cond b (x ∷ those j (others_of j xs)) (those j (others_of j xs))) e ∙ rest
 
-module _ {W : Type 0} {h : WeighGhosts W} (posts : List (SharedNode W h)) where
+module _ {W : Type 0} {h : WeighGhosts W} (did : Bytes → Effect → Bool → Type 0) (posts : List (SharedNode W h)) where
   module _ (es : List Entry) where
-    pub none_comes : (j : ℕ) (lanes : List (Lane W h)) (arrived : List (Arrived W h)) → AllZip (CarriedLetters posts es) lanes arrived → those j (ends_of lanes) ≡ [] → passes_to j (map of_arrived arrived) ≡ []
+    pub none_comes : (j : ℕ) (lanes : List (Lane W h)) (arrived : List (Arrived W h)) → AllZip (CarriedLetters did posts es) lanes arrived → those j (ends_of lanes) ≡ [] → passes_to j (map of_arrived arrived) ≡ []
     none_comes j [] [] z e = refl
     none_comes j [] (a ∷ more) z e = absurd z
     none_comes j (l ∷ lanes) [] z e = absurd z
@@ -81,10 +83,10 @@ module _ {W : Type 0} {h : WeighGhosts W} (posts : List (SharedNode W h)) where
       pub pass : Arrived W h
       pub to : lane.to ≡ j
       pub stands : Contains lanes lane
-      pub carried : CarriedLetters posts es lane pass
+      pub carried : CarriedLetters did posts es lane pass
       pub only : passes_to j (map of_arrived arrived) ≡ pass.seat ∷ []
 
-    pub one_comes : (j : ℕ) (lanes : List (Lane W h)) (arrived : List (Arrived W h)) → AllZip (CarriedLetters posts es) lanes arrived → those j (ends_of lanes) ≡ j ∷ [] → OneComes j lanes arrived
+    pub one_comes : (j : ℕ) (lanes : List (Lane W h)) (arrived : List (Arrived W h)) → AllZip (CarriedLetters did posts es) lanes arrived → those j (ends_of lanes) ≡ j ∷ [] → OneComes j lanes arrived
     one_comes j [] [] z e = absurd cc
     one_comes j [] (a ∷ more) z e = absurd z
     one_comes j (l ∷ lanes) [] z e = absurd z
@@ -106,7 +108,7 @@ module _ {W : Type 0} {h : WeighGhosts W} (posts : List (SharedNode W h)) where
           only = pass_apart j (of_arrived a) (map of_arrived more) (λ f. apart (sym z.0.to ∙ f)) ∙ r.only;
         })
 
-    same_each : (j : ℕ) (lanes : List (Lane W h)) (arrived : List (Arrived W h)) → AllZip (CarriedLetters posts es) lanes arrived → shares_of (passes_to j (map of_arrived arrived)) ≡ shares_of (passes_to j (map of_lane lanes))
+    same_each : (j : ℕ) (lanes : List (Lane W h)) (arrived : List (Arrived W h)) → AllZip (CarriedLetters did posts es) lanes arrived → shares_of (passes_to j (map of_arrived arrived)) ≡ shares_of (passes_to j (map of_lane lanes))
     same_each j [] [] z = refl
     same_each j [] (a ∷ more) z = absurd z
     same_each j (l ∷ lanes) [] z = absurd z
@@ -123,14 +125,14 @@ module _ {W : Type 0} {h : WeighGhosts W} (posts : List (SharedNode W h)) where
   shares_both xs ys = flat_map-append (λ (s : Seat W h). (view_of s).shares) xs ys
 
   -- what comes back to a place has what was dealt to it
-  pub same_shares : (j : ℕ) (drives : List (Drive W h)) (driven : List (Driven W h)) → AllZip (DrivesNode posts) drives driven
+  pub same_shares : (stood : Bytes → ℕ → Type 0) (j : ℕ) (drives : List (Drive W h)) (driven : List (Driven W h)) → AllZip (DrivesNode did stood posts) drives driven
       → shares_of (passes_to j (map of_arrived (flat_map (λ (d : Driven W h). d.arrived.items) driven))) ≡ shares_of (passes_to j (dealt_by drives))
-  same_shares j [] [] z = refl
-  same_shares j [] (r ∷ more) z = absurd z
-  same_shares j (d ∷ drives) [] z = absurd z
-  same_shares j (d ∷ drives) (r ∷ more) z =
+  same_shares stood j [] [] z = refl
+  same_shares stood j [] (r ∷ more) z = absurd z
+  same_shares stood j (d ∷ drives) [] z = absurd z
+  same_shares stood j (d ∷ drives) (r ∷ more) z =
       ap shares_of (passes_both j r.arrived.items (flat_map (λ (x : Driven W h). x.arrived.items) more))
       ∙ shares_both (passes_to j (map of_arrived r.arrived.items)) (passes_to j (map of_arrived (flat_map (λ (x : Driven W h). x.arrived.items) more)))
       ∙ ap (λ k. k ++ shares_of (passes_to j (map of_arrived (flat_map (λ (x : Driven W h). x.arrived.items) more)))) (same_each z.0.entries j d.lanes.items r.arrived.items z.0.carried)
-      ∙ ap (λ k. shares_of (passes_to j (map of_lane d.lanes.items)) ++ k) (same_shares j drives more z.1)
+      ∙ ap (λ k. shares_of (passes_to j (map of_lane d.lanes.items)) ++ k) (same_shares stood j drives more z.1)
       ∙ sym (ap shares_of (passes_append j (map of_lane d.lanes.items) (dealt_by drives)) ∙ shares_both (passes_to j (map of_lane d.lanes.items)) (passes_to j (dealt_by drives)))

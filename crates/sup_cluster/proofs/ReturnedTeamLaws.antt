@@ -1,7 +1,9 @@
 -- What the drivers hand back, said of their nodes.
-use Rattle.std.specs.Prelude.{List, All, Result, Ok, Err, slice_get, refl}
+use Rattle.std.specs.Prelude.{ℕ, Bool, List, All, Result, Ok, Err, slice_get, refl}
 use Rattle.std.specs.List.{AllZip}
 use Rattle.std.proofs.Common.{ap, ◌∙◌, subst}
+use Rattle.sup_specs.specs.Values.{Bytes}
+use Rattle.sup_local_sup.specs.declared.effect.Effect.{Effect}
 use Rattle.sup_placement.specs.declared.weigh.Weigh.{Ghosts as WeighGhosts}
 use Rattle.sup_plan.specs.declared.plan.Plan.{Plan}
 use Rattle.sup_posts.specs.Jobs.{CarriedLetters, GivesDriven, DrivesNode, MayTakeDrive}
@@ -14,22 +16,23 @@ use Rattle.sup_run_ends.proofs.ZipLaws.{zip_right, zip_through}
 use Rattle.sup_run_ends.proofs.RunEndItemLaws.{all_at, same_place}
 
 module _ {W : Type 0} {h : WeighGhosts W} where
-  arrives : (posts : List (SharedNode W h)) (drive : Drive W h) (driven : Driven W h) (d : DrivesNode posts drive driven) → All (IsArrived posts) driven.arrived.items
-  arrives posts drive driven d = all_at (IsArrived posts) driven.arrived.items (λ i a e.
-      let c = zip_right (CarriedLetters posts d.entries) drive.lanes.items driven.arrived.items i a d.carried e in
-      (c.2.post, ap (slice_get posts) c.2.to ∙ c.2.stands, c.2.seat))
+  module _ (did : Bytes → Effect → Bool → Type 0) (stood : Bytes → ℕ → Type 0) where
+    arrives : (posts : List (SharedNode W h)) (drive : Drive W h) (driven : Driven W h) (d : DrivesNode did stood posts drive driven) → All (IsArrived posts) driven.arrived.items
+    arrives posts drive driven d = all_at (IsArrived posts) driven.arrived.items (λ i a e.
+        let c = zip_right (CarriedLetters did posts d.entries) drive.lanes.items driven.arrived.items i a d.carried e in
+        (c.2.post, ap (slice_get posts) c.2.to ∙ c.2.stands, c.2.seat))
 
-  one_returned : (plan : Plan) (posts : List (SharedNode W h)) (post : SharedNode W h) (drive : Drive W h) (result : Result (Driven W h) ThreadFault)
-      → IsDriveOf plan posts post drive → GivesDriven posts drive result → ReturnsDriven posts post result
-  one_returned plan posts post drive (Ok driven) d g = (
-    subst (λ (p : SharedNode W h). IsSeatOf p driven.seat) (same_place posts drive.at drive.at g.seat.0 post g.seat.1 d.place refl) g.seat.2,
-    arrives posts drive driven g,
-  )
-  one_returned plan posts post drive (Err fault) d g = tt
+    one_returned : (plan : Plan) (posts : List (SharedNode W h)) (post : SharedNode W h) (drive : Drive W h) (result : Result (Driven W h) ThreadFault)
+        → IsDriveOf plan posts post drive → GivesDriven did stood posts drive result → ReturnsDriven posts post result
+    one_returned plan posts post drive (Ok driven) d g = (
+      subst (λ (p : SharedNode W h). IsSeatOf p driven.seat) (same_place posts drive.at drive.at g.seat.0 post g.seat.1 d.place refl) g.seat.2,
+      arrives posts drive driven g,
+    )
+    one_returned plan posts post drive (Err fault) d g = tt
 
-  pub returned : (plan : Plan) (posts : List (SharedNode W h)) (drives : List (Drive W h)) (results : List (Result (Driven W h) ThreadFault))
-      → AllZip (IsDriveOf plan posts) posts drives → AllZip (GivesDriven posts) drives results → AllZip (ReturnsDriven posts) posts results
-  returned plan posts drives results d g = zip_through (IsDriveOf plan posts) (GivesDriven posts) (ReturnsDriven posts) (one_returned plan posts) posts drives results d g
+    pub returned : (plan : Plan) (posts : List (SharedNode W h)) (drives : List (Drive W h)) (results : List (Result (Driven W h) ThreadFault))
+        → AllZip (IsDriveOf plan posts) posts drives → AllZip (GivesDriven did stood posts) drives results → AllZip (ReturnsDriven posts) posts results
+    returned plan posts drives results d g = zip_through (IsDriveOf plan posts) (GivesDriven did stood posts) (ReturnsDriven posts) (one_returned plan posts) posts drives results d g
 
   pub drives_take : (plan : Plan) (posts : List (SharedNode W h)) (drives : List (Drive W h)) → AllZip (IsDriveOf plan posts) posts drives → All (MayTakeDrive posts) drives
   drives_take plan posts drives ds = all_at (MayTakeDrive posts) drives (λ i d e. (zip_right (IsDriveOf plan posts) posts drives i d ds e).2.takes)

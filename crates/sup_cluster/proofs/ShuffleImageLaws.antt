@@ -1,7 +1,6 @@
 -- Shuffles of images are images of shuffles.
 use Rattle.std.proofs.Common.{◌≡◌, List, [], ◌∷◌, ◌++◌, map, flat_map, refl, ap, ◌∙◌, sym, subst, inl, inr, ⊎_elim}
 use Rattle.std.proofs.lemmas.List.{map-append}
-use mathlib.Core.Option as M
 use mathlib.Core.Option.{some, some-injective}
 use Rattle.sup_node_gate.specs.Shuffles.{IsShuffle, IsShuffleOf}
 

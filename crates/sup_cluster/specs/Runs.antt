@@ -1,8 +1,9 @@
 -- What a run of a plan gives back.
-use Rattle.std.specs.Prelude.{◌≡◌, ◌≢◌, List, ◌∷◌, ◌++◌, map, flat_map, All, Contains}
+use Rattle.std.specs.Prelude.{◌≡◌, ◌≢◌, ℕ, Bool, List, ◌∷◌, ◌++◌, length, map, flat_map, All, Contains}
 use Rattle.std.specs.List.{AllZip}
 use Rattle.sup_specs.specs.Values.{Bytes}
 use Rattle.sup_placement.specs.Place.{Weigher}
+use Rattle.sup_local_sup.specs.declared.effect.Effect.{Effect}
 use Rattle.sup_replica.specs.Configs.{Config}
 use Rattle.sup_station.specs.OpenedStations.{OpensStation}
 use Rattle.sup_node_gate.specs.declared.entry.Entry.{Entry}
@@ -14,7 +15,7 @@ use Rattle.sup_plan.specs.Parts.{commands_of, script_between}
 use Rattle.sup_plan.specs.Sublists.{Sublist}
 use Rattle.sup_plan.specs.declared.histories.History.{History}
 use Rattle.sup_plan.specs.declared.plan.Plan.{Plan}
-use Rattle.sup_posts.specs.Rounds.{IsRound, delivery}
+use Rattle.sup_posts.specs.Rounds.{IsRound, StoodByAll, delivery}
 
 -- the history replays from a station that was just made
 abbrev pub HasRun : Weigher → Config → History → Type 0
@@ -39,27 +40,32 @@ abbrev pub in_a_row : List (List Entry) → List Entry
 in_a_row = flat_map (λ round. round)
 
 -- some list has in order the letters to the node of the other's commands, which stand in the other's history; and of what the link's script
--- makes of that list each text is delivered, once, in order, with the exits behind it of children that didn't start
-pub record CameFrom (plan : Plan) (to from : History) (rounds : List (List Entry)) : Type 0 where
+-- makes of that list each text is delivered, once, in order, with the exits behind it of children that didn't start, as the runner answered
+pub record CameFrom (did : Effect → Bool → Type 0) (plan : Plan) (to from : History) (rounds : List (List Entry)) : Type 0 where
   pub entries : List Entry
   pub calls : map call_of entries ≡ map asked (commands_of from.node plan.commands.items)
   pub stand : Sublist entries from.entries.items
   pub put : List Bytes
   pub letters : Sublist (letters_to to.node entries) put
-  pub delivered : AllZip IsRound (map delivery (image (script_between from.node to.node plan.scripts.items) put)) rounds
+  pub delivered : AllZip (IsRound did) (map delivery (image (script_between from.node to.node plan.scripts.items) put)) rounds
 
 -- the history is a shuffle of the rounds of the node's commands, each made once, and of those of what came from each of the others: nothing
 -- else happens at the node
-pub record IsMadeOfRounds (plan : Plan) (others : List History) (h : History) : Type 0 where
+pub record IsMadeOfRounds (did : Effect → Bool → Type 0) (plan : Plan) (others : List History) (h : History) : Type 0 where
   pub own : List (List Entry)
-  pub commands : AllZip IsRound (map asked (commands_of h.node plan.commands.items)) own
+  pub commands : AllZip (IsRound did) (map asked (commands_of h.node plan.commands.items)) own
   pub received : List (List (List Entry))
-  pub came : AllZip (CameFrom plan h) others received
+  pub came : AllZip (CameFrom did plan h) others received
   pub whole : IsShuffleOf (in_a_row own) (map in_a_row received) h.entries.items
 
--- the histories are of the plan's nodes in their order, and each is of a station that was just made and driven by the plan, and by nothing else
-pub record IsRunOf (g : Weigher) (plan : Plan) (all : List History) : Type 0 where
+-- the histories are of the plan's nodes in their order, and each is of a station that was just made and driven by the plan, and by nothing else; of each
+-- node the runner did and answered what `did` says: it was told the effects of all answers, and just those children didn't start of which it said so
+pub record IsRunOf (g : Weigher) (did : Bytes → Effect → Bool → Type 0) (plan : Plan) (all : List History) : Type 0 where
   pub nodes : map (λ h. h.node) all ≡ plan.nodes.items
   pub ran : All (HasRun g plan.config) all
   pub drove : All (RanCommands plan all) all
-  pub made : (before : List History) (h : History) (after : List History) → all ≡ before ++ h ∷ after → IsMadeOfRounds plan (before ++ after) h
+  pub made : (before : List History) (h : History) (after : List History) → all ≡ before ++ h ∷ after → IsMadeOfRounds (did h.node) plan (before ++ after) h
+
+-- the checkpoint was told of each of the node's commands, by its place
+abbrev pub HasStoodBy : (Bytes → ℕ → Type 0) → Plan → History → Type 0
+HasStoodBy stood plan h = StoodByAll (stood h.node) (length (commands_of h.node plan.commands.items))

@@ -3,7 +3,8 @@ ghost use Rattle.std.specs.Prelude.{◌≡◌, ◌≢◌, ◌≤◌, All, Err, I
 ghost use Rattle.sup_node_gate.specs.Gates.{IsBound};
 ghost use Rattle.sup_plan.specs.Plans.{IsPlan};
 ghost use Rattle.sup_posts.specs.declared.fault.RunFault.TheVariants.{BadPlan};
-ghost use Rattle.sup_cluster.specs.Runs.{IsRunOf};
+ghost use Rattle.sup_driving.specs.Called.{stood_by};
+ghost use Rattle.sup_cluster.specs.Runs.{IsRunOf, HasStoodBy};
 
 use std::alloc::Global;
 use std::sync::Wait;
@@ -40,7 +41,8 @@ pub fn run<
 ) -> Result<Histories, RunFault>
     ensures bad { ¬ (IsPlan plan.now) → result ≡ Err BadPlan }
     ensures good { IsPlan plan.now → result ≢ Err BadPlan }
-    ensures run { IfOk result (λ histories. IsRunOf W.weight_of plan.now histories) }
+    ensures run { IfOk result (λ histories. IsRunOf W.weight_of (N.did runner.now) plan.now histories) }
+    ensures stood { IfOk result (λ histories. All (HasStoodBy (stood_by C.was_before C.was_answered checkpoint.now) plan.now) histories) }
 {
     run_bounded(rt, alloc, plan, MAX_BOUND, runner, checkpoint, weigher)
 }
@@ -67,7 +69,8 @@ pub fn run_bounded<
     requires { IsBound bound }
     ensures bad { ¬ (IsPlan plan.now) → result ≡ Err BadPlan }
     ensures good { IsPlan plan.now → result ≢ Err BadPlan }
-    ensures run { IfOk result (λ histories. IsRunOf W.weight_of plan.now histories) }
+    ensures run { IfOk result (λ histories. IsRunOf W.weight_of (N.did runner.now) plan.now histories) }
+    ensures stood { IfOk result (λ histories. All (HasStoodBy (stood_by C.was_before C.was_answered checkpoint.now) plan.now) histories) }
     ensures bound { IfOk result (λ histories. All (λ h. length h.entries.items ≤ bound) histories) }
 {
     if !is_plan(plan) {

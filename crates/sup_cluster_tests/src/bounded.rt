@@ -69,6 +69,10 @@ struct Lamps {
 }
 
 impl Checkpoint for Lamps {
+    ghost was_before = { λ lamps node place. Unit {0} };
+
+    ghost was_answered = { λ lamps node place. Unit {0} };
+
     fn before(&self, node: &NodeName, place: u64) {
         if node.as_str() == "a" && place == 2 {
             wait_for(&self.started);

@@ -9,6 +9,8 @@ use sup_specs::NodeName;
 struct StartsNothing;
 
 impl Runner for StartsNothing {
+    ghost did = { λ runner node effect answer. Unit {0} };
+
     fn act(&self, _node: &NodeName, effect: &Effect) -> bool {
         matches!(effect, Effect::Stop { .. })
     }

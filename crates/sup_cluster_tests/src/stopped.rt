@@ -98,6 +98,8 @@ struct Lamps {
 }
 
 impl Runner for Lamps {
+    ghost did = { λ lamps node effect answer. Unit {0} };
+
     fn act(&self, _node: &NodeName, effect: &Effect) -> bool {
         let lamp = match effect {
             Effect::Start { inc, .. } if inc.boot == 1 => &self.first,
@@ -130,6 +132,8 @@ fn a_restart_starts_children_and_a_stop_tells_nothing(rt: HostRuntime) {
 struct StartsOnce;
 
 impl Runner for StartsOnce {
+    ghost did = { λ runner node effect answer. Unit {0} };
+
     fn act(&self, _node: &NodeName, effect: &Effect) -> bool {
         match effect {
             Effect::Start { inc, .. } => inc.boot == 1,

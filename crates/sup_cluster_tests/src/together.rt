@@ -16,6 +16,10 @@ struct Lamps {
 }
 
 impl Checkpoint for Lamps {
+    ghost was_before = { λ lamps node place. Unit {0} };
+
+    ghost was_answered = { λ lamps node place. Unit {0} };
+
     fn before(&self, node: &NodeName, place: u64) {
         match (node.as_str(), place) {
             ("a", 1) => wait_for(&self.joined),
@@ -32,6 +36,8 @@ impl Checkpoint for Lamps {
 }
 
 impl Runner for Lamps {
+    ghost did = { λ lamps node effect answer. Unit {0} };
+
     fn act(&self, node: &NodeName, effect: &Effect) -> bool {
         if node.as_str() == "b" && matches!(effect, Effect::Start { .. }) {
             self.started.store(true, Ordering::SeqCst);

@@ -21,7 +21,7 @@ use Rattle.sup_certify.specs.Complete.{HasRun}
 use Rattle.sup_certify.specs.Faults.{CanJudge, IsFaultFrom, IsFaultOf}
 use Rattle.sup_certify.specs.declared.fault.CertifyFault.{CertifyFault}
 use Rattle.sup_certify.specs.declared.fault.CertifyFault.TheVariants.{Stuck, Differs, OutOfMemory}
-use Rattle.sup_clustering.specs.CertifiedPlans.{IsNoRun, IsUncertified}
+use Rattle.sup_clustering.specs.CertifiedPlans.{all_start, IsNoRun, IsUncertified}
 
 -- names that differ, as a plan says it, differ as the model says it
 apart_from : (name : Bytes) (others : List Bytes) → AllByRecursion (λ o. bytes_eq name o ≡ false) others → NameIsApart name others
@@ -44,17 +44,17 @@ replayed g config names hs fault can (inl j) = absurd (j.1 can)
 replayed g config names hs fault can (inr j) = j.1
 
 -- such a fault, where memory was not wanted
-no_run : (g : Weigher) (plan : Plan) (hs : List History) (fault : CertifyFault) → fault ≢ OutOfMemory → threads.IsRunOf g plan hs
+no_run : (g : Weigher) (plan : Plan) (hs : List History) (fault : CertifyFault) → fault ≢ OutOfMemory → threads.IsRunOf g all_start plan hs
     → (fault ≡ OutOfMemory) ⊎ ((start : List SeenNode) × IsNewWorld g plan.config plan.nodes.items start × IsFaultFrom g start hs fault) → (fault ≢ OutOfMemory → ¬ HasRun g plan.config plan.nodes.items hs) → IsNoRun g plan fault
 no_run g plan hs fault room ran (inl e) none = absurd (room e)
 no_run g plan hs fault room ran (inr r) none = record { histories = hs; ran = ran; start = r.0; is_new = r.1; ends = r.2; none = none room }
 
 -- what a plan's threads did can be judged
-can_judge : (g : Weigher) (plan : Plan) (hs : List History) → IsPlan plan → threads.IsRunOf g plan hs → CanJudge plan.nodes.items hs
+can_judge : (g : Weigher) (plan : Plan) (hs : List History) → IsPlan plan → threads.IsRunOf g all_start plan hs → CanJudge plan.nodes.items hs
 can_judge g plan hs p ran = record { are_of = ran.nodes; named = names_make plan p }
 
 -- why what a plan's threads did is not certified
-pub uncertified : (g : Weigher) (plan : Plan) (hs : List History) (fault : CertifyFault) → IsPlan plan → threads.IsRunOf g plan hs → IsFaultOf g plan.config plan.nodes.items hs fault
+pub uncertified : (g : Weigher) (plan : Plan) (hs : List History) (fault : CertifyFault) → IsPlan plan → threads.IsRunOf g all_start plan hs → IsFaultOf g plan.config plan.nodes.items hs fault
     → (fault ≢ OutOfMemory → ¬ HasRun g plan.config plan.nodes.items hs) → IsUncertified g plan fault
 uncertified g plan hs OutOfMemory p ran j none = tt
 uncertified g plan hs Stuck p ran j none = no_run g plan hs Stuck (λ e. cc) ran (replayed g plan.config plan.nodes.items hs Stuck (can_judge g plan hs p ran) j) none

@@ -1,7 +1,8 @@
 -- A plan's run by threads, judged, and the world in which its nodes have settled.
-use Rattle.std.specs.Prelude.{◌≡◌, ℕ, Bool, List, Ok}
+use Rattle.std.specs.Prelude.{◌≡◌, ℕ, Bool, true, List, Ok}
 use Rattle.sup_specs.specs.Values.{Bytes}
 use Rattle.sup_placement.specs.Place.{Weigher}
+use Rattle.sup_local_sup.specs.declared.effect.Effect.{Effect}
 use Rattle.sup_jobs.specs.declared.fault.Fault.TheVariants as job
 use Rattle.sup_plan.specs.declared.histories.History.{History}
 use Rattle.sup_plan.specs.declared.plan.Plan.{Plan}
@@ -23,10 +24,14 @@ use Rattle.sup_cluster_texts.specs.Texts.{cluster_text}
 use Rattle.sup_cluster_texts.specs.declared.fault.ClusterFault.{ClusterFault}
 use Rattle.sup_cluster_texts.specs.declared.fault.ClusterFault.TheVariants.{Job, HistoryFull, LinkClosed, Stuck, Differs}
 
+-- each effect is done, and no start fails
+abbrev pub all_start : Bytes → Effect → Bool → Type 0
+all_start node effect answer = answer ≡ true
+
 -- what the plan's threads did is a run of these steps, from a new world of the plan's nodes to this one, and the headline holds of it
 pub record IsCertified (weigher : Weigher) (plan : Plan) (steps : List Step) (sites : List SeenNode) : Type 0 where
   pub histories : List History
-  pub ran : threads.IsRunOf weigher plan histories
+  pub ran : threads.IsRunOf weigher all_start plan histories
   pub makes : MakeRun weigher plan.config plan.nodes.items histories steps sites
   pub headline : (is_message : Bytes → Bool) → KnowsAll is_message steps → HasHeadline weigher plan.config plan.nodes.items is_message histories steps sites
 
@@ -48,7 +53,7 @@ pub record PrintsCluster (weigher : Weigher) (plan : Plan) (said : List ℕ) : T
 -- all entries that keeps each history's own is a run
 pub record IsNoRun (weigher : Weigher) (plan : Plan) (fault : CertifyFault) : Type 0 where
   pub histories : List History
-  pub ran : threads.IsRunOf weigher plan histories
+  pub ran : threads.IsRunOf weigher all_start plan histories
   pub start : List SeenNode
   pub is_new : IsNewWorld weigher plan.config plan.nodes.items start
   pub ends : IsFaultFrom weigher start histories fault

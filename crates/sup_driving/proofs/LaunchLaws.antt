@@ -1,9 +1,11 @@
 -- From what the threads of drivers and receivers did to what is promised of drivers.
-use Rattle.std.specs.Prelude.{◌≡◌, List, [], ◌∷◌, map, All, Result, Ok, Err, IfOk}
+use Rattle.std.specs.Prelude.{◌≡◌, ℕ, Bool, List, [], ◌∷◌, length, map, slice_get, All, Result, Ok, Err, IfOk}
 use Rattle.std.specs.List.{AllZip}
 use Rattle.std.proofs.Common.{sym, ap, ◌∙◌, subst, arith}
 use Rattle.std.proofs.lemmas.List.Elements.{All-cons, All-tail}
 use Rattle.std.proofs.lemmas.Option.{same_Some}
+use Rattle.sup_specs.specs.Values.{Bytes}
+use Rattle.sup_local_sup.specs.declared.effect.Effect.{Effect}
 use Rattle.sup_placement.specs.declared.weigh.Weigh.{Ghosts as WeighGhosts}
 use Rattle.sup_station.specs.OpenedStations.{kept_by}
 use Rattle.sup_node_gate.specs.declared.entry.Entry.{Entry}
@@ -14,8 +16,8 @@ use Rattle.sup_links.specs.Ends.{AreOneLink, script_of, sent_put, taken_of}
 use Rattle.sup_links.specs.Image.{image}
 use Rattle.sup_plan.specs.Calls.{asked, letters_to, deliveries}
 use Rattle.sup_plan.specs.Sublists.{Sublist}
-use Rattle.sup_posts.specs.Jobs.{IsSeatAt, IsLane, CarriedLetters, DrivesNode, GivesDriven}
-use Rattle.sup_posts.specs.Rounds.{MakesCalls, delivery}
+use Rattle.sup_posts.specs.Jobs.{IsLane, CarriedLetters, DrivesNode, GivesDriven}
+use Rattle.sup_posts.specs.Rounds.{MakesCalls, StoodByAll, delivery}
 use Rattle.sup_posts.specs.declared.thread_fault.ThreadFault.{ThreadFault}
 use Rattle.sup_posts.specs.declared.shared_node.SharedNode.{SharedNode}
 use Rattle.sup_posts.specs.declared.jobs.Lane.{Lane}
@@ -30,14 +32,14 @@ use Rattle.sup_driving.specs.declared.wires.Wire.{Wire}
 use Rattle.sup_driving.specs.Teams.{HasSent, IsWireOf, IsReceiveOf, IsTeamOf, SteersNode, ReceivesLetters}
 use Rattle.sup_driving.specs.GatheredResults.{Steering, Reception, CanMeet, MetEnds, AllMet, CanMeetAll, CanGather, IsGathered, GathersTeam}
 
-module _ {W : Type 0} {h : WeighGhosts W} where
+module _ {W : Type 0} {h : WeighGhosts W} (did : Bytes → Effect → Bool → Type 0) (stood : Bytes → ℕ → Type 0) where
   -- what the receiver of a job gives
   abbrev Took : List (SharedNode W h) → Receive W h → Reception W h → Type 0
-  Took posts receive result = IfOk result (ReceivesLetters posts receive)
+  Took posts receive result = IfOk result (ReceivesLetters did posts receive)
 
   -- what a driver and its receivers give
   abbrev pub Did : List (SharedNode W h) → Team (Steer W h) (Receive W h) → Team (Steering W h) (Reception W h) → Type 0
-  Did posts = TeamZip (λ steer result. IfOk result (SteersNode posts steer)) (λ receive result. IfOk result (ReceivesLetters posts receive))
+  Did posts = TeamZip (λ steer result. IfOk result (SteersNode did stood posts steer)) (λ receive result. IfOk result (ReceivesLetters did posts receive))
 
   module _ (posts : List (SharedNode W h)) (es : List Entry) where
     can_one : (lane : Lane W h) (wire : Wire) (receive : Receive W h) (sent : Sent) (r : Reception W h)
@@ -62,11 +64,11 @@ module _ {W : Type 0} {h : WeighGhosts W} where
         (can_one a z y x r (l 0 a (omega arith)) w.0 rv.0 s.0 t.0, can_each lanes zs ys xs rs (All-tail (IsLane posts) a lanes l) w.1 rv.1 s.1 t.1)
 
     carried_one : (lane : Lane W h) (wire : Wire) (receive : Receive W h) (sent : Sent) (r : Reception W h) (arrived : Arrived W h)
-        → IsWireOf posts lane wire → IsReceiveOf lane receive → HasSent es wire sent → Took posts receive r → MetEnds sent r arrived → CarriedLetters posts es lane arrived
+        → IsWireOf posts lane wire → IsReceiveOf lane receive → HasSent es wire sent → Took posts receive r → MetEnds sent r arrived → CarriedLetters did posts es lane arrived
     carried_one lane wire receive sent (Err fault) arrived w rv s took met = absurd met
     carried_one lane wire receive sent (Ok received) arrived w rv s took met =
-        let at = subst (λ n. IsSeatAt posts n received.seat) rv.to took.seat in
-        let same : at.0 ≡ w.post = same_Some at.0 w.post (sym at.1 ∙ w.stands) in
+        let at = took.seat in
+        let same : at.0 ≡ w.post = same_Some at.0 w.post (sym at.1 ∙ (ap (slice_get posts) rv.to ∙ w.stands)) in
         let whole : taken_of received.exit ≡ image (script_of lane.entry) (sent_put sent) = met.2 ∙ ap (λ x. image x (sent_put sent)) (s.script ∙ ap script_of w.entry) in record {
           to = met.0 ∙ (took.to ∙ rv.to);
           post = w.post;
@@ -76,13 +78,14 @@ module _ {W : Type 0} {h : WeighGhosts W} where
           letters = subst (λ n. Sublist (letters_to n es) (sent_put sent)) w.to s.letters;
           delivered = subst (λ l. Sublist l (deliveries (view_of arrived.seat).seen)) whole
               (subst (λ p. Sublist (taken_of received.exit) (deliveries (view_of p).seen)) (sym met.1) took.delivered);
-          made = subst (λ l. MakesCalls (view_of lane.seat) (map delivery l) (view_of arrived.seat)) whole
-              (subst (λ x. MakesCalls (view_of x) (map delivery (taken_of received.exit)) (view_of arrived.seat)) rv.seat
-              (subst (λ x. MakesCalls (view_of receive.seat) (map delivery (taken_of received.exit)) (view_of x)) (sym met.1) took.made));
+          made = subst (λ (p : SharedNode W h). MakesCalls (did p.name) (view_of lane.seat) (map delivery (image (script_of lane.entry) (sent_put sent))) (view_of arrived.seat)) same
+              (subst (λ l. MakesCalls (did at.0.name) (view_of lane.seat) (map delivery l) (view_of arrived.seat)) whole
+              (subst (λ x. MakesCalls (did at.0.name) (view_of x) (map delivery (taken_of received.exit)) (view_of arrived.seat)) rv.seat
+              (subst (λ x. MakesCalls (did at.0.name) (view_of receive.seat) (map delivery (taken_of received.exit)) (view_of x)) (sym met.1) took.made)));
         }
 
     carried_each : (lanes : List (Lane W h)) (wires : List Wire) (receives : List (Receive W h)) (sents : List Sent) (rs : List (Reception W h)) (arrived : List (Arrived W h))
-        → AllZip (IsWireOf posts) lanes wires → AllZip IsReceiveOf lanes receives → AllZip (HasSent es) wires sents → AllZip (Took posts) receives rs → AllMet sents rs arrived → AllZip (CarriedLetters posts es) lanes arrived
+        → AllZip (IsWireOf posts) lanes wires → AllZip IsReceiveOf lanes receives → AllZip (HasSent es) wires sents → AllZip (Took posts) receives rs → AllMet sents rs arrived → AllZip (CarriedLetters did posts es) lanes arrived
     carried_each [] [] [] [] [] [] w rv s t m = tt
     carried_each [] [] [] [] [] (b ∷ bs) w rv s t m = absurd m
     carried_each [] [] [] [] (r ∷ rs) bs w rv s t m = absurd t
@@ -99,7 +102,7 @@ module _ {W : Type 0} {h : WeighGhosts W} where
 
   module _ (posts : List (SharedNode W h)) where
     can_gather : (drive : Drive W h) (team : Team (Steer W h) (Receive W h)) (lead : Steering W h) (others : List (Reception W h))
-        → IsTeamOf posts drive team → IfOk lead (SteersNode posts team.lead) → AllZip (Took posts) team.others.items others → CanMeetAll lead others
+        → IsTeamOf posts drive team → IfOk lead (SteersNode did stood posts team.lead) → AllZip (Took posts) team.others.items others → CanMeetAll lead others
     can_gather drive team (Ok steered) others t s took = can_each posts s.entries drive.lanes.items team.lead.wires.items team.others.items steered.sent.items others t.takes.lanes t.wires t.others s.sent took
     can_gather drive team (Err fault) others t s took = tt
 
@@ -113,26 +116,27 @@ module _ {W : Type 0} {h : WeighGhosts W} where
     can_all (z ∷ zs) (y ∷ ys) (x ∷ xs) t d = All-cons CanGather x xs (can_gather z y x.lead x.others.items t.0 d.0.0 d.0.1) (can_all zs ys xs t.1 d.1)
 
     drives_of : (drive : Drive W h) (team : Team (Steer W h) (Receive W h)) (done : Team (Steering W h) (Reception W h)) (driven : Driven W h)
-        → IsTeamOf posts drive team → Did posts team done → IsGathered done driven → DrivesNode posts drive driven
+        → IsTeamOf posts drive team → Did posts team done → IsGathered done driven → DrivesNode did stood posts drive driven
     drives_of drive team done driven t d g =
-        let s : SteersNode posts team.lead g.steered = subst (λ r. IfOk r (SteersNode posts team.lead)) g.lead d.0 in record {
-          seat = subst (IsSeatAt posts drive.at) (sym g.seat) (subst (λ n. IsSeatAt posts n g.steered.seat) t.at s.seat);
+        let s : SteersNode did stood posts team.lead g.steered = subst (λ r. IfOk r (SteersNode did stood posts team.lead)) g.lead d.0 in record {
+          seat = (s.seat.0, ap (slice_get posts) (sym t.at) ∙ s.seat.1, subst (IsOf kept_by failures_by sound_by s.seat.0.gate) (sym g.seat) s.seat.2);
           entries = s.entries;
           calls = s.are ∙ ap (λ v. map asked v.items) t.commands;
           seen = subst (λ x. Sublist s.entries (view_of x).seen) (sym g.seat) s.stand;
-          made = subst (λ x. MakesCalls (view_of drive.seat) (map asked drive.commands.items) (view_of x)) (sym g.seat)
-              (subst (λ v. MakesCalls (view_of drive.seat) (map asked v.items) (view_of g.steered.seat)) t.commands
-              (subst (λ x. MakesCalls (view_of x) (map asked team.lead.commands.items) (view_of g.steered.seat)) t.seat s.made));
+          stood_by = subst (λ v. StoodByAll (stood s.seat.0.name) (length v.items)) t.commands s.stood_by;
+          made = subst (λ x. MakesCalls (did s.seat.0.name) (view_of drive.seat) (map asked drive.commands.items) (view_of x)) (sym g.seat)
+              (subst (λ v. MakesCalls (did s.seat.0.name) (view_of drive.seat) (map asked v.items) (view_of g.steered.seat)) t.commands
+              (subst (λ x. MakesCalls (did s.seat.0.name) (view_of x) (map asked team.lead.commands.items) (view_of g.steered.seat)) t.seat s.made));
           carried = carried_each posts s.entries drive.lanes.items team.lead.wires.items team.others.items g.steered.sent.items done.others.items driven.arrived.items t.wires t.others s.sent d.1 g.met;
         }
 
     gives_of : (drive : Drive W h) (team : Team (Steer W h) (Receive W h)) (done : Team (Steering W h) (Reception W h)) (result : Result (Driven W h) ThreadFault)
-        → IsTeamOf posts drive team → Did posts team done → GathersTeam done result → GivesDriven posts drive result
+        → IsTeamOf posts drive team → Did posts team done → GathersTeam done result → GivesDriven did stood posts drive result
     gives_of drive team done (Ok driven) t d g = drives_of drive team done driven t d g
     gives_of drive team done (Err fault) t d g = tt
 
     pub gives_all : (drives : List (Drive W h)) (teams : List (Team (Steer W h) (Receive W h))) (done : List (Team (Steering W h) (Reception W h))) (results : List (Result (Driven W h) ThreadFault))
-        → AllZip (IsTeamOf posts) drives teams → AllZip (Did posts) teams done → AllZip GathersTeam done results → AllZip (GivesDriven posts) drives results
+        → AllZip (IsTeamOf posts) drives teams → AllZip (Did posts) teams done → AllZip GathersTeam done results → AllZip (GivesDriven did stood posts) drives results
     gives_all [] [] [] [] t d g = tt
     gives_all [] [] [] (r ∷ rs) t d g = absurd g
     gives_all [] [] (x ∷ xs) rs t d g = absurd d

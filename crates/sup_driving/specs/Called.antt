@@ -17,7 +17,7 @@ use Rattle.sup_node_gate.specs.Histories.{StationAnswer, CountedStation, IsPrefi
 use Rattle.sup_node_gate.specs.Views.{calls_of}
 use Rattle.sup_links.specs.declared.link_out.LinkOut.{LinkOut}
 use Rattle.sup_links.specs.Ends.{has_ended}
-use Rattle.sup_posts.specs.Rounds.{ChildIncarnation, FailedStarts, effects_of, runs_of}
+use Rattle.sup_posts.specs.Rounds.{TellsRunner, effects_of}
 use Rattle.sup_posts.specs.declared.thread_fault.ThreadFault.{ThreadFault}
 use Rattle.sup_posts.specs.declared.thread_fault.ThreadFault.TheVariants.{HistoryFull, LinkClosed, OutOfMemory}
 
@@ -46,16 +46,21 @@ CalledFor v act now v' effects = (letter : Option Letter) × MadeCall v act now 
 abbrev pub SeesMore : View → View → Type 0
 SeesMore v v' = IsPrefix v.seen v'.seen
 
--- the pass's own calls since are exits, at this moment, of those that didn't start of these runs and of those that such exits begin
-pub record TellsFailedStarts (now : ℕ) (runs : List ChildIncarnation) (v v' : View) : Type 0 where
+-- the pass's own calls since are exits, at this moment, of those of which the runner answered that they didn't start: of the runs of these effects,
+-- which it was told, and of those that such exits begin
+pub record TellsEffects (did : Effect → Bool → Type 0) (now : ℕ) (effects : List Effect) (v v' : View) : Type 0 where
   pub exits : List Entry
-  pub are : FailedStarts now runs exits
+  pub are : TellsRunner did now effects exits
   pub own : calls_of v' ≡ calls_of v ++ map some exits
   pub shares : v'.shares ≡ v.shares
 
--- the runs that the effects of several answers begin
-abbrev pub runs_in : List (List Effect) → List ChildIncarnation
-runs_in = flat_map runs_of
+-- the effects of several answers
+abbrev pub effects_in : List (List Effect) → List Effect
+effects_in = flat_map (λ effects. effects)
+
+-- the checkpoint was told of a node's command, before it and behind its answer
+abbrev pub stood_by : {C : Type 0} → (C → Bytes → ℕ → Type 0) → (C → Bytes → ℕ → Type 0) → C → Bytes → ℕ → Type 0
+stood_by before answered checkpoint node place = before checkpoint node place × answered checkpoint node place
 
 -- the fault of an answer: a gate that has no memory, or whose history is full, and nothing else
 abbrev pub IsFaultIn : StationAnswer → ThreadFault → Type 0

@@ -1,6 +1,8 @@
 -- A driver and its receivers: what their threads are given, and give back.
-use Rattle.std.specs.Prelude.{◌≡◌, true, List, [], map, slice_get, Some}
+use Rattle.std.specs.Prelude.{◌≡◌, ℕ, Bool, true, List, [], length, map, slice_get, Some}
 use Rattle.std.specs.List.{AllZip}
+use Rattle.sup_specs.specs.Values.{Bytes}
+use Rattle.sup_local_sup.specs.declared.effect.Effect.{Effect}
 use Rattle.sup_placement.specs.declared.weigh.Weigh.{Ghosts as WeighGhosts}
 use Rattle.sup_node_gate.specs.declared.entry.Entry.{Entry}
 use Rattle.sup_node_gate.specs.Gates.{view_of}
@@ -14,7 +16,7 @@ use Rattle.sup_posts.specs.declared.jobs.Lane.{Lane}
 use Rattle.sup_posts.specs.declared.jobs.Drive.{Drive}
 use Rattle.sup_crew.specs.declared.team.Team.{Team}
 use Rattle.sup_crew.specs.Teams.{AllOfTeam}
-use Rattle.sup_posts.specs.Rounds.{MakesCalls, delivery}
+use Rattle.sup_posts.specs.Rounds.{MakesCalls, StoodByAll, delivery}
 use Rattle.sup_driving.specs.declared.teams.Steer.{Steer}
 use Rattle.sup_driving.specs.declared.teams.Receive.{Receive}
 use Rattle.sup_driving.specs.declared.wires.Wire.{Wire}
@@ -63,20 +65,22 @@ module _ {W : Type 0} {h : WeighGhosts W} where
   IsReady posts team = AllOfTeam (IsReadyToSteer posts) (IsReadyToReceive posts) team
 
   -- the commands stand in order, each once with its moment, in what the driver's pass has seen, and their letters were sent; the pass made no
-  -- other call but exits of children that didn't start at a command
-  pub record SteersNode (posts : List (SharedNode W h)) (steer : Steer W h) (steered : Steered W h) : Type 0 where
+  -- other call but exits of children that didn't start at a command, as the runner answered; the checkpoint was told of each command
+  pub record SteersNode (did : Bytes → Effect → Bool → Type 0) (stood : Bytes → ℕ → Type 0) (posts : List (SharedNode W h)) (steer : Steer W h) (steered : Steered W h) : Type 0 where
     pub seat : IsSeatAt posts steer.at steered.seat
     pub entries : List Entry
     pub are : map call_of entries ≡ map asked steer.commands.items
     pub stand : Sublist entries (view_of steered.seat).seen
     pub sent : AllZip (HasSent entries) steer.wires.items steered.sent.items
-    pub made : MakesCalls (view_of steer.seat) (map asked steer.commands.items) (view_of steered.seat)
+    pub stood_by : StoodByAll (stood seat.0.name) (length steer.commands.items)
+    pub made : MakesCalls (did seat.0.name) (view_of steer.seat) (map asked steer.commands.items) (view_of steered.seat)
 
-  -- all that came out of the link was delivered, in its order; the pass made no other call but exits of children that didn't start at it
-  pub record ReceivesLetters (posts : List (SharedNode W h)) (receive : Receive W h) (received : Received W h) : Type 0 where
+  -- all that came out of the link was delivered, in its order; the pass made no other call but exits of children that didn't start at it, as
+  -- the runner answered
+  pub record ReceivesLetters (did : Bytes → Effect → Bool → Type 0) (posts : List (SharedNode W h)) (receive : Receive W h) (received : Received W h) : Type 0 where
     pub seat : IsSeatAt posts receive.to received.seat
     pub to : received.to ≡ receive.to
     pub link : SameOut receive.exit received.exit
     pub ended : has_ended received.exit ≡ true
     pub delivered : Sublist (taken_of received.exit) (deliveries (view_of received.seat).seen)
-    pub made : MakesCalls (view_of receive.seat) (map delivery (taken_of received.exit)) (view_of received.seat)
+    pub made : MakesCalls (did seat.0.name) (view_of receive.seat) (map delivery (taken_of received.exit)) (view_of received.seat)

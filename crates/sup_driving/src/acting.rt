@@ -4,8 +4,8 @@ ghost use Rattle.sup_node_gate.specs.declared.view.View.{View};
 ghost use Rattle.sup_node_gate.specs.Gates.{IsOf, view_of, bound_of};
 ghost use Rattle.sup_node_gate.specs.InMemory.{failures_by, sound_by};
 ghost use Rattle.sup_station.specs.OpenedStations.{kept_by};
-ghost use Rattle.sup_driving.specs.Called.{CalledFor, SeesMore, TellsFailedStarts, runs_in, StopsCalling};
-ghost use Rattle.sup_posts.specs.Rounds.{failed, runs_of};
+ghost use Rattle.sup_driving.specs.Called.{CalledFor, SeesMore, TellsEffects, effects_in, StopsCalling};
+ghost use Rattle.sup_posts.specs.Rounds.{failed};
 
 use crate::calling::Brought;
 use crate::field::Field;
@@ -31,7 +31,7 @@ impl<'a, R: Wait, W: Weigh, N: Runner, C> Field<'a, R, W, N, C> {
         requires { IsOf kept_by failures_by sound_by post.now.gate seat.old }
         ensures of { IsOf kept_by failures_by sound_by post.now.gate seat.new }
         ensures seen { OnOk result (SeesMore (view_of seat.old) (view_of seat.new)) }
-        ensures told { OnOk result (TellsFailedStarts now (runs_of effects) (view_of seat.old) (view_of seat.new)) }
+        ensures told { OnOk result (TellsEffects (N.did self.now.runner.now post.now.name) now effects (view_of seat.old) (view_of seat.new)) }
         ensures fault { IfErr result (StopsCalling (bound_of post.now.gate) (view_of seat.new)) }
     {
         let mut waiting = VecDeque::new(self.alloc);
@@ -59,8 +59,8 @@ impl<'a, R: Wait, W: Weigh, N: Runner, C> Field<'a, R, W, N, C> {
         requires { IsOf kept_by failures_by sound_by post.now.gate seat.old }
         ensures of { IsOf kept_by failures_by sound_by post.now.gate seat.new }
         ensures seen { OnOk result (SeesMore (view_of seat.old) (view_of seat.new)) }
-        ensures told { (u : View) → OnOk result (TellsFailedStarts now (runs_in waiting.new.items) (view_of seat.new) u
-            → TellsFailedStarts now (runs_of effects.now ++ runs_in waiting.old.items) (view_of seat.old) u) }
+        ensures told { (u : View) → OnOk result (TellsEffects (N.did self.now.runner.now post.now.name) now (effects_in waiting.new.items) (view_of seat.new) u
+            → TellsEffects (N.did self.now.runner.now post.now.name) now (effects.now ++ effects_in waiting.old.items) (view_of seat.old) u) }
         ensures fault { IfErr result (StopsCalling (bound_of post.now.gate) (view_of seat.new)) }
     {
         for effect in effects {

@@ -1,12 +1,12 @@
 //! What a driver does.
-ghost use Rattle.std.specs.Prelude.{◌++◌, ◌⊎◌, [], ◌∷◌, map, IfErr, OnOk, List};
+ghost use Rattle.std.specs.Prelude.{◌++◌, ◌⊎◌, [], ◌∷◌, length, map, IfErr, OnOk, List};
 ghost use Rattle.std.specs.List.{AllZip};
 ghost use Rattle.sup_node_gate.specs.Gates.{IsOf, view_of, bound_of};
 ghost use Rattle.sup_node_gate.specs.InMemory.{failures_by, sound_by};
 ghost use Rattle.sup_station.specs.OpenedStations.{kept_by};
 ghost use Rattle.sup_plan.specs.Calls.{Call, asked};
-ghost use Rattle.sup_posts.specs.Rounds.{MakesCalls};
-ghost use Rattle.sup_driving.specs.Called.{StopsCalling};
+ghost use Rattle.sup_posts.specs.Rounds.{MakesCalls, StoodByAll};
+ghost use Rattle.sup_driving.specs.Called.{StopsCalling, stood_by};
 ghost use Rattle.sup_driving.specs.Wires.{PutLetters, HasPut, IsLater, StopsPutting};
 
 use crate::calling::Brought;
@@ -35,7 +35,8 @@ impl<'a, R: Wait, W: Weigh, N: Runner, C: Checkpoint> Field<'a, R, W, N, C> {
         ensures later { OnOk result (AllZip IsLater wires.old wires.new) }
         ensures did { (calls : List Call) → PutLetters calls (view_of seat.old).seen wires.old
             → OnOk result (PutLetters (calls ++ asked command ∷ []) (view_of seat.new).seen wires.new) }
-        ensures made { OnOk result (MakesCalls (view_of seat.old) (asked command ∷ []) (view_of seat.new)) }
+        ensures made { OnOk result (MakesCalls (N.did self.now.runner.now post.now.name) (view_of seat.old) (asked command ∷ []) (view_of seat.new)) }
+        ensures stood { OnOk result (stood_by C.was_before C.was_answered self.now.checkpoint.now post.now.name place) }
         ensures fault { IfErr result (λ f. StopsCalling (bound_of post.now.gate) (view_of seat.new) f ⊎ StopsPutting wires.new f) }
     {
         self.checkpoint.before(&post.name, place);
@@ -70,7 +71,8 @@ impl<'a, R: Wait, W: Weigh, N: Runner, C: Checkpoint> Field<'a, R, W, N, C> {
         ensures of { IsOf kept_by failures_by sound_by post.now.gate seat.new }
         ensures later { OnOk result (AllZip IsLater wires.old wires.new) }
         ensures did { OnOk result (PutLetters (map asked commands.items) (view_of seat.new).seen wires.new) }
-        ensures made { OnOk result (MakesCalls (view_of seat.old) (map asked commands.items) (view_of seat.new)) }
+        ensures made { OnOk result (MakesCalls (N.did self.now.runner.now post.now.name) (view_of seat.old) (map asked commands.items) (view_of seat.new)) }
+        ensures stood { OnOk result (StoodByAll (stood_by C.was_before C.was_answered self.now.checkpoint.now post.now.name) (length commands.items)) }
         ensures fault { IfErr result (λ f. StopsCalling (bound_of post.now.gate) (view_of seat.new) f ⊎ StopsPutting wires.new f) }
     {
         let mut place: u64 = 0;

@@ -35,7 +35,7 @@ impl<'a, R: Wait, W: Weigh, N: Runner, C> Field<'a, R, W, N, C> {
         ensures of { IsOf kept_by failures_by sound_by post.now.gate seat.new }
         ensures delivered { (texts : List Bytes) → Sublist texts (deliveries (view_of seat.old).seen)
             → OnOk result (Sublist (texts ++ text.items ∷ []) (deliveries (view_of seat.new).seen)) }
-        ensures made { OnOk result (MakesCalls (view_of seat.old) (delivery text.items ∷ []) (view_of seat.new)) }
+        ensures made { OnOk result (MakesCalls (N.did self.now.runner.now post.now.name) (view_of seat.old) (delivery text.items ∷ []) (view_of seat.new)) }
         ensures fault { IfErr result (StopsCalling (bound_of post.now.gate) (view_of seat.new)) }
     {
         let act = Act::Event(Event::Deliver(MessageText::new(text)));
@@ -69,7 +69,7 @@ impl<'a, R: Wait, W: Weigh, N: Runner, C> Field<'a, R, W, N, C> {
         ensures link { SameOut exit.old exit.new }
         ensures ended { OnOk result (has_ended exit.new ≡ true) }
         ensures delivered { OnOk result (Sublist (taken_of exit.new) (deliveries (view_of seat.new).seen)) }
-        ensures made { OnOk result (MakesCalls (view_of seat.old) (map delivery (taken_of exit.new)) (view_of seat.new)) }
+        ensures made { OnOk result (MakesCalls (N.did self.now.runner.now post.now.name) (view_of seat.old) (map delivery (taken_of exit.new)) (view_of seat.new)) }
         ensures fault { IfErr result (λ f. StopsCalling (bound_of post.now.gate) (view_of seat.new) f ⊎ StopsTaking exit.new f) }
     {
         for _ in self.rt.forever() {

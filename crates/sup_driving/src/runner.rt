@@ -1,5 +1,7 @@
 //! What those who run a cluster are told while it runs.
-ghost use Rattle.std.specs.Prelude.{◌≡◌, true};
+ghost use Rattle.std.specs.Prelude.{◌≡◌, ℕ, Bool, true};
+ghost use Rattle.sup_specs.specs.Values.{Bytes};
+ghost use Rattle.sup_local_sup.specs.declared.effect.Effect.{Effect};
 
 use sup_local_sup::Effect;
 use sup_specs::NodeName;
@@ -8,32 +10,49 @@ use sup_specs::NodeName;
 /// that was stopped, a start of the boot before may be told after one of the new boot. Incarnations are in order, by boot and then by number,
 /// so who runs children leaves out a start that is older than what it has. That a node stops is not told: its children end with it.
 pub trait Runner {
+    /// What it was told of a node, by its name, and answered. A run's contract says for which nodes, effects and answers it holds, and only
+    /// [`act`](Runner::act) shows it: so the run did call it with just these. Who has nothing to say of an answer takes `Unit`.
+    ghost did: { Self → Bytes → Effect → Bool → Type 0 };
+
     /// Does it at this node. False where a start failed: the node is then told, by the thread that was told this, that the child's run
     /// has ended with the reason `failed`.
-    fn act(&self, node: &NodeName, effect: &Effect) -> bool;
+    fn act(&self, node: &NodeName, effect: &Effect) -> bool
+        ensures { did self.now node.now effect.now result };
 }
 
 /// Stands by each command of a driver.
 pub trait Checkpoint {
+    /// That it was told of a node, by its name, that its command at this place comes, as [`Runner::did`].
+    ghost was_before: { Self → Bytes → ℕ → Type 0 };
+
+    /// The same of the command's answer.
+    ghost was_answered: { Self → Bytes → ℕ → Type 0 };
+
     /// Before the node's command at this place, from 1.
-    fn before(&self, node: &NodeName, place: u64);
+    fn before(&self, node: &NodeName, place: u64)
+        ensures { was_before self.now node.now place };
 
     /// After that command was answered.
-    fn answered(&self, node: &NodeName, place: u64);
+    fn answered(&self, node: &NodeName, place: u64)
+        ensures { was_answered self.now node.now place };
 }
 
 /// Does nothing, and fails at nothing.
 pub struct Quiet;
 
 impl Runner for Quiet {
-    fn act(&self, _node: &NodeName, _effect: &Effect) -> bool
-        ensures { result ≡ true }
-    {
+    ghost did = { λ quiet node effect answer. answer ≡ true };
+
+    fn act(&self, _node: &NodeName, _effect: &Effect) -> bool {
         true
     }
 }
 
 impl Checkpoint for Quiet {
+    ghost was_before = { λ quiet node place. Unit {0} };
+
+    ghost was_answered = { λ quiet node place. Unit {0} };
+
     fn before(&self, _node: &NodeName, _place: u64) {}
 
     fn answered(&self, _node: &NodeName, _place: u64) {}

@@ -1,5 +1,6 @@
 //! What the threads do.
 ghost use Rattle.std.specs.Prelude.{IfOk};
+ghost use Rattle.sup_driving.specs.Called.{stood_by};
 ghost use Rattle.sup_driving.specs.Teams.{IsReadyToSteer, IsReadyToReceive, SteersNode, ReceivesLetters};
 
 use crate::field::Field;
@@ -33,7 +34,7 @@ impl<'a, R: Wait, W: Weigh, N: Runner, C: Checkpoint> Work<
 > for Field<'a, R, W, N, C> {
     ghost takes = { λ field steer. IsReadyToSteer field.posts.now steer };
 
-    ghost gives = { λ field steer result. IfOk result (SteersNode field.posts.now steer) };
+    ghost gives = { λ field steer result. IfOk result (SteersNode (N.did field.runner.now) (stood_by C.was_before C.was_answered field.checkpoint.now) field.posts.now steer) };
 
     fn run(&self, steer: Steer<W>) -> Result<Steered<W>, ThreadFault> {
         let Steer {
@@ -62,7 +63,7 @@ impl<'a, R: Wait, W: Weigh, N: Runner, C: Checkpoint> Work<
 > for Field<'a, R, W, N, C> {
     ghost takes = { λ field receive. IsReadyToReceive field.posts.now receive };
 
-    ghost gives = { λ field receive result. IfOk result (ReceivesLetters field.posts.now receive) };
+    ghost gives = { λ field receive result. IfOk result (ReceivesLetters (N.did field.runner.now) field.posts.now receive) };
 
     fn run(&self, receive: Receive<W>) -> Result<Received<W>, ThreadFault> {
         let Receive {

@@ -1,8 +1,9 @@
 -- What a driver may be given, and what it gives back.
-use Rattle.std.specs.Prelude.{◌≡◌, ℕ, false, List, [], map, All, slice_get, Some, Result, IfOk}
+use Rattle.std.specs.Prelude.{◌≡◌, ℕ, Bool, false, List, [], length, map, All, slice_get, Some, Result, IfOk}
 use Rattle.std.specs.List.{AllZip}
 use Rattle.sup_specs.specs.Values.{Bytes}
 use Rattle.sup_placement.specs.declared.weigh.Weigh.{Ghosts as WeighGhosts}
+use Rattle.sup_local_sup.specs.declared.effect.Effect.{Effect}
 use Rattle.sup_keeper.specs.contracts.mem_keeper.MemKeeperKeeper.TheImpl as InMemory
 use Rattle.sup_keeper.specs.Keeping.{Kept}
 use Rattle.sup_station.specs.OpenedStations.{kept_by}
@@ -14,7 +15,7 @@ use Rattle.sup_links.specs.Image.{image}
 use Rattle.sup_links.specs.Ends.{AreOneLink, script_of, put_of, is_closed, taken_of, has_ended}
 use Rattle.sup_plan.specs.Calls.{call_of, asked, letters_to, deliveries}
 use Rattle.sup_plan.specs.Sublists.{Sublist}
-use Rattle.sup_posts.specs.Rounds.{MakesCalls, delivery}
+use Rattle.sup_posts.specs.Rounds.{MakesCalls, StoodByAll, delivery}
 use Rattle.sup_posts.specs.declared.thread_fault.ThreadFault.{ThreadFault}
 use Rattle.sup_posts.specs.declared.shared_node.SharedNode.{SharedNode}
 use Rattle.sup_posts.specs.declared.jobs.Lane.{Lane}
@@ -44,9 +45,13 @@ module _ {W : Type 0} {h : WeighGhosts W} where
     pub seat : IsSeatAt posts drive.at drive.seat
     pub lanes : All (IsLane posts) drive.lanes.items
 
+  -- What the runner did and answered of the nodes, by their names, is an argument, `did`, and of which of their commands the checkpoint was told
+  -- another, `stood`: relations that only their own calls show.
+
   -- some list has in order the letters to the other node of the answers of these entries, and what the link makes of it stands in order among
-  -- the deliveries to that node; the pass there delivered just this, and made no other call but exits of children that didn't start at it
-  pub record CarriedLetters (posts : List (SharedNode W h)) (entries : List Entry) (lane : Lane W h) (arrived : Arrived W h) : Type 0 where
+  -- the deliveries to that node; the pass there delivered just this, and made no other call but exits of children that didn't start at it, as the
+  -- runner answered, which was told all that the answers have to be done
+  pub record CarriedLetters (did : Bytes → Effect → Bool → Type 0) (posts : List (SharedNode W h)) (entries : List Entry) (lane : Lane W h) (arrived : Arrived W h) : Type 0 where
     pub to : arrived.to ≡ lane.to
     pub post : SharedNode W h
     pub stands : slice_get posts lane.to ≡ Some post
@@ -54,18 +59,20 @@ module _ {W : Type 0} {h : WeighGhosts W} where
     pub put : List Bytes
     pub letters : Sublist (letters_to post.name entries) put
     pub delivered : Sublist (image (script_of lane.entry) put) (deliveries (view_of arrived.seat).seen)
-    pub made : MakesCalls (view_of lane.seat) (map delivery (image (script_of lane.entry) put)) (view_of arrived.seat)
+    pub made : MakesCalls (did post.name) (view_of lane.seat) (map delivery (image (script_of lane.entry) put)) (view_of arrived.seat)
 
   -- the commands stand in order, each once with its moment, in what the driver's pass has seen, and their letters were carried; the pass made no
-  -- other call but exits of children that didn't start at a command
-  pub record DrivesNode (posts : List (SharedNode W h)) (drive : Drive W h) (driven : Driven W h) : Type 0 where
+  -- other call but exits of children that didn't start at a command, as the runner answered, which was told all that the answers have to be done; the
+  -- checkpoint was told of each command
+  pub record DrivesNode (did : Bytes → Effect → Bool → Type 0) (stood : Bytes → ℕ → Type 0) (posts : List (SharedNode W h)) (drive : Drive W h) (driven : Driven W h) : Type 0 where
     pub seat : IsSeatAt posts drive.at driven.seat
     pub entries : List Entry
     pub calls : map call_of entries ≡ map asked drive.commands.items
     pub seen : Sublist entries (view_of driven.seat).seen
-    pub made : MakesCalls (view_of drive.seat) (map asked drive.commands.items) (view_of driven.seat)
-    pub carried : AllZip (CarriedLetters posts entries) drive.lanes.items driven.arrived.items
+    pub made : MakesCalls (did seat.0.name) (view_of drive.seat) (map asked drive.commands.items) (view_of driven.seat)
+    pub stood_by : StoodByAll (stood seat.0.name) (length drive.commands.items)
+    pub carried : AllZip (CarriedLetters did posts entries) drive.lanes.items driven.arrived.items
 
   -- what a driver gives back
-  abbrev pub GivesDriven : List (SharedNode W h) → Drive W h → Result (Driven W h) ThreadFault → Type 0
-  GivesDriven posts drive result = IfOk result (DrivesNode posts drive)
+  abbrev pub GivesDriven : (Bytes → Effect → Bool → Type 0) → (Bytes → ℕ → Type 0) → List (SharedNode W h) → Drive W h → Result (Driven W h) ThreadFault → Type 0
+  GivesDriven did stood posts drive result = IfOk result (DrivesNode did stood posts drive)

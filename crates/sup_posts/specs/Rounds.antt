@@ -1,9 +1,10 @@
--- Which calls of its gate a thread of a run makes (the rule of starts that fail): what it has to do, and behind each of these the exits of children that
--- didn't start at its answer.
-use Rattle.std.specs.Prelude.{◌≡◌, ℕ, List, [], ◌∷◌, ◌++◌, map, flat_map, Ok, Err}
-use Rattle.std.specs.List.{AllZip}
+-- Which calls of its gate a thread of a run makes, and what it tells the runner (the rule of starts that fail): what it has to do, and behind each of
+-- these the exits of children of which the runner answered that they didn't start.
+use Rattle.std.specs.Prelude.{◌≡◌, ◌<◌, ℕ, suc, Bool, true, false, List, [], ◌∷◌, ◌++◌, map, flat_map, Ok, Err}
+use Rattle.std.specs.List.{AllZip, AllByRecursion}
 use mathlib.Core.Option.{some}
 use Rattle.sup_specs.specs.Values.{Bytes}
+use Rattle.sup_specs.specs.declared.child.ChildSpec.{ChildSpec}
 use Rattle.sup_specs.specs.declared.child.ExitReason.TheVariants.{Failed}
 use Rattle.sup_local_sup.specs.declared.effect.Effect.{Effect}
 use Rattle.sup_local_sup.specs.declared.effect.Effect.TheVariants.{Stop, Start}
@@ -21,14 +22,6 @@ use Rattle.sup_plan.specs.Calls.{Call, call_of}
 abbrev pub ChildIncarnation : Type 0
 ChildIncarnation = Bytes × Incarnation
 
-abbrev pub run_of : Effect → List ChildIncarnation
-run_of (Stop id inc) = []
-run_of (Start id inc spec) = (id, inc) ∷ []
-
--- the runs that effects begin, in their order
-abbrev pub runs_of : List Effect → List ChildIncarnation
-runs_of = flat_map run_of
-
 abbrev pub effects_of : StationAnswer → List Effect
 effects_of (Ok done) = done.effects
 effects_of (Err r) = []
@@ -37,25 +30,47 @@ effects_of (Err r) = []
 abbrev pub failed : ChildIncarnation → Act
 failed run = Of (Exit run.0 run.1 Failed)
 
--- each entry is the exit, at this moment, of a run that didn't start: the first of one of these runs, and the others of those behind it and
--- of those that its answer begins
-abbrev pub FailedStarts : ℕ → List ChildIncarnation → List Entry → Type 0
-FailedStarts now runs [] = Unit {0}
-FailedStarts now runs (e ∷ es) = (run : ChildIncarnation) × (before behind : List ChildIncarnation) × (runs ≡ before ++ run ∷ behind) × (call_of e ≡ (failed run, now))
-    × FailedStarts now (behind ++ runs_of (effects_of e.answer)) es
+-- What a node's runner did and answered is an argument, `did`: a relation of effects and answers that only its own call shows.
 
--- a call, and behind it exits of runs that didn't start at its answer, at the call's moment
-abbrev pub IsRound : Call → List Entry → Type 0
-IsRound call [] = ⊥
-IsRound call (e ∷ exits) = (call_of e ≡ call) × FailedStarts call.1 (runs_of (effects_of e.answer)) exits
+-- the runner was told this effect, and didn't answer that a start failed
+abbrev pub IsDone : (Effect → Bool → Type 0) → Effect → Type 0
+IsDone did (Stop id inc) = (answer : Bool) × did (Stop id inc) answer
+IsDone did (Start id inc spec) = did (Start id inc spec) true
+
+-- of these effects the runner did all before a start that it answered to have failed, of which the entry is the exit, at this moment; these lie
+-- behind it
+pub record IsFailedStart (did : Effect → Bool → Type 0) (now : ℕ) (effects : List Effect) (exit : Entry) (behind : List Effect) : Type 0 where
+  pub before : List Effect
+  pub id : Bytes
+  pub inc : Incarnation
+  pub spec : ChildSpec
+  pub effects_are : effects ≡ before ++ Start id inc spec ∷ behind
+  pub done : AllByRecursion (IsDone did) before
+  pub answered : did (Start id inc spec) false
+  pub call : call_of exit ≡ (failed (id, inc), now)
+
+-- the runner was told all these effects, and those of the entries' answers, which come last; the entries are the exits, at this moment, of just
+-- those runs whose start it answered to have failed, in their order
+abbrev pub TellsRunner : (Effect → Bool → Type 0) → ℕ → List Effect → List Entry → Type 0
+TellsRunner did now effects [] = AllByRecursion (IsDone did) effects
+TellsRunner did now effects (e ∷ es) = (behind : List Effect) × IsFailedStart did now effects e behind × TellsRunner did now (behind ++ effects_of e.answer) es
+
+-- a call, and behind it the exits of runs that didn't start then, at the call's moment; the runner was told the effects of all their answers
+abbrev pub IsRound : (Effect → Bool → Type 0) → Call → List Entry → Type 0
+IsRound did call [] = ⊥
+IsRound did call (e ∷ exits) = (call_of e ≡ call) × TellsRunner did call.1 (effects_of e.answer) exits
 
 -- the pass's own calls since are these, in their order, each once and with such exits behind it; what it has of the gate stays
-pub record MakesCalls (v : View) (calls : List Call) (v' : View) : Type 0 where
+pub record MakesCalls (did : Effect → Bool → Type 0) (v : View) (calls : List Call) (v' : View) : Type 0 where
   pub rounds : List (List Entry)
-  pub are : AllZip IsRound calls rounds
+  pub are : AllZip (IsRound did) calls rounds
   pub own : calls_of v' ≡ calls_of v ++ flat_map (map some) rounds
   pub shares : v'.shares ≡ v.shares
 
 -- the delivery of a text. All are made at one moment
 abbrev pub delivery : Bytes → Call
 delivery text = (Of (Deliver text), 0)
+
+-- who stands by was told of the commands at all these places, from 1
+abbrev pub StoodByAll : (ℕ → Type 0) → ℕ → Type 0
+StoodByAll stood n = (place : ℕ) → place < n → stood (suc place)

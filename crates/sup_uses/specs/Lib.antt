@@ -1,2 +1,3 @@
+pub mod Acts
 pub mod Letters
 pub mod SharedGates

@@ -1,6 +1,8 @@
 //! One station behind a keeper of the caller's.
-ghost use Rattle.std.specs.Prelude.{◌≢◌, Err};
+ghost use Rattle.std.specs.Prelude.{◌≢◌, Err, IfOk};
 ghost use Rattle.sup_replica.specs.declared.refusal.Refusal.TheVariants.{KeepFailed};
+ghost use Rattle.sup_station.specs.KeptStations.{kept_station_of};
+ghost use Rattle.sup_uses.specs.Acts.{HasMade, last_of};
 
 use std::alloc::Global;
 use std::mem;
@@ -58,7 +60,8 @@ pub fn keep<W: Weigh>(
     acts: &[Act],
     weigher: &W,
 ) -> Result<Station<TwoImages, W>, Refusal>
-    ensures { result ≢ Err KeepFailed }
+    ensures made { IfOk result (λ s. HasMade W.weight_of name acts.now (kept_station_of last_of s)) }
+    ensures kept { result ≢ Err KeepFailed }
 {
     let keeper = TwoImages {
         last: Vec::new(alloc),

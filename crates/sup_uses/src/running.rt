@@ -1,5 +1,5 @@
 //! A run of a plan with a runner of the caller's.
-ghost use Rattle.std.specs.Prelude.{IfOk};
+ghost use Rattle.std.specs.Prelude.{◌≡◌, true, IfOk};
 ghost use Rattle.sup_placement.specs.Weights.{flat_weight};
 ghost use Rattle.sup_cluster.specs.Runs.{IsRunOf};
 
@@ -21,6 +21,8 @@ pub struct Starts {
 }
 
 impl Runner for Starts {
+    ghost did = { λ starts node effect answer. answer ≡ true };
+
     fn act(&self, _node: &NodeName, effect: &Effect) -> bool {
         if matches!(effect, Effect::Start { .. }) {
             self.count.fetch_add(1, Ordering::SeqCst);
@@ -39,7 +41,7 @@ pub fn run_counted<R: Threads + Wait + Sync>(
     alloc: Global,
     plan: &Plan,
 ) -> Result<(Histories, u64), RunFault>
-    ensures { IfOk result (λ r. IsRunOf flat_weight plan.now r.0) }
+    ensures { IfOk result (λ r. IsRunOf flat_weight (λ node effect answer. answer ≡ true) plan.now r.0) }
 {
     let runner = Starts {
         count: AtomicU64::new(0),

@@ -2,8 +2,7 @@ use Rattle.sup_station.specs.OpenedStations.{kept_by}
 use Rattle.sup_node_gate.specs.Gates.{IsOf, view_of}
 use Rattle.sup_node_gate.specs.InMemory.{failures_by, sound_by}
 use Rattle.sup_node_gate.specs.declared.view.View.{View}
-use Rattle.sup_posts.specs.Rounds.{runs_of}
-use Rattle.sup_driving.specs.Called.{SeesMore, TellsFailedStarts, runs_in}
+use Rattle.sup_driving.specs.Called.{SeesMore, TellsEffects, effects_in}
 use Rattle.sup_driving.proofs.field.Field.act_all.Given as goal
 
 abbrev pub invariant-loop : goal.invariant-loop
@@ -11,4 +10,4 @@ invariant-loop g l =
     (goal.iterator-loop g).can_next l.iterator' × (goal.iterator-loop g).is_finite l.iterator'
     × IsOf kept_by failures_by sound_by l.post.gate l.seat
     × SeesMore (view_of l.fn.seat) (view_of l.seat)
-    × ((u : View) → TellsFailedStarts l.now (runs_in l.waiting.items) (view_of l.seat) u → TellsFailedStarts l.now (runs_of l.fn.effects) (view_of l.fn.seat) u)
+    × ((u : View) → TellsEffects (g.N.Runner.did l.self.runner.now l.post.name) l.now (effects_in l.waiting.items) (view_of l.seat) u → TellsEffects (g.N.Runner.did l.self.runner.now l.post.name) l.now l.fn.effects (view_of l.fn.seat) u)

@@ -14,6 +14,6 @@ returns-clause-delivered g c = λ texts h. IfOk-weaker c.act_all.result _ _
 
 pub returns-clause-made : goal.returns-clause-made
 returns-clause-made g c = IfOk-weaker c.act_all.result _ _
-    (λ u told. subst (λ l. MakesCalls (view_of c.args.seat.now) (delivery l ∷ []) (view_of c.act_all.new.seat)) c.new.ensures
-    (makes_one (view_of c.args.seat.now) (view_of c.call.new.seat) (view_of c.act_all.new.seat) _ 0 c.in_ok-effects.field-0.effects c.in_ok-effects.field-0.letter c.in_ok-effects.ensures.called told))
+    (λ u told. subst (λ l. MakesCalls (g.N.Runner.did c.args.self.now.runner.now c.args.post.now.name) (view_of c.args.seat.now) (delivery l ∷ []) (view_of c.act_all.new.seat)) c.new.ensures
+    (makes_one (g.N.Runner.did c.args.self.now.runner.now c.args.post.now.name) (view_of c.args.seat.now) (view_of c.call.new.seat) (view_of c.act_all.new.seat) _ 0 c.in_ok-effects.field-0.effects c.in_ok-effects.field-0.letter c.in_ok-effects.ensures.called told))
     c.act_all.ensures.told

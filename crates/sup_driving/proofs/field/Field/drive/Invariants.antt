@@ -1,10 +1,11 @@
-use Rattle.std.proofs.Common.{◌≡◌, ◌++◌, map}
+use Rattle.std.proofs.Common.{◌≡◌, ◌++◌, length, map}
 use Rattle.std.specs.List.{AllZip}
 use Rattle.sup_station.specs.OpenedStations.{kept_by}
 use Rattle.sup_node_gate.specs.Gates.{IsOf, view_of}
 use Rattle.sup_node_gate.specs.InMemory.{failures_by, sound_by}
 use Rattle.sup_plan.specs.Calls.{asked}
-use Rattle.sup_posts.specs.Rounds.{MakesCalls}
+use Rattle.sup_posts.specs.Rounds.{MakesCalls, StoodByAll}
+use Rattle.sup_driving.specs.Called.{stood_by}
 use Rattle.sup_driving.specs.Wires.{PutLetters, IsLater}
 use Rattle.sup_driving.proofs.field.Field.drive.Given as goal
 
@@ -14,4 +15,6 @@ invariant-loop-command g l =
     × IsOf kept_by failures_by sound_by l.post.gate l.seat
     × AllZip IsLater l.fn.wires l.wires
     × PutLetters (map asked l.yielded) (view_of l.seat).seen l.wires
-    × MakesCalls (view_of l.fn.seat) (map asked l.yielded) (view_of l.seat)
+    × MakesCalls (g.N.Runner.did l.self.runner.now l.post.name) (view_of l.fn.seat) (map asked l.yielded) (view_of l.seat)
+    × (l.place ≡ length l.yielded)
+    × StoodByAll (stood_by g.C.Checkpoint.was_before g.C.Checkpoint.was_answered l.self.checkpoint.now l.post.name) (length l.yielded)

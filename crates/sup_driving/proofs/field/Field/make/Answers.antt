@@ -18,6 +18,6 @@ returns-clause-did g c = λ cs d. IfOk-weaker c.act_all.result _ _
 
 pub returns-clause-made : goal.returns-clause-made
 returns-clause-made g c = IfOk-weaker c.act_all.result _ _
-    (λ u told. makes_one (view_of c.args.seat.now) (view_of c.call.new.seat) (view_of c.act_all.new.seat) c.args.command.act c.args.command.now
+    (λ u told. makes_one (g.N.Runner.did c.args.self.now.runner.now c.args.post.now.name) (view_of c.args.seat.now) (view_of c.call.new.seat) (view_of c.act_all.new.seat) c.args.command.act c.args.command.now
     c.in_ok-effects.field-0.effects c.in_ok-effects.field-0.letter c.in_ok-effects.ensures.called told)
     c.act_all.ensures.told

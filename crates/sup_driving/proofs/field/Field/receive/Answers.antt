@@ -18,6 +18,6 @@ loop-preserved g c =
       c.deliver.ensures.of,
       c.take.ensures.link ∙ c.loop.invariant.3,
       subst (λ l. Sublist l (deliveries (view_of c.deliver.new.seat).seen)) (sym more) (c.in-Ok-deliver.ensures.delivered were c.loop.invariant.4),
-      subst (λ l. MakesCalls (view_of c.args.seat.now) l (view_of c.deliver.new.seat)) (sym (ap (map delivery) more ∙ map-append delivery were (text ∷ [])))
-          (makes_then (view_of c.args.seat.now) (view_of c.loop.seat) (view_of c.deliver.new.seat) (map delivery were) (delivery text ∷ []) c.loop.invariant.5 c.in-Ok-deliver.ensures.made),
+      subst (λ l. MakesCalls (g.N.Runner.did c.args.self.now.runner.now c.args.post.now.name) (view_of c.args.seat.now) l (view_of c.deliver.new.seat)) (sym (ap (map delivery) more ∙ map-append delivery were (text ∷ [])))
+          (makes_then (g.N.Runner.did c.args.self.now.runner.now c.args.post.now.name) (view_of c.args.seat.now) (view_of c.loop.seat) (view_of c.deliver.new.seat) (map delivery were) (delivery text ∷ []) c.loop.invariant.5 c.in-Ok-deliver.ensures.made),
     )

@@ -14,4 +14,4 @@ invariant-loop g l =
     × IsOf kept_by failures_by sound_by l.post.gate l.seat
     × SameOut l.fn.exit l.exit
     × Sublist (taken_of l.exit) (deliveries (view_of l.seat).seen)
-    × MakesCalls (view_of l.fn.seat) (map delivery (taken_of l.exit)) (view_of l.seat)
+    × MakesCalls (g.N.Runner.did l.self.runner.now l.post.name) (view_of l.fn.seat) (map delivery (taken_of l.exit)) (view_of l.seat)

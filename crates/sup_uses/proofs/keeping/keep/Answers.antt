@@ -1,0 +1,22 @@
+use Rattle.std.proofs.Common.{rules, ◌≡◌, ◌+◌, ◌++◌, [], ◌∷◌, take, ap, sym, ◌∙◌, subst}
+use Rattle.std.proofs.lemmas.List.{take_more}
+use Rattle.sup_station.specs.KeptStations.{AnswersAct, kept_station_of}
+use Rattle.sup_uses.specs.Acts.{MakesActs, last_of}
+use Rattle.sup_uses.proofs.ActLaws.{makes_more}
+use Rattle.sup_uses.proofs.keeping.keep.Goals as goal
+
+pub loop-act-preserved : goal.loop-act-preserved
+loop-act-preserved g c =
+    let l = c.loop-act in
+    let w = g.W.Weigh.weight_of in
+    let after = kept_station_of last_of c.step.new.self in
+    let acts = c.args.acts.now in
+    let here : c.in_ok-act.act ≡ c.act-item.result = search rules in
+    let next : take (l.act-index + 1) acts ≡ take l.act-index acts ++ c.in_ok-act.act ∷ []
+    = take_more acts l.act-index c.act-item.result c.loop-act-test.true ∙ (ap (λ a. take l.act-index acts ++ a ∷ []) (sym c.act-item.is) ∙ ap (λ a. take l.act-index acts ++ a ∷ []) (sym here)) in
+    let answers = subst (λ r. AnswersAct w (kept_station_of last_of l.station) c.in_ok-act.act 0 r after) c.in-Ok-step.is c.step.ensures.goes in record {
+      opening = l.invariant.opening;
+      opens = l.invariant.opens;
+      made = subst (λ xs. MakesActs w l.invariant.opening xs after) (sym next)
+          (makes_more w l.invariant.opening (take l.act-index acts) (kept_station_of last_of l.station) c.in_ok-act.act c.in-Ok-step.field-0 after l.invariant.made answers);
+    }
