@@ -1,5 +1,5 @@
 -- How a node's run ends.
-use Rattle.std.specs.Prelude.{◌≡◌, ◌⊎◌, ℕ, Bool, List, [], ◌++◌, codes, Option, Result, Ok, Err}
+use Rattle.std.specs.Prelude.{◌≡◌, ◌⊎◌, ℕ, Bool, true, false, List, [], ◌++◌, codes, Option, Some, None, Result, Ok, Err}
 use Rattle.sup_specs.specs.Values.{Bytes}
 use Rattle.sup_placement.specs.Place.{Weigher}
 use Rattle.sup_jobs.specs.Faults.{image_fault_name, fault_text}
@@ -9,6 +9,7 @@ use Rattle.sup_jobs.specs.Tells.{Tells}
 use Rattle.sup_replica.specs.Configs.{Config}
 use Rattle.sup_replica.specs.declared.refusal.Refusal.{Refusal}
 use Rattle.sup_replica.specs.declared.refusal.Refusal.TheVariants.{CountSpent, OutOfMemory as NoRoom}
+use Rattle.sup_disk.specs.Crashes.{What}
 use Rattle.sup_talk.specs.Hosts.{Seen}
 use Rattle.sup_talk.specs.declared.talking.TalkEnd.{TalkEnd}
 use Rattle.sup_talk.specs.declared.talking.TalkEnd.TheVariants.{Ended as HeardOut, Over, Spent}
@@ -64,3 +65,8 @@ abbrev pub RunsTo : Weigher → ℕ → Bool → Bytes → Config → Bytes → 
 RunsTo weigher most is_new name config kept before after errors_before errors_written ended =
     ((fault : BeginFault) × IsNoBegin weigher name config kept fault × (after ≡ before) × IsToldAs (fault_told fault) errors_before errors_written ended)
     ⊎ ((end : Result TalkEnd TalkFault) × ServedUntil weigher most is_new name config kept before after end × IsToldAs (end_told end) errors_before errors_written ended)
+
+-- there is no file yet
+abbrev pub is_unfiled : What → Bool
+is_unfiled None = true
+is_unfiled (Some bytes) = false

@@ -5,6 +5,6 @@ pub mod node;
 pub mod program;
 pub mod settings;
 
-pub use node::run_node;
+pub use node::{run_filed, run_node};
 pub use program::run;
 pub use settings::{Settings, read_settings};

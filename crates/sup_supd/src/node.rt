@@ -3,14 +3,15 @@
 ghost use Rattle.std.specs.Prelude.{◌≡◌};
 ghost use Rattle.sup_command_line.specs.Weighings.{weight_of};
 ghost use Rattle.sup_jobs.specs.Tells.{Tells};
-ghost use Rattle.sup_supd.specs.Ends.{IsToldAs, RunsTo, end_told, fault_told, refusal_told};
+ghost use Rattle.sup_disk.specs.Copies.{kept_of};
+ghost use Rattle.sup_supd.specs.Ends.{IsToldAs, RunsTo, end_told, fault_told, is_unfiled, refusal_told};
 
 use std::alloc::Global;
 use std::io::Write;
 use sup_answering::begin::begin;
 use sup_answering::{BeginFault, Begun, serve};
 use sup_command_line::Weighing;
-use sup_disk::ImageKeeper;
+use sup_disk::{Disk, DiskKeeper, ImageKeeper};
 use sup_jobs::{Ended, Fault, finish, put_all};
 use sup_placement::{FlatWeigh, Sha256Weigh, Weigh};
 use sup_replica::{Config, Refusal};
@@ -46,6 +47,23 @@ pub fn run_node<K: ImageKeeper, H: Host, E: Write>(
         ),
         Weighing::Flat => run_by(alloc, name, config, FlatWeigh, keeper, is_new, host, errors),
     }
+}
+
+/// The same with what a keeper over a disk keeps: the node is new where there is no file yet, and only there.
+pub fn run_filed<D: Disk, H: Host, E: Write>(
+    alloc: Global,
+    name: NodeName,
+    config: Config,
+    weighing: Weighing,
+    keeper: DiskKeeper<D>,
+    host: &mut H,
+    errors: &mut E,
+) -> Ended
+    ensures { RunsTo (weight_of weighing) LINE_LIMIT (is_unfiled keeper.copy) name config (kept_of keeper.copy) (H.seen host.old) (H.seen host.new)
+        (E.contents errors.old) (E.contents errors.new) result }
+{
+    let is_new = keeper.is_new();
+    run_node(alloc, name, config, weighing, keeper, is_new, host, errors)
 }
 
 fn run_by<K: ImageKeeper, W: Weigh + Drop, H: Host, E: Write>(

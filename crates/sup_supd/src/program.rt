@@ -1,6 +1,6 @@
 //! The program's run over the system's streams and file system, of which contracts say nothing.
 
-use crate::node::run_node;
+use crate::node::run_filed;
 use crate::settings::{Settings, read_settings};
 use std::alloc::Global;
 use std::env;
@@ -83,18 +83,16 @@ fn serve_image(rt: &HostRuntime, settings: Settings<'_>) -> Result<u8, Unserved>
         Err(LockFault::OutOfMemory) => return Err(Unserved::OutOfMemory),
     };
     let keeper = keeper_at(alloc, rt, settings.image)?;
-    let is_new = keeper.is_new();
     let Ok(reader) = BufReader::new(alloc, rt.stdin()) else {
         return Err(Unserved::OutOfMemory);
     };
     let mut host = Streams::new(reader, rt.stdout());
-    let ended = run_node(
+    let ended = run_filed(
         alloc,
         settings.name,
         settings.config,
         settings.weighing,
         keeper,
-        is_new,
         &mut host,
         &mut rt.stderr(),
     );

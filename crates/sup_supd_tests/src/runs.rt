@@ -7,7 +7,7 @@ use sup_disk::{Disk, DiskKeeper, MemDisk, Next};
 use sup_jobs::Ended;
 use sup_replica::Config;
 use sup_specs::NodeName;
-use sup_supd::run_node;
+use sup_supd::run_filed;
 use sup_talk::Streams;
 
 // A node `a` over a disk with this file, whose saves go so: expects what it tells, its status and
@@ -48,18 +48,16 @@ fn expect_on<D: Disk>(
 ) {
     let alloc = rt.alloc();
     let keeper = DiskKeeper::open(alloc, disk).expect(rt, "it opens");
-    let is_new = keeper.is_new();
     let name = NodeName::parse("a").expect(rt, "a name");
     let config = Config::new(1, 5, 64).expect(rt, "settings");
     let mut host = Streams::new(lines, Vec::new(alloc));
     let mut told = Vec::new(alloc);
-    let ended = run_node(
+    let ended = run_filed(
         alloc,
         name,
         config,
         Weighing::Flat,
         keeper,
-        is_new,
         &mut host,
         &mut told,
     );
