@@ -36,14 +36,14 @@ use Rattle.sup_posts.specs.declared.jobs.Lane.{Lane}
 use Rattle.sup_posts.specs.declared.jobs.Drive.{Drive}
 use Rattle.sup_posts.specs.declared.jobs.Driven.{Driven}
 use Rattle.sup_posts.specs.declared.jobs.Arrived.{Arrived}
-use Rattle.sup_cluster.specs.Runs.{HasRun, ReachesReceiver, RanCommands, CameFrom, IsMadeOfRounds, IsRunOf, HasStoodBy, in_a_row}
+use Rattle.sup_cluster.specs.Runs.{HasRun, RanCommands, CameFrom, IsMadeOfRounds, IsRunOf, HasStoodBy, carried, in_a_row}
 use Rattle.sup_posts.proofs.ItemLaws.{zip_append}
 use Rattle.sup_run_ends.specs.Passes.{of_arrived, passes_to, shares_of, calls_by, dealt_by, IsFresh, HaveWhole, AreMadeBy}
 use Rattle.sup_run_ends.specs.Steps.{BeginsWithSeen, IsSharedNodeOf, IsLaneTo, IsDriveOf, IsHistoryOf, EndsHistory, AreFinished, LeadsToItsNode, others_of, places}
 use Rattle.sup_run_ends.proofs.DealtPassLaws.{places_at}
 use Rattle.sup_run_ends.proofs.ZipLaws.{zip_left, zip_right, zip_map, zip_weaken, zip_equal, zip_by_place, zip_same_length, map_same}
 use Rattle.sup_run_ends.proofs.RunEndItemLaws.{all_at, contained, place_of, stands_in, same_place, flat_contains, get_left, get_right, get_next, get_map, split_place}
-use Rattle.sup_cluster.proofs.HistorySublistLaws.{in_history, in_deliveries}
+use Rattle.sup_cluster.proofs.HistorySublistLaws.{in_deliveries}
 use Rattle.sup_cluster.proofs.PassPlaceLaws.{one_other, not_itself, none_comes, one_comes, passes_both, same_shares}
 use Rattle.sup_cluster.proofs.ShuffleImageLaws.{shuffle_of_images, row_image, some_injective}
 
@@ -74,22 +74,17 @@ module _ {W : Type 0} {h : WeighGhosts W} (did : Bytes → Effect → Bool → T
       all_at (HasStoodBy stood plan) all (stood_at g plan posts drives f.driven all ds given f.histories)
 
   -- what a lane carried, said of the two histories
-  reached : (plan : Plan) (posts : List (SharedNode W h)) (all : List History) (entries : List Entry) (from to : History) (post other : SharedNode W h) (at : ℕ)
+  reached : (plan : Plan) (posts : List (SharedNode W h)) (all : List History) (front : List Entry) (from to : History) (post other : SharedNode W h) (at : ℕ)
       (lane : Lane W h) (a : Arrived W h)
       → from.node ≡ post.name → to.node ≡ other.name → slice_get posts at ≡ Some other → slice_get all at ≡ Some to
-      → IsLaneTo plan.scripts.items post.name at other lane → CarriedLetters did posts entries lane a → EndsHistory all a → ReachesReceiver plan entries from to
-  reached plan posts all entries from to post other at lane a named met stands ends l c e =
+      → IsLaneTo plan.scripts.items post.name at other lane → CarriedLetters did posts front lane a → EndsHistory all a → Sublist (carried plan front from to) (deliveries to.entries.items)
+  reached plan posts all front from to post other at lane a named met stands ends l c e =
       let same : c.post ≡ other = same_place posts lane.to at c.post other c.stands stands l.to in
       let here : e.history ≡ to = same_place all a.to at e.history to e.stands ends (c.to ∙ l.to) in
       let script : script_of lane.entry ≡ script_between from.node to.node plan.scripts.items
       = l.script ∙ ap (λ n. script_between n other.name plan.scripts.items) (sym named) ∙ ap (λ n. script_between from.node n plan.scripts.items) (sym met) in
-      record {
-        put = c.put;
-        letters = subst (λ n. Sublist (letters_to n entries) c.put) (ap (λ (p : SharedNode W h). p.name) same ∙ sym met) c.letters;
-        delivered =
-            subst (λ (s : List Verdict). Sublist (image s c.put) (deliveries to.entries.items)) script
-            (in_deliveries (image (script_of lane.entry) c.put) (view_of a.seat).seen to.entries.items (subst (λ (k : History). BeginsWithSeen a.seat k) here e.begins) c.delivered);
-      }
+      subst (λ (l : List Bytes). Sublist l (deliveries to.entries.items)) (λ i. image (script i) (letters_to ((ap (λ (p : SharedNode W h). p.name) same ∙ sym met) i) front))
+      (in_deliveries (image (script_of lane.entry) (letters_to c.post.name front)) (view_of a.seat).seen to.entries.items (subst (λ (k : History). BeginsWithSeen a.seat k) here e.begins) c.delivered)
 
   drove_at : (g : Weigher) (plan : Plan) (posts : List (SharedNode W h)) (drives : List (Drive W h)) (driven : List (Driven W h)) (all : List History)
       → AllZip (IsDriveOf plan posts) posts drives → AllZip (DrivesNode did stood posts) drives driven
@@ -102,18 +97,22 @@ module _ {W : Type 0} {h : WeighGhosts W} (did : Bytes → Effect → Bool → T
       let o = zip_left (λ (d : Driven W h) (k : History). BeginsWithSeen d.seat k) driven all i r.0 own r.1 in
       let begins : BeginsWithSeen r.0.seat x = subst (λ (k : History). BeginsWithSeen r.0.seat k) (same_place all i i o.0 x o.1 e refl) o.2 in
       record {
-        entries = r.2.entries;
-        calls = r.2.calls ∙ ap (map asked) d.2.commands ∙ ap (λ n. map asked (commands_of n plan.commands.items)) (sym p.2.named);
-        stand = in_history r.2.entries (view_of r.0.seat).seen x.entries.items begins r.2.seen;
+        front = (view_of r.0.seat).seen;
+        driven = record {
+          begins = begins;
+          entries = r.2.entries;
+          calls = r.2.calls ∙ ap (map asked) d.2.commands ∙ ap (λ n. map asked (commands_of n plan.commands.items)) (sym p.2.named);
+          stand = r.2.seen;
+        };
         reach = λ k c ne.
             let at = place_of all k c in
             let q = zip_right (IsHistoryOf g) posts all at.0 k hs at.1 in
             let apart : at.0 ≢ d.0.at = (λ same. ne (q.2.named ∙ ap (λ (y : SharedNode W h). y.name) (same_place posts at.0 d.0.at q.0 p.0 q.1 d.2.place same) ∙ sym p.2.named)) in
             let lane = d.2.reach at.0 q.0 q.1 apart in
             let stands = place_of d.0.lanes.items lane.0 lane.1 in
-            let a = zip_left (CarriedLetters did posts r.2.entries) d.0.lanes.items r.0.arrived.items stands.0 lane.0 r.2.carried stands.1 in
+            let a = zip_left (CarriedLetters did posts (view_of r.0.seat).seen) d.0.lanes.items r.0.arrived.items stands.0 lane.0 r.2.carried stands.1 in
             let in_all = flat_contains (λ (y : Driven W h). y.arrived.items) driven i r.0 a.0 r.1 (stands_in r.0.arrived.items stands.0 a.0 a.1) in
-            reached plan posts all r.2.entries x k p.0 q.0 at.0 lane.0 a.0 p.2.named q.2.named q.1 at.1 lane.2 a.2 (contained (EndsHistory all) (passes_of driven) a.0 others in_all);
+            reached plan posts all (view_of r.0.seat).seen x k p.0 q.0 at.0 lane.0 a.0 p.2.named q.2.named q.1 at.1 lane.2 a.2 (contained (EndsHistory all) (passes_of driven) a.0 others in_all);
       }
 
   -- the script of a driver's link
@@ -145,7 +144,7 @@ module _ {W : Type 0} {h : WeighGhosts W} (did : Bytes → Effect → Bool → T
         let is : IsDriveOf plan posts p.0 d.0 = subst (λ (x : SharedNode W h). IsDriveOf plan posts x d.0) (same_place posts i i pd.0 p.0 pd.1 p.1 refl) pd.2 in
         let here = drive_place i d.0 d.1 in
         let low : j < length posts = slice_get_within posts j q.0 q.1 in
-        let one = one_comes did posts d.2.entries j d.0.lanes.items r.arrived.items d.2.carried
+        let one = one_comes did posts (view_of r.seat).seen j d.0.lanes.items r.arrived.items d.2.carried
         (ap (filter (λ k. k == j)) is.only ∙ one_other d.0.at j (length posts) low (λ e. apart (sym (e ∙ here)))) in
         let c = one.carried in
         let same : c.post ≡ q.0 = same_place posts one.lane.to j c.post q.0 c.stands q.1 one.to in
@@ -156,13 +155,15 @@ module _ {W : Type 0} {h : WeighGhosts W} (did : Bytes → Effect → Bool → T
         let begins : BeginsWithSeen r.seat from = subst (λ (k : History). BeginsWithSeen r.seat k) (same_place all i i o.0 from o.1 at_from refl) o.2 in (
           c.made.rounds,
           record {
-            entries = d.2.entries;
-            calls = d.2.calls ∙ ap (map asked) is.commands ∙ ap (λ n. map asked (commands_of n plan.commands.items)) (sym p.2.named);
-            stand = in_history d.2.entries (view_of r.seat).seen from.entries.items begins d.2.seen;
-            put = c.put;
-            letters = subst (λ n. Sublist (letters_to n d.2.entries) c.put) (ap (λ (x : SharedNode W h). x.name) same ∙ sym q.2.named) c.letters;
-            delivered = subst (λ (l : List Verdict). AllZip (IsRound (did to.node)) (map delivery (image l c.put)) c.made.rounds) script
-                (subst (λ n. AllZip (IsRound (did n)) (map delivery (image (script_of one.lane.entry) c.put)) c.made.rounds) (ap (λ (x : SharedNode W h). x.name) same ∙ sym q.2.named) c.made.are);
+            front = (view_of r.seat).seen;
+            driven = record {
+              begins = begins;
+              entries = d.2.entries;
+              calls = d.2.calls ∙ ap (map asked) is.commands ∙ ap (λ n. map asked (commands_of n plan.commands.items)) (sym p.2.named);
+              stand = d.2.seen;
+            };
+            delivered = subst (λ (l : List Verdict). AllZip (IsRound (did to.node)) (map delivery (image l (letters_to to.node (view_of r.seat).seen))) c.made.rounds) script
+                (subst (λ n. AllZip (IsRound (did n)) (map delivery (image (script_of one.lane.entry) (letters_to n (view_of r.seat).seen))) c.made.rounds) (ap (λ (x : SharedNode W h). x.name) same ∙ sym q.2.named) c.made.are);
           },
           ap calls_by one.only ∙ ap (λ l. l ∷ []) (c.made.own ∙ ap (λ l. l ++ flat_map (map some) c.made.rounds) (fresh_calls one.lane.seat (contained (λ (l : Lane W h). IsFresh l.seat) d.0.lanes.items one.lane is.all_fresh one.stands))
               ∙ row_image some c.made.rounds),
@@ -200,7 +201,7 @@ module _ {W : Type 0} {h : WeighGhosts W} (did : Bytes → Effect → Bool → T
           (ap (λ l. slice_get l (j + suc i)) e ∙ get_right before (x ∷ after) (suc i) ∙ v)) in
           let b = all_sent j x parts.0 before sent_before in let a = all_sent j x parts.1 after sent_after in
           let here = drive_place j d.0 d.1 in
-          let none : passes_to j (map of_arrived r.0.arrived.items) ≡ [] = none_comes did posts r.2.entries j d.0.lanes.items r.0.arrived.items r.2.carried
+          let none : passes_to j (map of_arrived r.0.arrived.items) ≡ [] = none_comes did posts (view_of r.0.seat).seen j d.0.lanes.items r.0.arrived.items r.2.carried
           (ap (filter (λ k. k == j)) d.2.only ∙ ap (λ n. filter (λ k. k == j) (others_of n (places (length posts)))) here ∙ not_itself j (places (length posts))) in
           let others : calls_by (passes_to j (map of_arrived (passes_of driven))) ≡ map (map some) (map in_a_row (b.0 ++ a.0))
           = ap (λ l. calls_by (passes_to j (map of_arrived (passes_of l)))) parts.2
@@ -226,14 +227,6 @@ module _ {W : Type 0} {h : WeighGhosts W} (did : Bytes → Effect → Bool → T
                 (subst (λ (y : List (M.Option Entry) × List (List (M.Option Entry))). IsShuffleOf y.0 y.1 (map some x.entries.items)) (λ i. (mine i, others i)) calls);
           }
 
-  -- no history is longer than its gate lets it be
-  pub all_within : (g : Weigher) (config : Config) (bound : ℕ) (names : List Bytes) (posts : List (SharedNode W h)) (all : List History)
-      → AllZip (IsSharedNodeOf config bound) names posts → AllZip (IsHistoryOf g) posts all → All (λ (k : History). length k.entries.items ≤ bound) all
-  all_within g config bound names posts all ps hs = all_at (λ (k : History). length k.entries.items ≤ bound) all (λ i x e.
-      let p = zip_right (IsHistoryOf g) posts all i x hs e in
-      let n = zip_right (IsSharedNodeOf config bound) names posts i p.0 ps p.1 in
-      subst (λ (b : ℕ). length x.entries.items ≤ b) n.2.bound p.2.within)
-
   pub is_run : (g : Weigher) (plan : Plan) (bound : ℕ) (posts : List (SharedNode W h)) (drives : List (Drive W h)) (results : List (Result (Driven W h) ThreadFault)) (all : List History)
       → AllZip (IsSharedNodeOf plan.config bound) plan.nodes.items posts → AllZip (IsDriveOf plan posts) posts drives → AllZip (GivesDriven did stood posts) drives results
       → map (λ (d : Drive W h). d.at) drives ≡ places (length posts) → HaveWhole (map (λ (d : Drive W h). d.seat) drives) (dealt_by drives)
@@ -252,3 +245,11 @@ module _ {W : Type 0} {h : WeighGhosts W} (did : Bytes → Effect → Bool → T
         drove = all_at (RanCommands plan all) all (drove_at g plan posts drives f.driven all ds given f.histories f.own f.others);
         made = rounds_at g plan posts drives f.driven all ds given f.histories f.own at_places whole f.made;
       }
+
+-- no history is longer than its gate lets it be
+pub all_within : {W : Type 0} {h : WeighGhosts W} (g : Weigher) (config : Config) (bound : ℕ) (names : List Bytes) (posts : List (SharedNode W h)) (all : List History)
+    → AllZip (IsSharedNodeOf config bound) names posts → AllZip (IsHistoryOf g) posts all → All (λ (k : History). length k.entries.items ≤ bound) all
+all_within g config bound names posts all ps hs = all_at (λ (k : History). length k.entries.items ≤ bound) all (λ i x e.
+    let p = zip_right (IsHistoryOf g) posts all i x hs e in
+    let n = zip_right (IsSharedNodeOf config bound) names posts i p.0 ps p.1 in
+    subst (λ (b : ℕ). length x.entries.items ≤ b) n.2.bound p.2.within)

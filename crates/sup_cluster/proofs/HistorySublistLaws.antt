@@ -8,9 +8,6 @@ use Rattle.sup_plan.specs.Calls.{deliveries, brought}
 use Rattle.sup_plan.specs.Sublists.{Sublist}
 use Rattle.sup_posts.proofs.SublistLaws.{sub_more}
 
-pub in_history : (es seen all : List Entry) → IsPrefix seen all → Sublist es seen → Sublist es all
-in_history es seen all p h = subst (Sublist es) (sym p.1) (sub_more es seen p.0 h)
-
 pub in_deliveries : (texts : List Bytes) (seen all : List Entry) → IsPrefix seen all → Sublist texts (deliveries seen) → Sublist texts (deliveries all)
 in_deliveries texts seen all p h =
     subst (Sublist texts) (sym (ap deliveries p.1 ∙ flat_map-append (λ (e : Entry). brought e.act) seen p.0))

@@ -133,6 +133,6 @@ module _ {W : Type 0} {h : WeighGhosts W} (did : Bytes → Effect → Bool → T
   same_shares stood j (d ∷ drives) (r ∷ more) z =
       ap shares_of (passes_both j r.arrived.items (flat_map (λ (x : Driven W h). x.arrived.items) more))
       ∙ shares_both (passes_to j (map of_arrived r.arrived.items)) (passes_to j (map of_arrived (flat_map (λ (x : Driven W h). x.arrived.items) more)))
-      ∙ ap (λ k. k ++ shares_of (passes_to j (map of_arrived (flat_map (λ (x : Driven W h). x.arrived.items) more)))) (same_each z.0.entries j d.lanes.items r.arrived.items z.0.carried)
+      ∙ ap (λ k. k ++ shares_of (passes_to j (map of_arrived (flat_map (λ (x : Driven W h). x.arrived.items) more)))) (same_each (view_of r.seat).seen j d.lanes.items r.arrived.items z.0.carried)
       ∙ ap (λ k. shares_of (passes_to j (map of_lane d.lanes.items)) ++ k) (same_shares stood j drives more z.1)
       ∙ sym (ap shares_of (passes_append j (map of_lane d.lanes.items) (dealt_by drives)) ∙ shares_both (passes_to j (map of_lane d.lanes.items)) (passes_to j (dealt_by drives)))

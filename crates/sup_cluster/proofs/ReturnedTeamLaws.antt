@@ -6,6 +6,7 @@ use Rattle.sup_specs.specs.Values.{Bytes}
 use Rattle.sup_local_sup.specs.declared.effect.Effect.{Effect}
 use Rattle.sup_placement.specs.declared.weigh.Weigh.{Ghosts as WeighGhosts}
 use Rattle.sup_plan.specs.declared.plan.Plan.{Plan}
+use Rattle.sup_node_gate.specs.Gates.{view_of}
 use Rattle.sup_posts.specs.Jobs.{CarriedLetters, GivesDriven, DrivesNode, MayTakeDrive}
 use Rattle.sup_posts.specs.declared.thread_fault.ThreadFault.{ThreadFault}
 use Rattle.sup_posts.specs.declared.shared_node.SharedNode.{SharedNode}
@@ -19,7 +20,7 @@ module _ {W : Type 0} {h : WeighGhosts W} where
   module _ (did : Bytes → Effect → Bool → Type 0) (stood : Bytes → ℕ → Type 0) where
     arrives : (posts : List (SharedNode W h)) (drive : Drive W h) (driven : Driven W h) (d : DrivesNode did stood posts drive driven) → All (IsArrived posts) driven.arrived.items
     arrives posts drive driven d = all_at (IsArrived posts) driven.arrived.items (λ i a e.
-        let c = zip_right (CarriedLetters did posts d.entries) drive.lanes.items driven.arrived.items i a d.carried e in
+        let c = zip_right (CarriedLetters did posts (view_of driven.seat).seen) drive.lanes.items driven.arrived.items i a d.carried e in
         (c.2.post, ap (slice_get posts) c.2.to ∙ c.2.stands, c.2.seat))
 
     one_returned : (plan : Plan) (posts : List (SharedNode W h)) (post : SharedNode W h) (drive : Drive W h) (result : Result (Driven W h) ThreadFault)

@@ -7,7 +7,7 @@ use Rattle.sup_local_sup.specs.declared.effect.Effect.{Effect}
 use Rattle.sup_replica.specs.Configs.{Config}
 use Rattle.sup_station.specs.OpenedStations.{OpensStation}
 use Rattle.sup_node_gate.specs.declared.entry.Entry.{Entry}
-use Rattle.sup_node_gate.specs.Histories.{CountedStation, IsHistory}
+use Rattle.sup_node_gate.specs.Histories.{CountedStation, IsHistory, IsPrefix}
 use Rattle.sup_node_gate.specs.Shuffles.{IsShuffleOf}
 use Rattle.sup_links.specs.Image.{image}
 use Rattle.sup_plan.specs.Calls.{call_of, asked, letters_to, deliveries}
@@ -21,33 +21,33 @@ use Rattle.sup_posts.specs.Rounds.{IsRound, StoodByAll, delivery}
 abbrev pub HasRun : Weigher → Config → History → Type 0
 HasRun g config h = (s : CountedStation) × OpensStation h.node config s.kept_station × IsHistory g s h.entries.items
 
--- some list has in order the letters to the other node of the answers of these entries, and what the link's script makes of it stands in order
--- among the deliveries to that node
-pub record ReachesReceiver (plan : Plan) (entries : List Entry) (from to : History) : Type 0 where
-  pub put : List Bytes
-  pub letters : Sublist (letters_to to.node entries) put
-  pub delivered : Sublist (image (script_between from.node to.node plan.scripts.items) put) (deliveries to.entries.items)
-
--- the node's commands stand in its history in order, each once with its moment, and their letters reached the other nodes
-pub record RanCommands (plan : Plan) (all : List History) (h : History) : Type 0 where
+-- the history's front in which all of the node's commands stand, in order, each once with its moment
+pub record IsDrivenFront (plan : Plan) (h : History) (front : List Entry) : Type 0 where
+  pub begins : IsPrefix front h.entries.items
   pub entries : List Entry
   pub calls : map call_of entries ≡ map asked (commands_of h.node plan.commands.items)
-  pub stand : Sublist entries h.entries.items
-  pub reach : (k : History) → Contains all k → k.node ≢ h.node → ReachesReceiver plan entries h k
+  pub stand : Sublist entries front
+
+-- what the link makes of the letters to the other node, of the answers of a front: these and nothing else were put into it
+abbrev pub carried : Plan → List Entry → History → History → List Bytes
+carried plan front from to = image (script_between from.node to.node plan.scripts.items) (letters_to to.node front)
+
+-- the node's commands were made, and the letters of a front that has them reached the other nodes: they stand in order among the deliveries there
+pub record RanCommands (plan : Plan) (all : List History) (h : History) : Type 0 where
+  pub front : List Entry
+  pub driven : IsDrivenFront plan h front
+  pub reach : (k : History) → Contains all k → k.node ≢ h.node → Sublist (carried plan front h k) (deliveries k.entries.items)
 
 -- rounds one behind the other
 abbrev pub in_a_row : List (List Entry) → List Entry
 in_a_row = flat_map (λ round. round)
 
--- some list has in order the letters to the node of the other's commands, which stand in the other's history; and of what the link's script
--- makes of that list each text is delivered, once, in order, with the exits behind it of children that didn't start, as the runner answered
+-- what the link makes of the letters to the node, of a front of the other's history that has all of its commands, is delivered: each text once, in
+-- order, with the exits behind it of children that didn't start, as the runner answered
 pub record CameFrom (did : Effect → Bool → Type 0) (plan : Plan) (to from : History) (rounds : List (List Entry)) : Type 0 where
-  pub entries : List Entry
-  pub calls : map call_of entries ≡ map asked (commands_of from.node plan.commands.items)
-  pub stand : Sublist entries from.entries.items
-  pub put : List Bytes
-  pub letters : Sublist (letters_to to.node entries) put
-  pub delivered : AllZip (IsRound did) (map delivery (image (script_between from.node to.node plan.scripts.items) put)) rounds
+  pub front : List Entry
+  pub driven : IsDrivenFront plan from front
+  pub delivered : AllZip (IsRound did) (map delivery (carried plan front from to)) rounds
 
 -- the history is a shuffle of the rounds of the node's commands, each made once, and of those of what came from each of the others: nothing
 -- else happens at the node

@@ -12,7 +12,7 @@ use Rattle.sup_node_gate.specs.declared.entry.Entry.{Entry}
 use Rattle.sup_node_gate.specs.Gates.{IsOf, view_of}
 use Rattle.sup_node_gate.specs.InMemory.{failures_by, sound_by}
 use Rattle.sup_links.specs.declared.link_in.Sent.{Sent}
-use Rattle.sup_links.specs.Ends.{AreOneLink, script_of, sent_put, taken_of}
+use Rattle.sup_links.specs.Ends.{AreOneLink, script_of, taken_of}
 use Rattle.sup_links.specs.Image.{image}
 use Rattle.sup_plan.specs.Calls.{asked, letters_to, deliveries}
 use Rattle.sup_plan.specs.Sublists.{Sublist}
@@ -69,16 +69,16 @@ module _ {W : Type 0} {h : WeighGhosts W} (did : Bytes → Effect → Bool → T
     carried_one lane wire receive sent (Ok received) arrived w rv s took met =
         let at = took.seat in
         let same : at.0 ≡ w.post = same_Some at.0 w.post (sym at.1 ∙ (ap (slice_get posts) rv.to ∙ w.stands)) in
-        let whole : taken_of received.exit ≡ image (script_of lane.entry) (sent_put sent) = met.2 ∙ ap (λ x. image x (sent_put sent)) (s.script ∙ ap script_of w.entry) in record {
+        let put = letters_to w.post.name es in
+        let whole : taken_of received.exit ≡ image (script_of lane.entry) put
+        = met.2 ∙ (λ i. image ((s.script ∙ ap script_of w.entry) i) ((s.letters ∙ ap (λ n. letters_to n es) w.to) i)) in record {
           to = met.0 ∙ (took.to ∙ rv.to);
           post = w.post;
           stands = w.stands;
           seat = subst (λ (p : SharedNode W h). IsOf kept_by failures_by sound_by p.gate arrived.seat) same (subst (IsOf kept_by failures_by sound_by at.0.gate) (sym met.1) at.2);
-          put = sent_put sent;
-          letters = subst (λ n. Sublist (letters_to n es) (sent_put sent)) w.to s.letters;
           delivered = subst (λ l. Sublist l (deliveries (view_of arrived.seat).seen)) whole
               (subst (λ p. Sublist (taken_of received.exit) (deliveries (view_of p).seen)) (sym met.1) took.delivered);
-          made = subst (λ (p : SharedNode W h). MakesCalls (did p.name) (view_of lane.seat) (map delivery (image (script_of lane.entry) (sent_put sent))) (view_of arrived.seat)) same
+          made = subst (λ (p : SharedNode W h). MakesCalls (did p.name) (view_of lane.seat) (map delivery (image (script_of lane.entry) put)) (view_of arrived.seat)) same
               (subst (λ l. MakesCalls (did at.0.name) (view_of lane.seat) (map delivery l) (view_of arrived.seat)) whole
               (subst (λ x. MakesCalls (did at.0.name) (view_of x) (map delivery (taken_of received.exit)) (view_of arrived.seat)) rv.seat
               (subst (λ x. MakesCalls (did at.0.name) (view_of receive.seat) (map delivery (taken_of received.exit)) (view_of x)) (sym met.1) took.made)));
@@ -103,7 +103,7 @@ module _ {W : Type 0} {h : WeighGhosts W} (did : Bytes → Effect → Bool → T
   module _ (posts : List (SharedNode W h)) where
     can_gather : (drive : Drive W h) (team : Team (Steer W h) (Receive W h)) (lead : Steering W h) (others : List (Reception W h))
         → IsTeamOf posts drive team → IfOk lead (SteersNode did stood posts team.lead) → AllZip (Took posts) team.others.items others → CanMeetAll lead others
-    can_gather drive team (Ok steered) others t s took = can_each posts s.entries drive.lanes.items team.lead.wires.items team.others.items steered.sent.items others t.takes.lanes t.wires t.others s.sent took
+    can_gather drive team (Ok steered) others t s took = can_each posts (view_of steered.seat).seen drive.lanes.items team.lead.wires.items team.others.items steered.sent.items others t.takes.lanes t.wires t.others s.sent took
     can_gather drive team (Err fault) others t s took = tt
 
     pub can_all : (drives : List (Drive W h)) (teams : List (Team (Steer W h) (Receive W h))) (done : List (Team (Steering W h) (Reception W h)))
@@ -127,7 +127,8 @@ module _ {W : Type 0} {h : WeighGhosts W} (did : Bytes → Effect → Bool → T
           made = subst (λ x. MakesCalls (did s.seat.0.name) (view_of drive.seat) (map asked drive.commands.items) (view_of x)) (sym g.seat)
               (subst (λ v. MakesCalls (did s.seat.0.name) (view_of drive.seat) (map asked v.items) (view_of g.steered.seat)) t.commands
               (subst (λ x. MakesCalls (did s.seat.0.name) (view_of x) (map asked team.lead.commands.items) (view_of g.steered.seat)) t.seat s.made));
-          carried = carried_each posts s.entries drive.lanes.items team.lead.wires.items team.others.items g.steered.sent.items done.others.items driven.arrived.items t.wires t.others s.sent d.1 g.met;
+          carried = subst (λ x. AllZip (CarriedLetters did posts (view_of x).seen) drive.lanes.items driven.arrived.items) (sym g.seat)
+              (carried_each posts (view_of g.steered.seat).seen drive.lanes.items team.lead.wires.items team.others.items g.steered.sent.items done.others.items driven.arrived.items t.wires t.others s.sent d.1 g.met);
         }
 
     gives_of : (drive : Drive W h) (team : Team (Steer W h) (Receive W h)) (done : Team (Steering W h) (Reception W h)) (result : Result (Driven W h) ThreadFault)

@@ -17,7 +17,7 @@ use Rattle.sup_node_gate.specs.Views.{calls_of}
 use Rattle.sup_plan.specs.Calls.{Call}
 use Rattle.sup_posts.specs.Rounds.{IsDone, TellsRunner, IsRound, MakesCalls, StoodByAll, failed}
 use Rattle.sup_posts.proofs.ItemLaws.{zip_append}
-use Rattle.sup_driving.specs.Called.{MadeCall, CalledFor, TellsEffects, effects_in}
+use Rattle.sup_driving.specs.Called.{MadeCall, TellsEffects, effects_in}
 
 -- the places of one command more
 pub stood_more : (stood : ℕ → Type 0) (n : ℕ) → StoodByAll stood n → stood (suc n) → StoodByAll stood (suc n)
@@ -61,10 +61,10 @@ module _ (did : Effect → Bool → Type 0) where
 
   -- the run that the first effect begins didn't start, and what its exit's answer begins comes behind all others
   pub tells_exit : (now : ℕ) (all : List Effect) (id : Bytes) (inc : Incarnation) (spec : ChildSpec) (later : List Effect) (w more : List (List Effect)) (effects : List Effect) (v v' u : View)
-      → all ≡ Start id inc spec ∷ later → more ≡ w ++ effects ∷ [] → did (Start id inc spec) false → CalledFor v (failed (id, inc)) now v' effects
+      → all ≡ Start id inc spec ∷ later → more ≡ w ++ effects ∷ [] → did (Start id inc spec) false → MadeCall v (failed (id, inc)) now effects v'
       → TellsEffects did now (later ++ effects_in more) v' u → TellsEffects did now (all ++ effects_in w) v u
   tells_exit now all id inc spec later w more effects v v' u is grown answered c t =
-      let e = entry (failed (id, inc)) now c.1.answer in
+      let e = entry (failed (id, inc)) now c.answer in
       let behind : later ++ effects_in more ≡ (later ++ effects_in w) ++ effects
       = ap (λ l. later ++ effects_in l) grown
       ∙ (ap (λ l. later ++ l) (flat_map-append (λ (l : List Effect). l) w (effects ∷ []) ∙ ap (λ l. effects_in w ++ l) (append-nil effects)) ∙ sym (append_assoc later (effects_in w) effects)) in
@@ -73,19 +73,26 @@ module _ (did : Effect → Bool → Type 0) where
         are = (
           later ++ effects_in w,
           record { before = []; id = id; inc = inc; spec = spec; effects_are = refl; done = tt; answered = answered; call = refl },
-          subst (λ l. TellsRunner did now ((later ++ effects_in w) ++ l) t.exits) (sym c.1.effects_are) (subst (λ l. TellsRunner did now l t.exits) behind t.are),
+          subst (λ l. TellsRunner did now ((later ++ effects_in w) ++ l) t.exits) (sym c.effects_are) (subst (λ l. TellsRunner did now l t.exits) behind t.are),
         );
-        own = t.own ∙ (ap (λ l. l ++ map some t.exits) c.1.own ∙ append_assoc (calls_of v) (some e ∷ []) (map some t.exits));
-        shares = t.shares ∙ c.1.shares;
+        own = t.own ∙ (ap (λ l. l ++ map some t.exits) c.own ∙ append_assoc (calls_of v) (some e ∷ []) (map some t.exits));
+        shares = t.shares ∙ c.shares;
       } in
       subst (λ l. TellsEffects did now (l ++ effects_in w) v u) (sym is) told
+
+  -- where the pass made no call in between
+  pub tells_since : (now : ℕ) (effects : List Effect) (v v' u : View) → calls_of v' ≡ calls_of v → v'.shares ≡ v.shares → TellsEffects did now effects v' u → TellsEffects did now effects v u
+  tells_since now effects v v' u own shares t = record { exits = t.exits; are = t.are; own = t.own ∙ ap (λ l. l ++ map some t.exits) own; shares = t.shares ∙ shares }
+
+  pub makes_still : (v v' u : View) (cs : List Call) → MakesCalls did v cs v' → calls_of u ≡ calls_of v' → u.shares ≡ v'.shares → MakesCalls did v cs u
+  makes_still v v' u cs p own shares = record { rounds = p.rounds; are = p.are; own = own ∙ p.own; shares = shares ∙ p.shares }
 
   pub makes_none : (v : View) → MakesCalls did v [] v
   makes_none v = record { rounds = []; are = tt; own = sym (append-nil (calls_of v)); shares = refl }
 
   -- a call, and what was told of its answer
-  pub makes_one : (v v' u : View) (a : Act) (now : ℕ) (effects letter : _) → MadeCall v a now effects letter v' → TellsEffects did now effects v' u → MakesCalls did v ((a, now) ∷ []) u
-  makes_one v v' u a now effects letter c t = let e = entry a now c.answer in record {
+  pub makes_one : (v v' u : View) (a : Act) (now : ℕ) (effects : _) → MadeCall v a now effects v' → TellsEffects did now effects v' u → MakesCalls did v ((a, now) ∷ []) u
+  makes_one v v' u a now effects c t = let e = entry a now c.answer in record {
     rounds = (e ∷ t.exits) ∷ [];
     are = ((refl, subst (λ l. TellsRunner did now l t.exits) (sym c.effects_are) t.are), tt);
     own = t.own ∙ (ap (λ l. l ++ map some t.exits) c.own ∙ (append_assoc (calls_of v) (some e ∷ []) (map some t.exits) ∙ ap (λ l. calls_of v ++ l) (sym (append-nil (some e ∷ map some t.exits)))));

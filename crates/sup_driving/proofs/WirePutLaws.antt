@@ -1,35 +1,26 @@
 -- The links of a driver, once more was put.
-use Rattle.std.proofs.Common.{◌≡◌, ℕ, List, [], ◌∷◌, ◌++◌, length, take, drop, Ok, Err, None, append_assoc, append-nil, refl, ap, ◌∙◌, sym, subst}
+use Rattle.std.proofs.Common.{◌≡◌, ℕ, List, [], ◌∷◌, ◌++◌, length, take, drop, Option, None, Some, Ok, Err, append_assoc, append-nil, refl, ap, ◌∙◌, sym}
+use Rattle.std.specs.Prelude.{option_to_list}
 use Rattle.std.specs.List.{AllZip, AllByRecursion}
-use Rattle.std.proofs.lemmas.List.{map-append}
 use Rattle.std.proofs.lemmas.Grind.{flat_map-append}
 use Rattle.sup_specs.specs.Values.{Bytes}
-use Rattle.sup_replica.specs.declared.event.Act.{Act}
+use Rattle.sup_replica.specs.declared.letter.Letter.{Letter}
 use Rattle.sup_node_gate.specs.declared.entry.Entry.{Entry}
 use Rattle.sup_node_gate.specs.declared.view.View.{View}
-use Rattle.sup_node_gate.specs.Histories.{StationAnswer, entry}
-use Rattle.sup_links.specs.Ends.{put_of}
-use Rattle.sup_plan.specs.Calls.{Call, call_of, text_to, letter_to, letters_to}
-use Rattle.sup_plan.specs.Sublists.{Sublist}
-use Rattle.sup_driving.specs.declared.wires.Wire.{Wire}
-use Rattle.sup_driving.specs.Called.{MadeCall, SeesMore, letter_of}
+use Rattle.sup_node_gate.specs.Histories.{StationAnswer, letter_in, letters_of}
 use Rattle.sup_links.specs.declared.link_in.Sent.{Sent}
-use Rattle.sup_links.specs.Ends.{sent_put}
+use Rattle.sup_links.specs.Ends.{put_of}
+use Rattle.sup_plan.specs.Calls.{text_to, letter_to, letters_to}
+use Rattle.sup_driving.specs.declared.wires.Wire.{Wire}
+use Rattle.sup_driving.specs.Called.{SeesMore}
 use Rattle.sup_driving.specs.Teams.{HasSent}
-use Rattle.sup_driving.specs.Wires.{IsLater, HasPut, HasLetters, IsEnded, PutLetters}
-use Rattle.sup_posts.proofs.SublistLaws.{sub_more, sub_both}
+use Rattle.sup_driving.specs.Wires.{IsLater, HasPut, HavePut, HasLetters, HaveLetters, HaveShipped, IsEnded, IsUnused, texts_to}
 
 pub later_same : (w : Wire) → IsLater w w
-later_same w = record { to = refl; link = refl; script = refl; rest = []; put = sym (append-nil (put_of w.entry)) }
+later_same w = record { to = refl; link = refl; script = refl }
 
 pub later_then : (u v w : Wire) → IsLater u v → IsLater v w → IsLater u w
-later_then u v w p q = record {
-  to = q.to ∙ p.to;
-  link = q.link ∙ p.link;
-  script = q.script ∙ p.script;
-  rest = p.rest ++ q.rest;
-  put = q.put ∙ (ap (λ l. l ++ q.rest) p.put ∙ append_assoc (put_of u.entry) p.rest q.rest);
-}
+later_then u v w p q = record { to = q.to ∙ p.to; link = q.link ∙ p.link; script = q.script ∙ p.script }
 
 pub all_same : (ws : List Wire) → AllZip IsLater ws ws
 all_same [] = tt
@@ -43,86 +34,107 @@ all_later (u ∷ us) [] ws p q = absurd p
 all_later (u ∷ us) (v ∷ vs) [] p q = absurd q
 all_later (u ∷ us) (v ∷ vs) (w ∷ ws) p q = (later_then u v w p.0 q.0, all_later us vs ws p.1 q.1)
 
-pub put_later : (letter : _) (us vs : List Wire) → AllZip (HasPut letter) us vs → AllZip IsLater us vs
-put_later letter [] [] p = tt
-put_later letter [] (v ∷ vs) p = absurd p
-put_later letter (u ∷ us) [] p = absurd p
-put_later letter (u ∷ us) (v ∷ vs) p = (p.0.later, put_later letter us vs p.1)
+pub put_later : (letters : List Letter) (us vs : List Wire) → AllZip (HavePut letters) us vs → AllZip IsLater us vs
+put_later letters [] [] p = tt
+put_later letters [] (v ∷ vs) p = absurd p
+put_later letters (u ∷ us) [] p = absurd p
+put_later letters (u ∷ us) (v ∷ vs) p = (p.0.later, put_later letters us vs p.1)
 
 -- where there is no letter, nothing is put
-pub none_put : (ws : List Wire) → AllZip (HasPut None) ws ws
+pub none_put : (ws : List Wire) → AllZip (HavePut []) ws ws
 none_put [] = tt
 none_put (w ∷ ws) = (record { later = later_same w; put = sym (append-nil (put_of w.entry)) }, none_put ws)
 
-letter_text : (name : Bytes) (r : StationAnswer) → letter_to name r ≡ text_to name (letter_of r)
-letter_text name (Ok done) = refl
-letter_text name (Err r) = refl
+texts_more : (name : Bytes) (letters : List Letter) (letter : Letter) → texts_to name (letters ++ letter ∷ []) ≡ texts_to name letters ++ text_to name (Some letter)
+texts_more name letters letter =
+    flat_map-append (λ (l : Letter). text_to name (Some l)) letters (letter ∷ []) ∙ ap (λ l. texts_to name letters ++ l) (append-nil (text_to name (Some letter)))
 
--- the letters of one entry more
-letters_more : (name : Bytes) (es : List Entry) (a : Act) (now : ℕ) (r : StationAnswer) (letter : _) → letter_of r ≡ letter → letters_to name (es ++ entry a now r ∷ []) ≡ letters_to name es ++ text_to name letter
-letters_more name es a now r letter is =
-    flat_map-append (λ (e : Entry). letter_to name e.answer) es (entry a now r ∷ [])
-    ∙ ap (λ l. letters_to name es ++ l) (append-nil (letter_to name r) ∙ (letter_text name r ∙ ap (text_to name) is))
-
--- one link, to which a letter was put, behind others
-one_more : (es : List Entry) (a : Act) (now : ℕ) (r : StationAnswer) (letter : _) (u v w : Wire) → letter_of r ≡ letter → IsLater u v → HasPut letter v w → HasLetters es u → HasLetters (es ++ entry a now r ∷ []) w
-one_more es a now r letter u v w is p q h =
-    subst (λ (l : List Bytes). Sublist l (put_of w.entry)) (sym (letters_more w.to es a now r letter is))
-    (subst (Sublist (letters_to w.to es ++ text_to w.to letter)) (sym (q.put ∙ ap (λ n. put_of v.entry ++ text_to n letter) (sym q.later.to)))
-    (sub_both (letters_to w.to es) (put_of v.entry) (text_to w.to letter)
-    (subst (λ n. Sublist (letters_to n es) (put_of v.entry)) (sym (q.later.to ∙ p.to))
-    (subst (Sublist (letters_to u.to es)) (sym p.put) (sub_more (letters_to u.to es) (put_of u.entry) p.rest h)))))
-
-each_more : (es : List Entry) (a : Act) (now : ℕ) (r : StationAnswer) (letter : _) (us vs ws : List Wire) → letter_of r ≡ letter → AllZip IsLater us vs → AllZip (HasPut letter) vs ws
-    → AllByRecursion (HasLetters es) us → AllByRecursion (HasLetters (es ++ entry a now r ∷ [])) ws
-each_more es a now r letter [] [] [] is p q h = tt
-each_more es a now r letter [] [] (w ∷ ws) is p q h = absurd q
-each_more es a now r letter [] (v ∷ vs) ws is p q h = absurd p
-each_more es a now r letter (u ∷ us) [] ws is p q h = absurd p
-each_more es a now r letter (u ∷ us) (v ∷ vs) [] is p q h = absurd q
-each_more es a now r letter (u ∷ us) (v ∷ vs) (w ∷ ws) is p q h = (one_more es a now r letter u v w is p.0 q.0 h.0, each_more es a now r letter us vs ws is p.1 q.1 h.1)
-
--- a command more
-pub did_more : (cs : List Call) (v : View) (a : Act) (now : ℕ) (effects letter : _) (v' v'' : View) (us ts ws : List Wire) → MadeCall v a now effects letter v' → SeesMore v' v''
-    → AllZip IsLater us ts → AllZip (HasPut letter) ts ws → PutLetters cs v.seen us → PutLetters (cs ++ (a, now) ∷ []) v''.seen ws
-did_more cs v a now effects letter v' v'' us ts ws c p later put d = let e = entry a now c.answer in record {
-  entries = d.entries ++ e ∷ [];
-  are = map-append call_of d.entries (e ∷ []) ∙ ap (λ l. l ++ (a, now) ∷ []) d.are;
-  stand = subst (Sublist (d.entries ++ e ∷ [])) (sym p.1)
-      (sub_more (d.entries ++ e ∷ []) v'.seen p.0
-      (subst (Sublist (d.entries ++ e ∷ [])) (sym c.ends) (sub_both d.entries c.before (e ∷ []) (subst (Sublist d.entries) (sym c.begins.1) (sub_more d.entries v.seen c.begins.0 d.stand)))));
-  put = each_more d.entries a now c.answer letter us ts ws c.letter_is later put d.put;
+one_more : (letters : List Letter) (letter : Letter) (u v w : Wire) → HavePut letters u v → HasPut letter v w → HavePut (letters ++ letter ∷ []) u w
+one_more letters letter u v w p q = record {
+  later = later_then u v w p.later q.later;
+  put = q.put
+      ∙ (ap (λ n. put_of v.entry ++ text_to n (Some letter)) p.later.to
+      ∙ (ap (λ l. l ++ text_to u.to (Some letter)) p.put
+      ∙ (append_assoc (put_of u.entry) (texts_to u.to letters) (text_to u.to (Some letter)) ∙ ap (λ l. put_of u.entry ++ l) (sym (texts_more u.to letters letter)))));
 }
 
-each_none : (ws : List Wire) → AllByRecursion (HasLetters []) ws
-each_none [] = tt
-each_none (w ∷ ws) = (tt, each_none ws)
+-- a letter more was put
+pub put_more : (letters : List Letter) (letter : Letter) (us vs ws : List Wire) → AllZip (HavePut letters) us vs → AllZip (HasPut letter) vs ws → AllZip (HavePut (letters ++ letter ∷ [])) us ws
+put_more letters letter [] [] [] p q = tt
+put_more letters letter [] [] (w ∷ ws) p q = absurd q
+put_more letters letter [] (v ∷ vs) ws p q = absurd p
+put_more letters letter (u ∷ us) [] ws p q = absurd p
+put_more letters letter (u ∷ us) (v ∷ vs) [] p q = absurd q
+put_more letters letter (u ∷ us) (v ∷ vs) (w ∷ ws) p q = (one_more letters letter u v w p.0 q.0, put_more letters letter us vs ws p.1 q.1)
 
-pub did_none : (seen : List Entry) (ws : List Wire) → PutLetters [] seen ws
-did_none seen ws = record { entries = []; are = refl; stand = tt; put = each_none ws }
+text_of : (name : Bytes) (letter : Option Letter) → text_to name letter ≡ texts_to name (option_to_list letter)
+text_of name None = refl
+text_of name (Some letter) = sym (append-nil (text_to name (Some letter)))
 
-one_later : (es : List Entry) (u v : Wire) → IsLater u v → HasLetters es u → HasLetters es v
-one_later es u v p h = subst (λ n. Sublist (letters_to n es) (put_of v.entry)) (sym p.to) (subst (Sublist (letters_to u.to es)) (sym p.put) (sub_more (letters_to u.to es) (put_of u.entry) p.rest h))
+text_in : (name : Bytes) (r : StationAnswer) → letter_to name r ≡ texts_to name (letter_in r)
+text_in name (Ok done) = text_of name done.out
+text_in name (Err r) = refl
 
-each_later : (es : List Entry) (us vs : List Wire) → AllZip IsLater us vs → AllByRecursion (HasLetters es) us → AllByRecursion (HasLetters es) vs
-each_later es [] [] p h = tt
-each_later es [] (v ∷ vs) p h = absurd p
-each_later es (u ∷ us) [] p h = absurd p
-each_later es (u ∷ us) (v ∷ vs) p h = (one_later es u v p.0 h.0, each_later es us vs p.1 h.1)
+-- the letters to a node, of answers, are those of their letters that are to it
+texts_of : (name : Bytes) (es : List Entry) → letters_to name es ≡ texts_to name (letters_of es)
+texts_of name [] = refl
+texts_of name (e ∷ es) = (λ i. text_in name e.answer i ++ texts_of name es i) ∙ sym (flat_map-append (λ (l : Letter). text_to name (Some l)) (letter_in e.answer) (letters_of es))
 
--- where more was put since
-pub did_later : (cs : List Call) (seen : List Entry) (us vs : List Wire) → AllZip IsLater us vs → PutLetters cs seen us → PutLetters cs seen vs
-did_later cs seen us vs p d = record { entries = d.entries; are = d.are; stand = d.stand; put = each_later d.entries us vs p d.put }
+behind : {X : Type 0} (xs ys : List X) → drop (length xs) (xs ++ ys) ≡ ys
+behind [] ys = refl
+behind (x ∷ xs) ys = behind xs ys
+
+one_shipped : (front rest all : List Entry) (letters : List Letter) (u v : Wire) → all ≡ front ++ rest → letters ≡ letters_of rest → HasLetters front u → HavePut letters u v → HasLetters all v
+one_shipped front rest all letters u v whole are h p =
+    p.put
+    ∙ ((λ i. h i ++ texts_to u.to (are i))
+    ∙ (ap (λ l. letters_to u.to front ++ l) (sym (texts_of u.to rest))
+    ∙ (sym (flat_map-append (λ (e : Entry). letter_to u.to e.answer) front rest) ∙ (λ i. letters_to (sym p.later.to i) (sym whole i)))))
+
+each_shipped : (front rest all : List Entry) (letters : List Letter) (us vs : List Wire) → all ≡ front ++ rest → letters ≡ letters_of rest → HaveLetters front us → AllZip (HavePut letters) us vs → HaveLetters all vs
+each_shipped front rest all letters [] [] whole are h p = tt
+each_shipped front rest all letters [] (v ∷ vs) whole are h p = absurd p
+each_shipped front rest all letters (u ∷ us) [] whole are h p = absurd p
+each_shipped front rest all letters (u ∷ us) (v ∷ vs) whole are h p =
+    (one_shipped front rest all letters u v whole are h.0 p.0, each_shipped front rest all letters us vs whole are h.1 p.1)
+
+-- once the letters are put of all entries behind those whose letters were, all are
+pub all_shipped : (n : ℕ) (v v' : View) (letters : List Letter) (us vs : List Wire) → SeesMore v v' → letters ≡ letters_of (drop n v'.seen) → HaveShipped n v.seen us → AllZip (HavePut letters) us vs → HaveLetters v'.seen vs
+all_shipped n v v' letters us vs more are s p =
+    let rest = s.begins.0 ++ more.0 in
+    let whole : v'.seen ≡ s.front ++ rest = more.1 ∙ (ap (λ l. l ++ more.0) s.begins.1 ∙ append_assoc s.front s.begins.0 more.0) in
+    each_shipped s.front rest v'.seen letters us vs whole (are ∙ ap letters_of ((λ i. drop (sym s.long i) (whole i)) ∙ behind s.front rest)) s.letters p
+
+-- nothing is put yet
+pub none_shipped : (seen : List Entry) (ws : List Wire) → AllByRecursion IsUnused ws → HaveShipped 0 seen ws
+none_shipped seen ws unused = record { front = []; begins = (seen, refl); long = refl; letters = each ws unused }
+  where
+    each : (us : List Wire) → AllByRecursion IsUnused us → HaveLetters [] us
+    each [] u = tt
+    each (w ∷ us) u = (u.0, each us u.1)
+
+-- the same, where more is seen since
+pub shipped_later : (n : ℕ) (v v' : View) (ws : List Wire) → SeesMore v v' → HaveShipped n v.seen ws → HaveShipped n v'.seen ws
+shipped_later n v v' ws more s = record {
+  front = s.front;
+  begins = (s.begins.0 ++ more.0, more.1 ∙ (ap (λ l. l ++ more.0) s.begins.1 ∙ append_assoc s.front s.begins.0 more.0));
+  long = s.long;
+  letters = s.letters;
+}
+
+-- all was put of what was seen, and more is seen since
+pub shipped_more : (n : ℕ) (v v' : View) (ws : List Wire) → n ≡ length v.seen → HaveLetters v.seen ws → SeesMore v v' → HaveShipped n v'.seen ws
+shipped_more n v v' ws long h more = record { front = v.seen; begins = more; long = sym long; letters = h }
 
 sent_one : (es : List Entry) (u v : Wire) (s : Sent) → IsLater u v → IsEnded v s → HasLetters es v → HasSent es u s
 sent_one es u v s p e h = record {
   link = e.link ∙ p.link;
   script = e.script ∙ p.script;
-  letters = subst (λ n. Sublist (letters_to n es) (sent_put s)) p.to (subst (Sublist (letters_to v.to es)) (sym e.put) h);
+  letters = e.put ∙ (h ∙ ap (λ n. letters_to n es) p.to);
 }
 
 -- what was sent, once the links are ended
-pub sent_all : (es : List Entry) (us vs : List Wire) (ss : List Sent) → AllZip IsLater us vs → AllZip IsEnded vs ss → AllByRecursion (HasLetters es) vs → AllZip (HasSent es) us ss
+pub sent_all : (es : List Entry) (us vs : List Wire) (ss : List Sent) → AllZip IsLater us vs → AllZip IsEnded vs ss → HaveLetters es vs → AllZip (HasSent es) us ss
 sent_all es [] [] [] p e h = tt
 sent_all es [] [] (s ∷ ss) p e h = absurd e
 sent_all es [] (v ∷ vs) ss p e h = absurd p

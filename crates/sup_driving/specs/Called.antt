@@ -1,11 +1,10 @@
 -- What a call of a run's thread does to its pass.
-use Rattle.std.specs.Prelude.{◌≡◌, ℕ, Bool, false, List, [], ◌∷◌, ◌++◌, length, map, flat_map, Option, None, Ok, Err}
+use Rattle.std.specs.Prelude.{◌≡◌, ℕ, Bool, false, List, [], ◌∷◌, ◌++◌, length, map, flat_map, Err}
 use mathlib.Core.Option.{some}
 use Rattle.sup_specs.specs.Values.{Bytes}
 use Rattle.sup_placement.specs.Place.{Weigher}
 use Rattle.sup_local_sup.specs.declared.effect.Effect.{Effect}
 use Rattle.sup_replica.specs.declared.event.Act.{Act}
-use Rattle.sup_replica.specs.declared.letter.Letter.{Letter}
 use Rattle.sup_replica.specs.declared.refusal.Refusal.TheVariants.{HistoryFull as Full, OutOfMemory as Wants}
 use Rattle.sup_node_gate.specs.declared.entry.Entry.{Entry}
 use Rattle.sup_node_gate.specs.declared.view.View.{View}
@@ -17,18 +16,15 @@ use Rattle.sup_node_gate.specs.Histories.{StationAnswer, CountedStation, IsPrefi
 use Rattle.sup_node_gate.specs.Views.{calls_of}
 use Rattle.sup_links.specs.declared.link_out.LinkOut.{LinkOut}
 use Rattle.sup_links.specs.Ends.{has_ended}
+use Rattle.sup_plan.specs.Calls.{Call, call_of}
+use Rattle.sup_plan.specs.Sublists.{Sublist}
 use Rattle.sup_posts.specs.Rounds.{TellsRunner, effects_of}
 use Rattle.sup_posts.specs.declared.thread_fault.ThreadFault.{ThreadFault}
 use Rattle.sup_posts.specs.declared.thread_fault.ThreadFault.TheVariants.{HistoryFull, LinkClosed, OutOfMemory}
 
--- the letter of an answer, if it has one
-abbrev pub letter_of : StationAnswer → Option Letter
-letter_of (Ok done) = done.out
-letter_of (Err r) = None
-
--- what is seen begins with what was seen, and ends with a call and its answer, which has these effects and this letter; it is one more of the
--- pass's own calls; what the pass has of the gate stays
-pub record MadeCall (v : View) (act : Act) (now : ℕ) (effects : List Effect) (letter : Option Letter) (v' : View) : Type 0 where
+-- what is seen begins with what was seen, and ends with a call and its answer, which has these effects; it is one more of the pass's own calls;
+-- what the pass has of the gate stays
+pub record MadeCall (v : View) (act : Act) (now : ℕ) (effects : List Effect) (v' : View) : Type 0 where
   pub answer : StationAnswer
   pub before : List Entry
   pub begins : IsPrefix v.seen before
@@ -36,11 +32,12 @@ pub record MadeCall (v : View) (act : Act) (now : ℕ) (effects : List Effect) (
   pub own : calls_of v' ≡ calls_of v ++ some (entry act now answer) ∷ []
   pub shares : v'.shares ≡ v.shares
   pub effects_are : effects_of answer ≡ effects
-  pub letter_is : letter_of answer ≡ letter
 
--- the same, whatever its letter is
-abbrev pub CalledFor : View → Act → ℕ → View → List Effect → Type 0
-CalledFor v act now v' effects = (letter : Option Letter) × MadeCall v act now effects letter v'
+-- the calls stand in what was seen, in their order
+pub record CallsStand (calls : List Call) (seen : List Entry) : Type 0 where
+  pub entries : List Entry
+  pub are : map call_of entries ≡ calls
+  pub stand : Sublist entries seen
 
 -- what is seen begins with what was seen
 abbrev pub SeesMore : View → View → Type 0

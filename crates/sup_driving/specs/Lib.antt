@@ -1,4 +1,4 @@
 pub mod Called
 pub mod GatheredResults
-pub mod Teams
 pub mod Wires
+pub mod Teams

@@ -1,6 +1,6 @@
 -- A driver and its receivers: what their threads are given, and give back.
 use Rattle.std.specs.Prelude.{◌≡◌, ℕ, Bool, true, List, [], length, map, slice_get, Some}
-use Rattle.std.specs.List.{AllZip}
+use Rattle.std.specs.List.{AllZip, AllByRecursion}
 use Rattle.sup_specs.specs.Values.{Bytes}
 use Rattle.sup_local_sup.specs.declared.effect.Effect.{Effect}
 use Rattle.sup_placement.specs.declared.weigh.Weigh.{Ghosts as WeighGhosts}
@@ -17,17 +17,18 @@ use Rattle.sup_posts.specs.declared.jobs.Drive.{Drive}
 use Rattle.sup_crew.specs.declared.team.Team.{Team}
 use Rattle.sup_crew.specs.Teams.{AllOfTeam}
 use Rattle.sup_posts.specs.Rounds.{MakesCalls, StoodByAll, delivery}
+use Rattle.sup_driving.specs.Wires.{IsUnused}
 use Rattle.sup_driving.specs.declared.teams.Steer.{Steer}
 use Rattle.sup_driving.specs.declared.teams.Receive.{Receive}
 use Rattle.sup_driving.specs.declared.wires.Wire.{Wire}
 use Rattle.sup_driving.specs.declared.work.Steered.{Steered}
 use Rattle.sup_driving.specs.declared.work.Received.{Received}
 
--- the link was ended, and what was put has the letters of these entries to its node
+-- the link was ended, and the letters to its node of these entries were put, and nothing else
 pub record HasSent (entries : List Entry) (wire : Wire) (sent : Sent) : Type 0 where
   pub link : IsSentOf sent wire.entry
   pub script : sent_script sent ≡ script_of wire.entry
-  pub letters : Sublist (letters_to wire.to entries) (sent_put sent)
+  pub letters : sent_put sent ≡ letters_to wire.to entries
 
 module _ {W : Type 0} {h : WeighGhosts W} where
   -- a driver's end of a link
@@ -52,11 +53,12 @@ module _ {W : Type 0} {h : WeighGhosts W} where
     pub wires : AllZip (IsWireOf posts) drive.lanes.items team.lead.wires.items
     pub others : AllZip IsReceiveOf drive.lanes.items team.others.items
 
-  -- the pass is of the gate of the node at this place
-  abbrev pub IsReadyToSteer : List (SharedNode W h) → Steer W h → Type 0
-  IsReadyToSteer posts s = IsSeatAt posts s.at s.seat
+  -- the pass is of the gate of the node at this place, and nothing was put into the links
+  pub record IsReadyToSteer (posts : List (SharedNode W h)) (s : Steer W h) : Type 0 where
+    pub seat : IsSeatAt posts s.at s.seat
+    pub unused : AllByRecursion IsUnused s.wires.items
 
-  -- the same, and nothing was taken from the link
+  -- the pass is of the gate of the node at this place, and nothing was taken from the link
   pub record IsReadyToReceive (posts : List (SharedNode W h)) (r : Receive W h) : Type 0 where
     pub seat : IsSeatAt posts r.to r.seat
     pub none : taken_of r.exit ≡ []
@@ -64,14 +66,15 @@ module _ {W : Type 0} {h : WeighGhosts W} where
   abbrev pub IsReady : List (SharedNode W h) → Team (Steer W h) (Receive W h) → Type 0
   IsReady posts team = AllOfTeam (IsReadyToSteer posts) (IsReadyToReceive posts) team
 
-  -- the commands stand in order, each once with its moment, in what the driver's pass has seen, and their letters were sent; the pass made no
-  -- other call but exits of children that didn't start at a command, as the runner answered; the checkpoint was told of each command
+  -- the commands stand in order, each once with its moment, in what the driver's pass has seen, and the letters of all that it has seen were sent,
+  -- and nothing else; the pass made no other call but exits of children that didn't start at a command, as the runner answered; the checkpoint was
+  -- told of each command
   pub record SteersNode (did : Bytes → Effect → Bool → Type 0) (stood : Bytes → ℕ → Type 0) (posts : List (SharedNode W h)) (steer : Steer W h) (steered : Steered W h) : Type 0 where
     pub seat : IsSeatAt posts steer.at steered.seat
     pub entries : List Entry
     pub are : map call_of entries ≡ map asked steer.commands.items
     pub stand : Sublist entries (view_of steered.seat).seen
-    pub sent : AllZip (HasSent entries) steer.wires.items steered.sent.items
+    pub sent : AllZip (HasSent (view_of steered.seat).seen) steer.wires.items steered.sent.items
     pub stood_by : StoodByAll (stood seat.0.name) (length steer.commands.items)
     pub made : MakesCalls (did seat.0.name) (view_of steer.seat) (map asked steer.commands.items) (view_of steered.seat)
 

@@ -4,12 +4,10 @@ ghost use Rattle.sup_node_gate.specs.declared.view.View.{View};
 ghost use Rattle.sup_node_gate.specs.Gates.{IsOf, view_of, bound_of};
 ghost use Rattle.sup_node_gate.specs.InMemory.{failures_by, sound_by};
 ghost use Rattle.sup_station.specs.OpenedStations.{kept_by};
-ghost use Rattle.sup_driving.specs.Called.{CalledFor, SeesMore, TellsEffects, effects_in, StopsCalling};
+ghost use Rattle.sup_driving.specs.Called.{MadeCall, SeesMore, TellsEffects, effects_in, StopsCalling};
 ghost use Rattle.sup_posts.specs.Rounds.{failed};
 
-use crate::calling::Brought;
 use crate::field::Field;
-use crate::outbox::lay;
 use crate::runner::Runner;
 use std::collections::VecDeque;
 use std::sync::Wait;
@@ -89,7 +87,7 @@ impl<'a, R: Wait, W: Weigh, N: Runner, C> Field<'a, R, W, N, C> {
     ) -> Result<Effects, ThreadFault>
         requires { IsOf kept_by failures_by sound_by post.now.gate seat.old }
         ensures of { IsOf kept_by failures_by sound_by post.now.gate seat.new }
-        ensures called { IfOk result (CalledFor (view_of seat.old) (failed (id.now, inc)) now (view_of seat.new)) }
+        ensures called { IfOk result (λ effects. MadeCall (view_of seat.old) (failed (id.now, inc)) now effects (view_of seat.new)) }
         ensures fault { IfErr result (StopsCalling (bound_of post.now.gate) (view_of seat.new)) }
     {
         let event = Event::Exit {
@@ -97,8 +95,6 @@ impl<'a, R: Wait, W: Weigh, N: Runner, C> Field<'a, R, W, N, C> {
             inc,
             reason: ExitReason::Failed,
         };
-        let Brought { effects, letter } = self.call(post, seat, Act::Event(event), now)?;
-        lay(self.rt, &post.outbox, letter)?;
-        Ok(effects)
+        self.call(post, seat, Act::Event(event), now)
     }
 }

@@ -10,9 +10,7 @@ ghost use Rattle.sup_plan.specs.Sublists.{Sublist};
 ghost use Rattle.sup_posts.specs.Rounds.{MakesCalls, delivery};
 ghost use Rattle.sup_driving.specs.Called.{StopsCalling, StopsTaking};
 
-use crate::calling::Brought;
 use crate::field::Field;
-use crate::outbox::lay;
 use crate::runner::Runner;
 use std::sync::Wait;
 use sup_links::LinkOut;
@@ -24,7 +22,7 @@ use sup_replica::{Act, Event, MessageText};
 const MOMENT: u64 = 0;
 
 impl<'a, R: Wait, W: Weigh, N: Runner, C> Field<'a, R, W, N, C> {
-    // Gives the node a message. Its answer's letter lies in the outbox before the runner is told what is to be done.
+    // Gives the node a message, and tells the runner what is to be done.
     fn deliver(
         &self,
         post: &SharedNode<W>,
@@ -39,8 +37,7 @@ impl<'a, R: Wait, W: Weigh, N: Runner, C> Field<'a, R, W, N, C> {
         ensures fault { IfErr result (StopsCalling (bound_of post.now.gate) (view_of seat.new)) }
     {
         let act = Act::Event(Event::Deliver(MessageText::new(text)));
-        let Brought { effects, letter } = self.call(post, seat, act, MOMENT)?;
-        lay(self.rt, &post.outbox, letter)?;
+        let effects = self.call(post, seat, act, MOMENT)?;
         self.act_all(post, seat, effects, MOMENT)
     }
 

@@ -1,7 +1,8 @@
 //! What the threads of a driver and its receivers are given.
 ghost use Rattle.std.specs.Prelude.{IfOk, All};
-ghost use Rattle.std.specs.List.{AllZip};
+ghost use Rattle.std.specs.List.{AllZip, AllByRecursion};
 ghost use Rattle.sup_posts.specs.Jobs.{IsLane, MayTakeDrive};
+ghost use Rattle.sup_driving.specs.Wires.{IsUnused};
 ghost use Rattle.sup_driving.specs.Teams.{IsWireOf, IsReceiveOf, IsReadyToReceive, IsTeamOf, IsReady};
 
 use crate::wires::Wire;
@@ -33,6 +34,7 @@ pub(crate) struct Receive<W: Weigh> {
 fn split_lane<W: Weigh>(posts: &[SharedNode<W>], lane: Lane<W>) -> (Wire, Receive<W>)
     requires { IsLane posts.now lane }
     ensures wire { IsWireOf posts.now lane result.0 }
+    ensures unused { IsUnused result.0 }
     ensures receive { IsReceiveOf lane result.1 }
     ensures ready { IsReadyToReceive posts.now result.1 }
 {
@@ -57,6 +59,7 @@ fn split_lanes<W: Weigh>(
 ) -> Result<(Vec<Wire>, Vec<Receive<W>>), AllocError>
     requires { All (IsLane posts.now) lanes.items }
     ensures wires { IfOk result (λ r. AllZip (IsWireOf posts.now) lanes.items r.0.items) }
+    ensures unused { IfOk result (λ r. AllByRecursion IsUnused r.0.items) }
     ensures receives { IfOk result (λ r. AllZip IsReceiveOf lanes.items r.1.items) }
     ensures ready { IfOk result (λ r. All (IsReadyToReceive posts.now) r.1.items) }
 {

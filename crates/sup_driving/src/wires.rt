@@ -1,8 +1,8 @@
 //! A driver's ends of the links to the other nodes.
-ghost use Rattle.std.specs.Prelude.{◌≡◌, [], ◌∷◌, Some, IfOk, IfErr, OnOk};
+ghost use Rattle.std.specs.Prelude.{◌≡◌, [], ◌∷◌, IfOk, IfErr, OnOk};
 ghost use Rattle.std.specs.List.{AllZip};
 ghost use Rattle.sup_replica.specs.Nodes.{is_named};
-ghost use Rattle.sup_driving.specs.Wires.{HasPut, IsEnded, StopsPutting};
+ghost use Rattle.sup_driving.specs.Wires.{HasPut, HavePut, IsEnded, StopsPutting};
 
 use std::alloc::{AllocError, Global};
 use std::sync::Wait;
@@ -33,7 +33,7 @@ fn put_one<R: Wait>(
     letter: &Letter,
     wire: &mut Wire,
 ) -> Result<(), ThreadFault>
-    ensures put { OnOk result (HasPut (Some letter.now) wire.old wire.new) }
+    ensures put { OnOk result (HasPut letter.now wire.old wire.new) }
     ensures fault { IfErr result (StopsPutting (wire.new ∷ [])) }
 {
     if is_for(&wire.to, letter) {
@@ -50,7 +50,7 @@ pub(crate) fn put_letter<R: Wait>(
     letter: &Letter,
     wires: &mut [Wire],
 ) -> Result<(), ThreadFault>
-    ensures put { OnOk result (AllZip (HasPut (Some letter.now)) wires.old wires.new) }
+    ensures put { OnOk result (AllZip (HasPut letter.now) wires.old wires.new) }
     ensures fault { IfErr result (StopsPutting wires.new) }
 {
     let Some((first, others)) = wires.split_first_mut() else {
@@ -58,6 +58,22 @@ pub(crate) fn put_letter<R: Wait>(
     };
     put_one(rt, alloc, letter, first)?;
     put_letter(rt, alloc, letter, others)
+}
+
+// Puts letters in their order, each into the link to its node.
+pub(crate) fn put_letters<R: Wait>(
+    rt: &R,
+    alloc: Global,
+    letters: Vec<Letter>,
+    wires: &mut [Wire],
+) -> Result<(), ThreadFault>
+    ensures put { OnOk result (AllZip (HavePut letters.items) wires.old wires.new) }
+    ensures fault { IfErr result (StopsPutting wires.new) }
+{
+    for letter in letters {
+        put_letter(rt, alloc, &letter, wires)?;
+    }
+    Ok(())
 }
 
 // Puts the end marks, and keeps nothing.

@@ -18,7 +18,7 @@ use Rattle.sup_node_gate.specs.declared.view.View.{View}
 use Rattle.sup_node_gate.specs.Parts.{counted_in, counted_at}
 use Rattle.sup_node_gate.specs.Views.{PlacesRise, calls_of, merged, taking, raising, freeing, looking, joining}
 use Rattle.sup_node_gate.specs.Holdings.{AddsEntry}
-use Rattle.sup_node_gate.specs.Rule.{IsSeenAt, IsTurnTaken}
+use Rattle.sup_node_gate.specs.Rule.{IsSeenAt, IsTurnTaken, looks}
 use Rattle.sup_node_gate.specs.Calls.{EntersCall, KeepsOwn, IsFull, HasNoMemory, RefusesCall, ActsInTurn, JoinedViews, MayAct, IsIdle, KeepsStanding}
 use Rattle.sup_node_gate.specs.Shares.{is_shared}
 use Rattle.sup_node_gate.specs.Shuffles.{IsShuffle}
@@ -60,7 +60,8 @@ has_no_memory g start bound v h opens taken seen not_full = record { held = h; t
 pub looked_keeps : (g : Weigher) (start : Parts) (v : View) (h : Holding) → v.opening ≡ Some start → IsSeenAt g v h → KeepsOwn g (counted_in start) v (looking v h.history)
 looked_keeps g start v h opens seen = record { begins = seen.0; replays = (counted_at h, seen.3 start opens); places = refl; rises = seen.2 }
 
-calls_in : (v : View) (xs : List Entry) → IsPrefix v.seen xs → PlacesRise 0 v.own (length v.seen) → map (get_elem? xs) v.own ≡ calls_of v
+-- a pass that made no call has its own calls as they stood, in what it sees more
+pub calls_in : (v : View) (xs : List Entry) → IsPrefix v.seen xs → PlacesRise 0 v.own (length v.seen) → map (get_elem? xs) v.own ≡ calls_of v
 calls_in v xs p placed = subst (λ (l : List Entry). map (get_elem? l) v.own ≡ calls_of v) (sym p.1) (entries_more v.seen p.0 v.own 0 placed)
 
 rises_in : (v : View) (xs : List Entry) → IsPrefix v.seen xs → PlacesRise 0 v.own (length v.seen) → PlacesRise 0 v.own (length xs)
@@ -116,7 +117,7 @@ enters_same g s v u e v' seen own x = record {
   calls = x.calls ∙ (λ i. map (get_elem? (seen i)) (own i) ++ some e ∷ []);
 }
 
-keeps_same : (g : Weigher) (s : CountedStation) (v u v' : View) → v.seen ≡ u.seen → v.own ≡ u.own → KeepsOwn g s v v' → KeepsOwn g s u v'
+pub keeps_same : (g : Weigher) (s : CountedStation) (v u v' : View) → v.seen ≡ u.seen → v.own ≡ u.own → KeepsOwn g s v v' → KeepsOwn g s u v'
 keeps_same g s v u v' seen own x = record {
   begins = subst (λ (l : List Entry). IsPrefix l v'.seen) seen x.begins;
   replays = x.replays;
@@ -142,3 +143,18 @@ refuses_same entered g s bound v u e v' seen own x = enters_same g s v u e v' se
 pub acts_same : (g : Weigher) (s : CountedStation) (bound : ℕ) (v u : View) (a : Act) (now : ℕ) (r : StationAnswer) (v' : View) → v.seen ≡ u.seen → v.own ≡ u.own → ActsInTurn g s bound v a now r v' → ActsInTurn g s bound u a now r v'
 acts_same g s bound v u a now (Ok d) v' seen own x = enters_same g s v u (entry a now (Ok d)) v' seen own x
 acts_same g s bound v u a now (Err r) v' seen own x = refuses_same (standing_of r) g s bound v u (entry a now (Err r)) v' seen own x
+
+-- what the steps of a reading come to: the seat is as it was, but has seen what lies in the slot, and has given the turn back
+pub all_read : {H : Type 0} (g : Weigher) (m k w : Me (P.Option H) View) {last : Me (P.Option H) View} {found : ℕ} (h : Holding) → k ≡ m → looks g k found w → m.0.turn ≡ Some h → last ≡ (freeing w.0, []) → last ≡ (freeing (looking m.0 h.history), [])
+all_read {H = H} g m k w h same look turn back =
+    let is : look.0 ≡ h = look.4 h (ap (λ (x : Me (P.Option H) View). x.0.turn) same ∙ turn) in
+    back ∙ (ap (λ (x : Me (P.Option H) View). (freeing x.0, [])) look.1 ∙ (λ i. (freeing (looking (same i).0 (is i).history), [])))
+
+pub read_keeps : (g : Weigher) (start : Parts) (v : View) (h : Holding) → v.opening ≡ Some start → IsSeenAt g v h → KeepsOwn g (counted_in start) v (freeing (looking v h.history))
+read_keeps g start v h opens seen = record { begins = seen.0; replays = (counted_at h, seen.3 start opens); places = refl; rises = seen.2 }
+
+pub read_own : {H : Type 0} (v : View) (h : Holding) (m : Me (P.Option H) View) → m ≡ (freeing (looking v h.history), []) → IsPrefix v.seen h.history → PlacesRise 0 v.own (length v.seen) → calls_of m.0 ≡ calls_of v
+read_own {H = H} v h m is begins placed = ap (λ (x : Me (P.Option H) View). calls_of x.0) is ∙ calls_in v h.history begins placed
+
+pub own_same : (v u : View) → v.seen ≡ u.seen → v.own ≡ u.own → calls_of v ≡ calls_of u
+own_same v u seen own i = map (get_elem? (seen i)) (own i)

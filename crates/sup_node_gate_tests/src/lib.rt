@@ -9,6 +9,8 @@ mod busy;
 #[cfg(test)]
 mod given;
 #[cfg(test)]
+mod letters;
+#[cfg(test)]
 mod refused;
 #[cfg(test)]
 mod restarts;

@@ -48,22 +48,20 @@ module _ {W : Type 0} {h : WeighGhosts W} where
   -- What the runner did and answered of the nodes, by their names, is an argument, `did`, and of which of their commands the checkpoint was told
   -- another, `stood`: relations that only their own calls show.
 
-  -- some list has in order the letters to the other node of the answers of these entries, and what the link makes of it stands in order among
-  -- the deliveries to that node; the pass there delivered just this, and made no other call but exits of children that didn't start at it, as the
-  -- runner answered, which was told all that the answers have to be done
+  -- what the link makes of the letters to the other node, of the answers of these entries, stands in order among the deliveries to that node; the
+  -- pass there delivered just this, and made no other call but exits of children that didn't start at it, as the runner answered, which was told
+  -- of all effects of the answers
   pub record CarriedLetters (did : Bytes → Effect → Bool → Type 0) (posts : List (SharedNode W h)) (entries : List Entry) (lane : Lane W h) (arrived : Arrived W h) : Type 0 where
     pub to : arrived.to ≡ lane.to
     pub post : SharedNode W h
     pub stands : slice_get posts lane.to ≡ Some post
     pub seat : IsOf kept_by failures_by sound_by post.gate arrived.seat
-    pub put : List Bytes
-    pub letters : Sublist (letters_to post.name entries) put
-    pub delivered : Sublist (image (script_of lane.entry) put) (deliveries (view_of arrived.seat).seen)
-    pub made : MakesCalls (did post.name) (view_of lane.seat) (map delivery (image (script_of lane.entry) put)) (view_of arrived.seat)
+    pub delivered : Sublist (image (script_of lane.entry) (letters_to post.name entries)) (deliveries (view_of arrived.seat).seen)
+    pub made : MakesCalls (did post.name) (view_of lane.seat) (map delivery (image (script_of lane.entry) (letters_to post.name entries))) (view_of arrived.seat)
 
-  -- the commands stand in order, each once with its moment, in what the driver's pass has seen, and their letters were carried; the pass made no
-  -- other call but exits of children that didn't start at a command, as the runner answered, which was told all that the answers have to be done; the
-  -- checkpoint was told of each command
+  -- the commands stand in order, each once with its moment, in what the driver's pass has seen, and the letters of all that it has seen were carried,
+  -- and nothing else; the pass made no other call but exits of children that didn't start at a command, as the runner answered, which was told of
+  -- all effects of the answers; the checkpoint was told of each command
   pub record DrivesNode (did : Bytes → Effect → Bool → Type 0) (stood : Bytes → ℕ → Type 0) (posts : List (SharedNode W h)) (drive : Drive W h) (driven : Driven W h) : Type 0 where
     pub seat : IsSeatAt posts drive.at driven.seat
     pub entries : List Entry
@@ -71,7 +69,7 @@ module _ {W : Type 0} {h : WeighGhosts W} where
     pub seen : Sublist entries (view_of driven.seat).seen
     pub made : MakesCalls (did seat.0.name) (view_of drive.seat) (map asked drive.commands.items) (view_of driven.seat)
     pub stood_by : StoodByAll (stood seat.0.name) (length drive.commands.items)
-    pub carried : AllZip (CarriedLetters did posts entries) drive.lanes.items driven.arrived.items
+    pub carried : AllZip (CarriedLetters did posts (view_of driven.seat).seen) drive.lanes.items driven.arrived.items
 
   -- what a driver gives back
   abbrev pub GivesDriven : (Bytes → Effect → Bool → Type 0) → (Bytes → ℕ → Type 0) → List (SharedNode W h) → Drive W h → Result (Driven W h) ThreadFault → Type 0

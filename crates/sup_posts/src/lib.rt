@@ -9,6 +9,6 @@ pub mod thread_fault;
 
 pub use fault::RunFault;
 pub use jobs::{Arrived, Drive, Driven, Lane};
-pub use shared_node::{Gate, Outbox, Seat, SharedNode};
+pub use shared_node::{Gate, Seat, SharedNode};
 pub use telling::{graver, gravest};
 pub use thread_fault::ThreadFault;

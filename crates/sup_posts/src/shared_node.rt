@@ -1,9 +1,7 @@
 //! A node of a run, as its threads share it.
-use std::sync::Mutex;
 use sup_keeper::MemKeeper;
 use sup_node_gate::{NodeGate, Pass};
 use sup_placement::Weigh;
-use sup_replica::Letter;
 use sup_specs::NodeName;
 
 /// A node's gate. Its image is kept in memory.
@@ -12,13 +10,9 @@ pub type Gate<W> = NodeGate<MemKeeper, W>;
 /// A thread's pass of a gate.
 pub type Seat<W> = Pass<MemKeeper, W>;
 
-/// Letters of a node's receivers, which its driver puts.
-pub type Outbox = Mutex<Vec<Letter>>;
-
 /// A node of a run.
 #[derive(Drop)]
 pub struct SharedNode<W: Weigh> {
     pub name: NodeName,
     pub gate: Gate<W>,
-    pub outbox: Outbox,
 }

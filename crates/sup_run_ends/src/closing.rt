@@ -23,11 +23,7 @@ fn close<W: Weigh>(post: SharedNode<W>, seat: Seat<W>) -> Result<History, Thread
     ensures sole { IfOk result (λ history. IsWhole (view_of seat).shares → calls_of (view_of seat) ≡ map some history.entries.items) }
     ensures fault { IfErr result (λ f. f ≡ OutOfMemory) }
 {
-    let SharedNode {
-        name,
-        gate,
-        outbox: _,
-    } = post;
+    let SharedNode { name, gate } = post;
     // No turn is held by then: each call has returned. A contract doesn't say so.
     let Ok((_, entries)) = gate.try_close(seat) else {
         return Err(ThreadFault::OutOfMemory);

@@ -7,7 +7,6 @@ ghost use Rattle.sup_run_ends.specs.Steps.{IsSharedNodeOf, IsSeatOf};
 ghost use Rattle.sup_posts.specs.declared.fault.RunFault.TheVariants.{OutOfMemory};
 
 use std::alloc::Global;
-use std::sync::Mutex;
 use sup_keeper::MemKeeper;
 use sup_node_gate::NodeGate;
 use sup_placement::Weigh;
@@ -35,8 +34,7 @@ fn open_post<W: Weigh>(
     let Ok((gate, seat)) = NodeGate::new(alloc, station, bound) else {
         return Err(RunFault::OutOfMemory);
     };
-    let outbox = Mutex::new(Vec::new(alloc));
-    Ok((SharedNode { name, gate, outbox }, seat))
+    Ok((SharedNode { name, gate }, seat))
 }
 
 /// These nodes, in their order, each one's history with room for `bound` entries, from 1 to

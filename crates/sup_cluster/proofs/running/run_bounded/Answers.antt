@@ -41,6 +41,6 @@ returns-clause-stood g c = subst (All (HasStoodBy (stood_by g.C.Checkpoint.was_b
 
 pub returns-clause-bound : goal.returns-clause-bound
 returns-clause-bound g c = subst (All (λ (k : History). length k.entries.items ≤ c.args.bound)) (sym c.new.ensures)
-    (all_within (g.N.Runner.did c.args.runner.now) (stood_by g.C.Checkpoint.was_before g.C.Checkpoint.was_answered c.args.checkpoint.now) g.W.Weigh.weight_of c.args.plan.now.config c.args.bound c.args.plan.now.nodes.items c.in_ok-posts.posts.items c.in_ok-histories.histories.items
+    (all_within g.W.Weigh.weight_of c.args.plan.now.config c.args.bound c.args.plan.now.nodes.items c.in_ok-posts.posts.items c.in_ok-histories.histories.items
     (subst (λ l. AllZip (IsSharedNodeOf c.args.plan.now.config c.args.bound) l c.in_ok-posts.posts.items) c.deref.ensures.value c.in_ok-posts.ensures.posts)
     c.in_ok-histories.ensures.histories.histories)

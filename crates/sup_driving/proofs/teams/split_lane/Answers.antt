@@ -11,6 +11,9 @@ returns-clause-wire g c = record {
   entry = refl;
 }
 
+pub returns-clause-unused : goal.returns-clause-unused
+returns-clause-unused g c = c.requires.none_put
+
 pub returns-clause-receive : goal.returns-clause-receive
 returns-clause-receive g c = record { to = refl; seat = refl; exit = refl }
 

@@ -1,11 +1,12 @@
 use Rattle.std.proofs.Common.{rules, ◌++◌, [], ◌∷◌, All, ap, sym, ◌∙◌, append_assoc, subst, refl}
-use Rattle.std.specs.List.{AllZip}
+use Rattle.std.specs.List.{AllZip, AllByRecursion}
 use Rattle.std.proofs.lemmas.List.Elements.{All-rest}
 use Rattle.std.proofs.lemmas.Slice.Zip.{all_zipped_more}
 use Rattle.sup_posts.specs.Jobs.{IsLane}
+use Rattle.sup_driving.specs.Wires.{IsUnused}
 use Rattle.sup_driving.specs.Teams.{IsWireOf, IsReceiveOf, IsReadyToReceive}
 use Rattle.sup_posts.proofs.ItemLaws.{all_none, all_snoc}
-use Rattle.sup_driving.proofs.ItemPlaceLaws.{first_of}
+use Rattle.sup_driving.proofs.ItemPlaceLaws.{first_of, each_more}
 use Rattle.sup_driving.proofs.teams.split_lanes.Goals as goal
 
 pub loop-lane-init : goal.loop-lane-init
@@ -15,6 +16,7 @@ loop-lane-init g c = (
   subst (AllZip (IsWireOf c.args.posts.now) []) (sym c.in_ok-wires.ensures.items) tt,
   subst (AllZip (IsReceiveOf {W = g.row.W.Denot} {h = g.W.Weigh}) []) (sym c.in_ok-receives.ensures.items) tt,
   subst (All (IsReadyToReceive c.args.posts.now)) (sym c.in_ok-receives.ensures.items) (all_none (IsReadyToReceive c.args.posts.now)),
+  subst (AllByRecursion IsUnused) (sym c.in_ok-wires.ensures.items) tt,
 )
 
 pub split_lane-wire-requires : goal.split_lane-wire-requires
@@ -29,4 +31,5 @@ loop-lane-preserved g c = (
   subst (AllZip IsReceiveOf (c.loop-lane.yielded ++ c.in-Some.lane ∷ [])) (sym c.in_ok-push-2.ensures.items)
       (all_zipped_more IsReceiveOf c.loop-lane.yielded c.loop-lane.receives.items c.in-Some.lane c.split_lane-wire.result.1 c.loop-lane.invariant.3 c.split_lane-wire.ensures.receive),
   subst (All (IsReadyToReceive c.args.posts.now)) (sym c.in_ok-push-2.ensures.items) (all_snoc (IsReadyToReceive c.args.posts.now) c.loop-lane.receives.items c.split_lane-wire.result.1 c.loop-lane.invariant.4 c.split_lane-wire.ensures.ready),
+  subst (AllByRecursion IsUnused) (sym c.in_ok-push.ensures.items) (each_more IsUnused c.loop-lane.wires.items c.split_lane-wire.result.0 c.loop-lane.invariant.5 c.split_lane-wire.ensures.unused),
 )

@@ -1,6 +1,7 @@
 use Rattle.std.proofs.Common.{◌≡◌, ◌++◌, All}
-use Rattle.std.specs.List.{AllZip}
+use Rattle.std.specs.List.{AllZip, AllByRecursion}
 use Rattle.sup_posts.specs.Jobs.{IsLane}
+use Rattle.sup_driving.specs.Wires.{IsUnused}
 use Rattle.sup_driving.specs.Teams.{IsWireOf, IsReceiveOf, IsReadyToReceive}
 use Rattle.sup_driving.proofs.teams.split_lanes.Given as goal
 
@@ -11,3 +12,4 @@ invariant-loop-lane g l =
     × AllZip (IsWireOf l.posts) l.yielded l.wires.items
     × AllZip IsReceiveOf l.yielded l.receives.items
     × All (IsReadyToReceive l.posts) l.receives.items
+    × AllByRecursion IsUnused l.wires.items

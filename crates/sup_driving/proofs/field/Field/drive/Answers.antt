@@ -1,18 +1,26 @@
 use Rattle.std.proofs.Common.{arith, ◌≡◌, ◌+◌, suc, ◌++◌, [], ◌∷◌, length, length-append, map, ap, sym, ◌∙◌, append_assoc, subst, refl}
 use Rattle.std.proofs.lemmas.List.{map-append}
-use Rattle.std.proofs.lemmas.Result.{IfOk-weaker}
 use Rattle.sup_node_gate.specs.Gates.{view_of}
 use Rattle.sup_plan.specs.Calls.{asked}
 use Rattle.sup_posts.specs.Rounds.{MakesCalls, StoodByAll}
-use Rattle.sup_driving.specs.Called.{stood_by}
-use Rattle.sup_driving.specs.Wires.{PutLetters}
-use Rattle.sup_driving.proofs.RoundLaws.{makes_none, makes_then, stood_more}
+use Rattle.sup_driving.specs.Called.{CallsStand, stood_by}
 use Rattle.sup_posts.proofs.ItemLaws.{none_left}
-use Rattle.sup_driving.proofs.WirePutLaws.{all_same, all_later, did_none, did_later}
+use Rattle.sup_driving.proofs.PassCallLaws.{stand_none, stand_later}
+use Rattle.sup_driving.proofs.RoundLaws.{makes_none, makes_then, makes_still, stood_more}
+use Rattle.sup_driving.proofs.WirePutLaws.{all_same, all_later, none_shipped}
 use Rattle.sup_driving.proofs.field.Field.drive.Goals as goal
 
 pub loop-command-init : goal.loop-command-init
-loop-command-init g c = (refl, c.requires, all_same c.args.wires.now, did_none (view_of c.args.seat.now).seen c.args.wires.now, makes_none (g.N.Runner.did c.args.self.now.runner.now c.args.post.now.name) (view_of c.args.seat.now), refl, λ place lt. absurd (omega (arith, lt)))
+loop-command-init g c = (
+  refl,
+  c.requires.of,
+  all_same c.args.wires.now,
+  none_shipped (view_of c.args.seat.now).seen c.args.wires.now c.requires.unused,
+  stand_none (view_of c.args.seat.now).seen,
+  makes_none (g.N.Runner.did c.args.self.now.runner.now c.args.post.now.name) (view_of c.args.seat.now),
+  refl,
+  λ place lt. absurd (omega (arith, lt)),
+)
 
 pub loop-command-preserved : goal.loop-command-preserved
 loop-command-preserved g c =
@@ -24,44 +32,41 @@ loop-command-preserved g c =
     = sym (length-append c.loop-command.yielded (c.in-Some.command ∷ rest))
     ∙ ap length (ap (λ l. c.loop-command.yielded ++ l) (sym c.in-Some.ensures.steps.0) ∙ (c.loop-command.invariant.0 ∙ c.into_iter-command-iterator.ensures.into_iter_gives.0)) in
     let here : c.saturating_add-place.result ≡ n + 1
-    = omega (arith, c.saturating_add-place.ensures, c.loop-command.invariant.5, long, c.args.commands.ok.0, c.args.commands.ok.1, c.args.commands.small) in (
+    = omega (arith, c.saturating_add-place.ensures, c.loop-command.invariant.6, long, c.args.commands.ok.0, c.args.commands.ok.1, c.args.commands.small) in (
       append_assoc c.loop-command.yielded (c.in-Some.command ∷ []) c.next.new.self.rest.items ∙ (ap (λ l. c.loop-command.yielded ++ l) (sym c.in-Some.ensures.steps.0) ∙ c.loop-command.invariant.0),
       c.make.ensures.of,
-      all_later c.args.wires.now c.loop-command.wires c.make.new.wires c.loop-command.invariant.2 c.in_ok-make.ensures.later,
-      subst (λ l. PutLetters l (view_of c.make.new.seat).seen c.make.new.wires) (sym (map-append asked c.loop-command.yielded (c.in-Some.command ∷ [])))
-          (c.in_ok-make.ensures.did (map asked c.loop-command.yielded) c.loop-command.invariant.3),
+      all_later c.args.wires.now c.loop-command.wires c.make.new.wires c.loop-command.invariant.2 c.in_ok-shipped.ensures.later,
+      c.in_ok-shipped.ensures.shipped,
+      subst (λ l. CallsStand l (view_of c.make.new.seat).seen) (sym (map-append asked c.loop-command.yielded (c.in-Some.command ∷ [])))
+          (c.in_ok-shipped.ensures.did (map asked c.loop-command.yielded) c.loop-command.invariant.4),
       subst (λ l. MakesCalls (g.N.Runner.did c.args.self.now.runner.now c.args.post.now.name) (view_of c.args.seat.now) l (view_of c.make.new.seat)) (sym (map-append asked c.loop-command.yielded (c.in-Some.command ∷ [])))
           (makes_then (g.N.Runner.did c.args.self.now.runner.now c.args.post.now.name) (view_of c.args.seat.now) (view_of c.loop-command.seat) (view_of c.make.new.seat) (map asked c.loop-command.yielded) (asked c.in-Some.command ∷ [])
-          c.loop-command.invariant.4 c.in_ok-make.ensures.made),
+          c.loop-command.invariant.5 c.in_ok-shipped.ensures.made),
       here ∙ sym (length-append c.loop-command.yielded (c.in-Some.command ∷ [])),
       subst (StoodByAll stood) (sym (length-append c.loop-command.yielded (c.in-Some.command ∷ []) ∙ plus_one))
-          (stood_more stood (length c.loop-command.yielded) c.loop-command.invariant.6 (subst stood (here ∙ plus_one) c.in_ok-make.ensures.stood)),
+          (stood_more stood (length c.loop-command.yielded) c.loop-command.invariant.7 (subst stood (here ∙ plus_one) c.in_ok-shipped.ensures.stood)),
     )
 
 pub returns-clause-stood : goal.returns-clause-stood
 returns-clause-stood g c =
     let all = none_left c.loop-command.yielded c.loop-command.command-iterator.rest.items c.args.commands.items (sym c.loop-command.command-iterator.rest.ok.0 ∙ c.in-None.ensures.steps.0)
     (c.loop-command.invariant.0 ∙ c.into_iter-command-iterator.ensures.into_iter_gives.0) in
-    IfOk-weaker c.empty.result _ _
-    (λ u later. subst (λ l. StoodByAll (stood_by g.C.Checkpoint.was_before g.C.Checkpoint.was_answered c.args.self.now.checkpoint.now c.args.post.now.name) (length l)) all c.loop-command.invariant.6)
-    c.empty.ensures.later
+    subst (λ l. StoodByAll (stood_by g.C.Checkpoint.was_before g.C.Checkpoint.was_answered c.args.self.now.checkpoint.now c.args.post.now.name) (length l)) all c.loop-command.invariant.7
 
 pub returns-clause-later : goal.returns-clause-later
-returns-clause-later g c = IfOk-weaker c.empty.result _ _ (λ u later. all_later c.args.wires.now c.loop-command.wires c.empty.new.wires c.loop-command.invariant.2 later) c.empty.ensures.later
+returns-clause-later g c = all_later c.args.wires.now c.loop-command.wires c.ship.new.wires c.loop-command.invariant.2 c.in_ok-ship.ensures.later
 
 pub returns-clause-did : goal.returns-clause-did
 returns-clause-did g c =
     let all = none_left c.loop-command.yielded c.loop-command.command-iterator.rest.items c.args.commands.items (sym c.loop-command.command-iterator.rest.ok.0 ∙ c.in-None.ensures.steps.0)
     (c.loop-command.invariant.0 ∙ c.into_iter-command-iterator.ensures.into_iter_gives.0) in
-    IfOk-weaker c.empty.result _ _
-    (λ u later. did_later (map asked c.args.commands.items) (view_of c.loop-command.seat).seen c.loop-command.wires c.empty.new.wires later
-    (subst (λ l. PutLetters (map asked l) (view_of c.loop-command.seat).seen c.loop-command.wires) all c.loop-command.invariant.3))
-    c.empty.ensures.later
+    stand_later (map asked c.args.commands.items) (view_of c.loop-command.seat) (view_of c.ship.new.seat) c.ship.ensures.seen
+    (subst (λ l. CallsStand (map asked l) (view_of c.loop-command.seat).seen) all c.loop-command.invariant.4)
 
 pub returns-clause-made : goal.returns-clause-made
 returns-clause-made g c =
+    let did = g.N.Runner.did c.args.self.now.runner.now c.args.post.now.name in
     let all = none_left c.loop-command.yielded c.loop-command.command-iterator.rest.items c.args.commands.items (sym c.loop-command.command-iterator.rest.ok.0 ∙ c.in-None.ensures.steps.0)
     (c.loop-command.invariant.0 ∙ c.into_iter-command-iterator.ensures.into_iter_gives.0) in
-    IfOk-weaker c.empty.result _ _
-    (λ u later. subst (λ l. MakesCalls (g.N.Runner.did c.args.self.now.runner.now c.args.post.now.name) (view_of c.args.seat.now) (map asked l) (view_of c.loop-command.seat)) all c.loop-command.invariant.4)
-    c.empty.ensures.later
+    makes_still did (view_of c.args.seat.now) (view_of c.loop-command.seat) (view_of c.ship.new.seat) (map asked c.args.commands.items)
+    (subst (λ l. MakesCalls did (view_of c.args.seat.now) (map asked l) (view_of c.loop-command.seat)) all c.loop-command.invariant.5) c.ship.ensures.own c.ship.ensures.shares

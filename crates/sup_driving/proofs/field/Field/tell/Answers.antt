@@ -37,7 +37,7 @@ loop-effect-preserved g c =
     let called = c.in_ok-effects.ensures.called in (
       c.exit.ensures.of,
       more_then (view_of c.args.seat.now) (view_of l.seat) (view_of c.exit.new.seat) l.invariant.1
-          (called_more (view_of l.seat) (failed (c.in-Start.id, c.in-Start.inc)) c.args.now c.in_ok-effects.effects called.0 (view_of c.exit.new.seat) called.1),
+          (called_more (view_of l.seat) (failed (c.in-Start.id, c.in-Start.inc)) c.args.now c.in_ok-effects.effects (view_of c.exit.new.seat) called),
       λ u t. l.invariant.2 u (tells_exit did c.args.now all c.in-Start.id c.in-Start.inc c.in-Start.spec later l.waiting.items c.push_back.new.self.items c.in_ok-effects.effects
           (view_of l.seat) (view_of c.exit.new.seat) u next c.in-Ok.ensures.items answered called t),
     )
