@@ -1,9 +1,51 @@
 -- A node that threads share.
-use Rattle.std.specs.Prelude.{List}
+use Rattle.std.specs.Prelude.{◌≡◌, List, [], ◌∷◌, ◌++◌, map}
+use mathlib.Core.Option.{some}
 use Rattle.sup_placement.specs.Weights.{flat_weight}
+use Rattle.sup_replica.specs.declared.event.Act.{Act}
 use Rattle.sup_node_gate.specs.declared.entry.Entry.{Entry}
+use Rattle.sup_node_gate.specs.declared.view.View.{View}
 use Rattle.sup_node_gate.specs.Histories.{CountedStation, ReplaysEntries}
+use Rattle.sup_node_gate.specs.Shuffles.{IsShuffle}
+use Rattle.sup_node_gate.specs.Views.{calls_of}
+use Rattle.sup_plan.specs.Calls.{Call, call_of}
+use Rattle.sup_plan.specs.Sublists.{Sublist}
 
 -- the history, replayed from the station that was given, is what was answered, and leads to the one that comes back
 abbrev pub IsReplayed : CountedStation → CountedStation → List Entry → Type 0
 IsReplayed opening station history = ReplaysEntries flat_weight opening history station
+
+-- the call of an act at the first moment
+abbrev pub at_first : Act → Call
+at_first act = (act, 0)
+
+-- these entries are of some of the acts, each once at most and in their order, all at the first moment
+abbrev pub AreOf : List Act → List Entry → Type 0
+AreOf acts entries = Sublist (map call_of entries) (map at_first acts)
+
+-- the history is a shuffle of calls of some of the one thread's acts and of some of the other's, and nothing else
+pub record IsSharedBy (left right : List Act) (history : List Entry) : Type 0 where
+  pub one : List Entry
+  pub other : List Entry
+  pub left_are : AreOf left one
+  pub right_are : AreOf right other
+  pub whole : IsShuffle one other history
+
+-- the pass's own calls since are one of this act, or none
+abbrev pub CallsOnce : Act → View → View → Type 0
+CallsOnce act v v' = (entries : List Entry) × AreOf (act ∷ []) entries × (calls_of v' ≡ calls_of v ++ map some entries)
+
+-- the pass's own calls since are of some of these acts; what it has of the gate stays
+pub record CallsSome (acts : List Act) (v v' : View) : Type 0 where
+  pub entries : List Entry
+  pub are : AreOf acts entries
+  pub own : calls_of v' ≡ calls_of v ++ map some entries
+  pub shares : v'.shares ≡ v.shares
+
+-- the pass's own calls are a shuffle of calls of some of the one list's acts and of some of the other's
+pub record CallsShared (left right : List Act) (v : View) : Type 0 where
+  pub one : List Entry
+  pub other : List Entry
+  pub left_are : AreOf left one
+  pub right_are : AreOf right other
+  pub own : IsShuffle (map some one) (map some other) (calls_of v)
