@@ -3,7 +3,6 @@ use Rattle.std.specs.Prelude.{◌≡◌, ◌≤◌, ◌||◌, nat_le, ℕ, Bool,
 use Rattle.std.specs.Io.KnownBytes.{Consumes}
 use Rattle.sup_jobs.specs.declared.input.InputFault.{InputFault}
 use Rattle.sup_jobs.specs.declared.input.InputFault.TheVariants.{TooLong, Device, OutOfMemory}
-use Rattle.sup_jobs.specs.declared.input.questions.Questions.{Questions}
 
 -- The bytes that were taken are the input, or one byte more than an input may have, or at most as many as it may have.
 abbrev pub IsReadAs : {X : Type 0} → (X → List ℕ) → Result X InputFault → List ℕ → Type 0
@@ -16,6 +15,12 @@ IsReadAs view (Err OutOfMemory) taken = length taken ≤ 1048576
 abbrev pub ReadsFor : {X : Type 0} → (X → List ℕ) → Result X InputFault → Option (List ℕ) → Option (List ℕ) → Type 0
 ReadsFor view answer before after = (taken : List ℕ) × IsReadAs view answer taken × Consumes before after taken
 
+-- What is known of a reader that is asked for bytes.
+pub record AskedReader : Type 0 where
+  pub most : ℕ  -- so often it may be asked
+  pub asked : ℕ  -- so often it was, the interrupted questions among them
+  pub failed : Bool
+
 -- No more questions may be put: the reader failed, or was asked as often as it may be.
-abbrev pub is_spent : Questions → Bool
-is_spent questions = questions.failed || nat_le questions.most questions.asked
+abbrev pub is_spent : AskedReader → Bool
+is_spent reader = reader.failed || nat_le reader.most reader.asked

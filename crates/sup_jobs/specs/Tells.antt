@@ -1,8 +1,6 @@
 -- What a writer has got of a text (this project).
-use Rattle.std.specs.Prelude.{◌≡◌, ◌<◌, ◌⊎◌, true, ℕ, List, length, take, Option, Result, Ok, Err}
+use Rattle.std.specs.Prelude.{◌≡◌, ◌<◌, ◌⊎◌, true, ℕ, Bool, List, length, take, Option, Result, Ok, Err}
 use Rattle.std.specs.Io.KnownBytes.{Appends}
-use Rattle.sup_jobs.specs.declared.output.attempts.Attempts.{Attempts}
-use Rattle.sup_jobs.specs.declared.output.attempts.TheConstants.{WRITES}
 
 -- The writer has got a front of the text, and not all of it.
 abbrev pub IsCutShort : Option (List ℕ) → Option (List ℕ) → List ℕ → Type 0
@@ -13,6 +11,11 @@ abbrev pub Tells : {X E : Type 0} → Result X E → Option (List ℕ) → Optio
 Tells (Ok x) before written text = Appends before written text
 Tells (Err fault) before written text = IsCutShort before written text
 
--- No more attempts may be made: the writer failed, or was asked as often as it may be.
-abbrev pub IsWornOut : Attempts → Type 0
-IsWornOut attempts = (attempts.failed ≡ true) ⊎ (attempts.made ≡ WRITES)
+-- What is known of a writer that is given a text.
+pub record TriedWriter : Type 0 where
+  pub made : ℕ  -- so many attempts, the interrupted ones among them
+  pub failed : Bool
+
+-- No more attempts may be made: the writer failed, or was asked as often as can be counted.
+abbrev pub IsWornOut : TriedWriter → Type 0
+IsWornOut writer = (writer.failed ≡ true) ⊎ (writer.made ≡ 18446744073709551615)

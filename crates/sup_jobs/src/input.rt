@@ -1,6 +1,6 @@
 //! The whole input, of at most `LIMIT` bytes.
 
-ghost use Rattle.std.specs.Prelude.{◌≡◌, ℕ, ◌<◌, ◌≤◌, List, length, vec_len, vec_items, IfOk, IfSome, true, IsErrOf};
+ghost use Rattle.std.specs.Prelude.{◌≡◌, ℕ, ◌+◌, ◌*◌, ◌<◌, ◌≤◌, List, length, vec_len, vec_items, IfOk, IfSome, true, false, IsTrue, IsErrOf};
 ghost use Rattle.sup_jobs.specs.Reading.{ReadsFor, is_spent};
 
 mod questions;
@@ -49,11 +49,16 @@ fn read_by<R: Read>(
     reader: &mut R,
     questions: &mut Questions,
 ) -> Result<Vec<u8>, InputFault>
+    requires most { questions.old.most ≡ 2 * (LIMIT + 1) }
+    requires unasked { questions.old.asked ≡ 0 }
+    requires sound { questions.old.failed ≡ false }
     ensures short { IfOk result (λ bytes. vec_len bytes ≤ LIMIT) }
     ensures whole { IfOk result (λ bytes. IfSome (R.remaining reader.old) (λ all. all ≡ bytes.items)) }
     ensures long { IsErrOf result InputFault.TooLong
         → IfSome (R.remaining reader.old) (λ all. LIMIT < length all) }
     ensures taken { ReadsFor vec_items result (R.remaining reader.old) (R.remaining reader.new) }
+    ensures most { questions.new.most ≡ questions.old.most }
+    ensures failed { IsTrue questions.new.failed → IsErrOf result InputFault.Device }
     ensures device { IsErrOf result InputFault.Device → is_spent questions.new ≡ true }
 {
     let mut bytes = Vec::new(alloc);

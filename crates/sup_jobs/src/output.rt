@@ -1,6 +1,6 @@
 //! Writing whole texts.
 
-ghost use Rattle.std.specs.Prelude.{IsErr};
+ghost use Rattle.std.specs.Prelude.{◌≡◌, false, IsErr};
 ghost use Rattle.sup_jobs.specs.Tells.{IsWornOut, Tells};
 
 mod attempts;
@@ -28,6 +28,8 @@ fn put_by<W: Write>(
     bytes: &[u8],
     attempts: &mut Attempts,
 ) -> Result<(), DeviceFault>
+    requires unmade { attempts.old.made ≡ 0 }
+    requires sound { attempts.old.failed ≡ false }
     ensures told { Tells result (W.contents writer.old) (W.contents writer.new) bytes.now }
     ensures device { IsErr result → IsWornOut attempts.new }
 {

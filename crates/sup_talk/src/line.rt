@@ -1,6 +1,6 @@
 //! One line of an input, taken as it comes.
 
-ghost use Rattle.std.specs.Prelude.{◌≡◌, ◌<◌, true, IsErr, IsErrOf, OnOk};
+ghost use Rattle.std.specs.Prelude.{◌≡◌, ◌<◌, ◌≤◌, true, IsTrue, IsErr, IsErrOf, OnOk};
 ghost use Rattle.sup_jobs.specs.Reading.{is_spent};
 ghost use Rattle.sup_talk.specs.Taking.{TakesByte, TakesLine};
 
@@ -49,6 +49,12 @@ pub fn take_line<R: Read>(
 ) -> Result<Taken, LineFault>
     ensures taken { TakesLine LINE_LIMIT result (R.remaining reader.old) (R.remaining reader.new) }
     ensures device { IsErrOf result LineFault.Device → is_spent questions.new ≡ true }
+    ensures failed { IsTrue questions.new.failed → IsErrOf result LineFault.Device }
+    ensures most { questions.new.most ≡ questions.old.most }
+    ensures asked { OnOk result (questions.old.asked < questions.new.asked) }
+    ensures counted { questions.old.asked ≤ questions.new.asked }
+    // Where no questions are left, none is put.
+    ensures spent { is_spent questions.old ≡ true → questions.new ≡ questions.old }
 {
     let mut line = Vec::new(alloc);
     let mut is_long = false;
@@ -79,6 +85,8 @@ fn take_byte<R: Read>(reader: &mut R, questions: &mut Questions) -> Result<Optio
     ensures byte { TakesByte result (R.remaining reader.old) (R.remaining reader.new) }
     ensures most { questions.new.most ≡ questions.old.most }
     ensures asked { OnOk result (questions.old.asked < questions.new.asked) }
+    ensures counted { questions.old.asked ≤ questions.new.asked }
+    ensures failed { IsTrue questions.new.failed → IsErrOf result LineFault.Device }
     ensures device { IsErr result → is_spent questions.new ≡ true }
 {
     let mut byte = [0u8; 1];

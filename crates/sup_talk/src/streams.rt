@@ -1,10 +1,10 @@
 //! A host over a reader and a writer.
 
-ghost use Rattle.std.specs.Prelude.{◌≡◌, false, None};
-ghost use Rattle.sup_talk.specs.Hosts.{Seen};
+ghost use Rattle.std.specs.Prelude.{◌≡◌, true, false, None};
+ghost use Rattle.sup_talk.specs.Hosts.{Seen, Hears, IsTold};
 
 use crate::host::Host;
-use crate::line::{LineFault, Taken, take_line};
+use crate::line::{LINE_LIMIT, LineFault, Taken, take_line};
 use std::alloc::Global;
 use std::io::{Read, Write};
 use std::marker::Model;
@@ -21,13 +21,16 @@ pub struct Streams<R: Read + Drop, W: Write + Drop> {
 }
 
 impl<R: Read + Drop, W: Write + Drop> Model for Streams<R, W> {
-    ghost use Rattle.std.specs.Prelude.{◌||◌, None};
+    ghost use Rattle.std.specs.Prelude.{◌≡◌, ◌||◌, None};
     ghost use Rattle.sup_talk.specs.Hosts.{Seen};
     ghost use Rattle.sup_jobs.specs.Reading.{is_spent};
 
     ghost Value = { Seen };
 
     ghost view = { λ s. record { unread = R.remaining s.reader; written = W.contents s.writer; past = None; is_broken = is_spent s.questions || s.is_deaf } };
+
+    // The reader may be asked as often as can be counted.
+    ghost invariant = { λ s. s.questions.most ≡ 18446744073709551615 };
 }
 
 impl<R: Read + Drop, W: Write + Drop> Streams<R, W> {
@@ -54,11 +57,17 @@ impl<R: Read + Drop, W: Write + Drop> Streams<R, W> {
 impl<R: Read + Drop, W: Write + Drop> Host for Streams<R, W> {
     ghost seen = { λ s. s };
 
-    fn hear(&mut self, alloc: Global) -> Result<Taken, LineFault> {
+    fn hear(&mut self, alloc: Global) -> Result<Taken, LineFault>
+        ensures heard { Hears LINE_LIMIT result self.old self.new }
+        ensures broken { self.old.is_broken ≡ true → self.new.is_broken ≡ true }
+    {
         take_line(alloc, &mut self.reader, &mut self.questions)
     }
 
-    fn tell(&mut self, text: &[u8]) -> Result<(), DeviceFault> {
+    fn tell(&mut self, text: &[u8]) -> Result<(), DeviceFault>
+        ensures told { IsTold result self.old self.new text.now }
+        ensures broken { self.old.is_broken ≡ true → self.new.is_broken ≡ true }
+    {
         let told = put_all(&mut self.writer, text);
         if told.is_err() {
             self.is_deaf = true;

@@ -1,19 +1,28 @@
 //! Questions to a reader, counted.
 
-ghost use Rattle.std.specs.Prelude.{◌≡◌, ◌≢◌, ◌+◌, ◌<◌, false, not, IsTrue, IsErrAnd};
+ghost use Rattle.std.specs.Prelude.{◌≡◌, ◌≢◌, ◌+◌, ◌<◌, ◌↔◌, false, not, IsTrue, IsErrAnd};
 ghost use Rattle.std.specs.Io.KnownBytes.{ReadConsumes};
 ghost use Rattle.std.specs.Io.{ReadsAtMost};
 ghost use Rattle.std.specs.IoError.{error_kind};
 ghost use Rattle.sup_jobs.specs.Reading.{is_spent};
 
 use std::io::{self, ErrorKind, Read};
+use std::marker::Model;
 
 /// How often a reader may be asked and was, the interrupted questions among them, and whether it failed.
 #[derive(Drop)]
 pub struct Questions {
-    pub most: u64,
-    pub asked: u64,
-    pub failed: bool,
+    most: u64,
+    asked: u64,
+    failed: bool,
+}
+
+impl Model for Questions {
+    ghost use Rattle.sup_jobs.specs.Reading.{AskedReader};
+
+    ghost Value = { AskedReader };
+
+    ghost view = { λ q. record { most = q.most; asked = q.asked; failed = q.failed } };
 }
 
 impl Questions {
@@ -34,20 +43,23 @@ impl Questions {
     pub fn are_left(&self) -> bool
         ensures left { result ≡ not (is_spent self.now) }
         ensures countable { IsTrue result → self.now.asked < self.now.most }
+        ensures sound { IsTrue result → self.now.failed ≡ false }
     {
         !self.failed && self.asked < self.most
     }
 
-    /// Puts one question. It has failed exactly where the answer is an error that is no interruption.
+    /// Puts one question to a reader that didn't fail. It has failed then exactly where the answer is an error that is no interruption.
     pub fn ask<R: Read>(&mut self, reader: &mut R, buffer: &mut [u8]) -> io::Result<usize>
-        requires { self.old.asked < self.old.most }
+        requires countable { self.old.asked < self.old.most }
+        requires sound { self.old.failed ≡ false }
         ensures most { self.new.most ≡ self.old.most }
         ensures asked { self.new.asked ≡ self.old.asked + 1 }
         ensures failed { IsTrue self.new.failed
-            → IsErrAnd result (λ e. error_kind e ≢ ErrorKind.Interrupted) }
+            ↔ IsErrAnd result (λ e. error_kind e ≢ ErrorKind.Interrupted) }
         ensures bound { ReadsAtMost result buffer.new }
         ensures bytes { ReadConsumes (R.remaining reader.old) (R.remaining reader.new) result buffer.new }
     {
+        prove!(self.asked < self.most);
         self.asked += 1;
         let answer = reader.read(buffer);
         self.failed = match &answer {

@@ -1,12 +1,13 @@
 //! Attempts to write, counted.
 
-ghost use Rattle.std.specs.Prelude.{◌≡◌, ◌≢◌, ◌+◌, ◌<◌, ◌⊎◌, true, false, IsTrue, MatchResult};
+ghost use Rattle.std.specs.Prelude.{◌≡◌, ◌≢◌, ◌+◌, ◌<◌, ◌↔◌, ◌⊎◌, true, false, IsTrue, MatchResult};
 ghost use Rattle.std.specs.Io.KnownBytes.{WriteAppends};
 ghost use Rattle.std.specs.Io.{WritesAtMost};
 ghost use Rattle.std.specs.IoError.{error_kind};
 ghost use Rattle.sup_jobs.specs.declared.output.attempts.TheConstants.{WRITES};
 
 use std::io::{self, ErrorKind, Write};
+use std::marker::Model;
 
 /// A text is written by so many attempts at most.
 const WRITES: u64 = u64::MAX;
@@ -14,8 +15,16 @@ const WRITES: u64 = u64::MAX;
 /// How often a writer was asked, the interrupted attempts among them, and whether it failed.
 #[derive(Drop)]
 pub struct Attempts {
-    pub made: u64,
-    pub failed: bool,
+    made: u64,
+    failed: bool,
+}
+
+impl Model for Attempts {
+    ghost use Rattle.sup_jobs.specs.Tells.{TriedWriter};
+
+    ghost Value = { TriedWriter };
+
+    ghost view = { λ a. record { made = a.made; failed = a.failed } };
 }
 
 impl Attempts {
@@ -34,16 +43,19 @@ impl Attempts {
     pub fn are_left(&self) -> bool
         ensures spent { result ≡ false → (self.now.failed ≡ true) ⊎ (self.now.made ≡ WRITES) }
         ensures left { IsTrue result → self.now.made < WRITES }
+        ensures sound { IsTrue result → self.now.failed ≡ false }
     {
         !self.failed && self.made < WRITES
     }
 
-    /// Makes one attempt. A writer that takes nothing has failed, as one with an error that is no interruption.
+    /// Makes one attempt at a writer that didn't fail. It has failed then exactly where it took nothing, or the answer is an error that is no
+    /// interruption.
     pub fn write<W: Write>(&mut self, writer: &mut W, bytes: &[u8]) -> io::Result<usize>
-        requires { self.old.made < WRITES }
+        requires countable { self.old.made < WRITES }
+        requires sound { self.old.failed ≡ false }
         ensures made { self.new.made ≡ self.old.made + 1 }
         ensures failed { IsTrue self.new.failed
-            → MatchResult result (λ count. count ≡ 0) (λ e. error_kind e ≢ ErrorKind.Interrupted) }
+            ↔ MatchResult result (λ count. count ≡ 0) (λ e. error_kind e ≢ ErrorKind.Interrupted) }
         ensures bound { WritesAtMost result bytes.now }
         ensures bytes { WriteAppends (W.contents writer.old) (W.contents writer.new) result bytes.now }
     {

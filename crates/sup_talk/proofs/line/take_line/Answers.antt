@@ -1,6 +1,6 @@
-use Rattle.std.proofs.Common.{[], ◌∷◌, ◌++◌, arith}
+use Rattle.std.proofs.Common.{[], ◌∷◌, ◌++◌, arith, ◌∙◌}
 use Rattle.std.proofs.lemmas.Grind.{common_steps}
-use Rattle.sup_talk.proofs.Longer.{unbroken-more, consumes-more}
+use Rattle.sup_talk.proofs.Longer.{unbroken-more, consumes-more, not_left}
 use Rattle.sup_talk.proofs.line.take_line.Goals as goal
 
 pub returns-then-is_err-clause-taken : goal.returns-then-is_err-clause-taken
@@ -20,6 +20,9 @@ loop-reader-preserved-then-len-ge-LINE_LIMIT g c =
       grind (arith, common_steps),
       grind (arith, common_steps),
       grind (arith, common_steps),
+      c.in-Ok-Some.ensures.most ∙ before.6,
+      omega (arith, c.in-Ok-Some.ensures.counted, before.7),
+      λ spent. absurd (not_left _ _ _ c.are_left.ensures.left c.loop-reader-test.true (before.8 spent) spent),
     )
 
 pub loop-reader-preserved : goal.loop-reader-preserved
@@ -31,4 +34,7 @@ loop-reader-preserved g c =
       grind (arith, common_steps),
       grind (arith, common_steps),
       grind (arith, common_steps),
+      c.in-Ok-Some.ensures.most ∙ before.6,
+      omega (arith, c.in-Ok-Some.ensures.counted, before.7),
+      λ spent. absurd (not_left _ _ _ c.are_left.ensures.left c.loop-reader-test.true (before.8 spent) spent),
     )
