@@ -1,20 +1,104 @@
--- Why a node doesn't begin whose image is refused.
-use Rattle.std.proofs.Common.{sym, subst, None}
-use mathlib.Core.Logic.{inr}
+-- Why a node doesn't begin, and what is kept after it.
+use Rattle.std.proofs.Common.{◌≡◌, ◌≢◌, ◌+◌, Bool, true, false, List, ℕ, Option, Some, None, Result, Ok, Err, IfOk, IfErr, ap, sym, subst, inl, inr}
 use Rattle.sup_specs.specs.Values.{Bytes}
+use Rattle.sup_tables.specs.States.{State}
 use Rattle.sup_placement.specs.Place.{Weigher}
+use Rattle.sup_wire.specs.declared.image.Image.{Image}
 use Rattle.sup_replica.specs.Configs.{Config}
-use Rattle.sup_replica.specs.declared.event.Act.TheVariants.{Restart}
+use Rattle.sup_replica.specs.declared.done.Reply.TheVariants.{Boot}
 use Rattle.sup_replica.specs.declared.refusal.Refusal.{Refusal}
-use Rattle.sup_replica.specs.declared.refusal.Refusal.TheVariants.{BadMessage}
-use Rattle.sup_station.specs.KeptStations.{RefusesAct}
-use Rattle.sup_answering.specs.BegunNodes.{IsImageFault, IsNoBegin, stopped}
+use Rattle.sup_replica.specs.declared.refusal.Refusal.TheVariants.{BadMessage, CountSpent}
+use Rattle.sup_replica.specs.Checks.{refused_if, then_do}
+use Rattle.sup_replica.specs.Nodes.{ActOutcome}
+use Rattle.sup_replica.specs.Steps.{passes_greatest}
+use Rattle.sup_replica.specs.Acts.{booted, keeps}
+use Rattle.sup_replica.specs.ByTables.{by_tables}
+use Rattle.sup_replica.specs.Stations.{StationMove}
+use Rattle.sup_node.specs.NodeSteps.{restart_of, stopped_by}
+use Rattle.sup_node.specs.Texts.{IsImageReadAs}
+use Rattle.sup_station.specs.KeptStations.{KeptStation, IsForeign, IsOthers, RefusesRestart}
+use Rattle.sup_answering.specs.BegunNodes.{BeginsNode, IsImageFault, IsNoBegin, IsOthersImage, LeavesKept}
 use Rattle.sup_answering.specs.declared.begin.BeginFault.{BeginFault}
 use Rattle.sup_answering.specs.declared.begin.BeginFault.TheVariants.{BadImage, OthersImage, Refused, NoMemory}
 
-pub no_begin : (weigher : Weigher) (name : Bytes) (config : Config) (kept : Bytes) (fault : BeginFault)
-    → RefusesAct weigher (stopped name config kept) None Restart 0 BadMessage → IsImageFault name kept fault → IsNoBegin weigher name config kept fault
-no_begin weigher name config kept (BadImage fault) refuses is = is
-no_begin weigher name config kept OthersImage refuses is = is
-no_begin weigher name config kept (Refused refusal) refuses is = inr (subst (λ (r : Refusal). RefusesAct weigher (stopped name config kept) None Restart 0 r) (sym is.0) refuses)
-no_begin weigher name config kept NoMemory refuses is = tt
+-- a restart's node before it knows what it keeps
+abbrev again : Weigher → Config → Image → ActOutcome State
+again g c image = keeps by_tables g (booted (stopped_by c image).node) (Boot (image.boot + 1)) None
+
+not_bad : (spent : Bool) (o : ActOutcome State) (next : ActOutcome State → StationMove State) → then_do (refused_if spent CountSpent (Ok o)) (λ x. Ok (next x)) ≢ Err BadMessage
+not_bad true o next = λ e. cc
+not_bad false o next = λ e. cc
+
+-- no restart from an image of the node is refused as a bad message
+restart_read : (g : Weigher) (c : Config) (image : Image) → restart_of g c image true ≢ Err BadMessage
+restart_read g c image = not_bad (passes_greatest (again g c image).node) (again g c image) _
+
+-- one that is refused so goes on from no image of the node
+foreign_kept : (g : Weigher) (s : KeptStation) → RefusesRestart g s BadMessage → IsForeign s.name s.kept
+foreign_kept g s (inl e) = absurd cc
+foreign_kept g s (inr (inl e)) = absurd cc
+foreign_kept g s (inr (inr (inl h))) = h.1
+foreign_kept g s (inr (inr (inr h))) = absurd (restart_read g s.config h.0 h.2)
+
+others_image : (name kept : Bytes) (found : Option Image) → IsImageReadAs kept found → IsOthers name found → (image : Image) → IsImageReadAs kept (Some image) → IsOthersImage name kept
+others_image name kept None none other image reads = absurd (none image reads.0 reads.1)
+others_image name kept (Some found) is other image reads = (found, is, other)
+
+bad_image : (g : Weigher) (name : Bytes) (config : Config) (kept : Bytes) (fault : BeginFault) → IsForeign name kept → IsImageFault kept fault → IsNoBegin g false name config kept fault
+bad_image g name config kept (BadImage fault) foreign is = is
+bad_image g name config kept OthersImage foreign is = others_image name kept foreign.0 foreign.1 foreign.2 is.0 is.1
+bad_image g name config kept (Refused refusal) foreign is = absurd is
+bad_image g name config kept NoMemory foreign is = tt
+
+-- why the node of a station doesn't begin whose restart is refused as a bad message
+pub no_begin : (g : Weigher) (s : KeptStation) (bytes : Bytes) (fault : BeginFault) → RefusesRestart g s BadMessage → bytes ≡ s.kept → IsImageFault bytes fault → IsNoBegin g false s.name s.config s.kept fault
+no_begin g s bytes fault refuses same is = bad_image g s.name s.config s.kept fault (foreign_kept g s refuses) (subst (λ (b : Bytes). IsImageFault b fault) same is)
+
+-- a fault of an image is no refusal
+pub unrefused : (bytes : Bytes) (fault : BeginFault) (r : Refusal) → IsImageFault bytes fault → fault ≢ Refused r
+unrefused bytes (BadImage fault) r is = λ e. cc
+unrefused bytes OthersImage r is = λ e. cc
+unrefused bytes (Refused refusal) r is = λ e. is
+unrefused bytes NoMemory r is = λ e. cc
+
+no_refusal : (fault : BeginFault) (r : Refusal) → fault ≡ NoMemory → fault ≢ Refused r
+no_refusal fault r e = λ f. cc
+
+module _ (g : Weigher) (is_new : Bool) (name : Bytes) (config : Config) (kept : Bytes) where
+  -- what is kept is the old
+  pub leaves_old : (fault : BeginFault) (left : Bytes) → left ≡ kept → LeavesKept g is_new name config kept fault left
+  leaves_old (BadImage fault) left e = e
+  leaves_old OthersImage left e = e
+  leaves_old (Refused refusal) left e = e
+  leaves_old NoMemory left e = inl e
+
+  wants_memory : (is : Bool) (fault : BeginFault) → fault ≡ NoMemory → IsNoBegin g is name config kept fault
+  wants_memory true fault e = subst (λ (f : BeginFault). IsNoBegin g true name config kept f) (sym e) tt
+  wants_memory false fault e = subst (λ (f : BeginFault). IsNoBegin g false name config kept f) (sym e) tt
+
+  -- memory was refused to the first answer
+  pub unanswered : {B U : Type 0} (fault_of : U → BeginFault) (result : Result B U) → IfErr result (λ u. fault_of u ≡ NoMemory) → IfErr result (λ u. IsNoBegin g is_new name config kept (fault_of u))
+  unanswered fault_of (Ok b) e = tt
+  unanswered fault_of (Err u) e = wants_memory is_new (fault_of u) e
+
+  -- a node begins as its station does
+  pub begins_with : {B U S : Type 0} (station_of : B → S) (first_of : B → List ℕ) (shown : S → KeptStation) (station : S) (text : List ℕ) (result : Result B U)
+      → BeginsNode g is_new name config kept (shown station) text → IfOk result (λ b. station_of b ≡ station) → IfOk result (λ b. first_of b ≡ text)
+      → IfOk result (λ b. BeginsNode g is_new name config kept (shown (station_of b)) (first_of b))
+  begins_with station_of first_of shown station text (Err u) begins same told = tt
+  begins_with station_of first_of shown station text (Ok b) begins same told =
+      subst (λ (t : List ℕ). BeginsNode g is_new name config kept (shown (station_of b)) t) (sym told)
+      (subst (λ (s : KeptStation). BeginsNode g is_new name config kept s text) (ap shown (sym same)) begins)
+
+  -- and what is kept is that of the node that had begun
+  pub leaves_begun : {B U S : Type 0} (fault_of : U → BeginFault) (station_of : U → S) (shown : S → KeptStation) (station : S) (text : List ℕ) (result : Result B U)
+      → BeginsNode g is_new name config kept (shown station) text → IfErr result (λ u. fault_of u ≡ NoMemory) → IfErr result (λ u. station_of u ≡ station)
+      → IfErr result (λ u. LeavesKept g is_new name config kept (fault_of u) (shown (station_of u)).kept)
+  leaves_begun fault_of station_of shown station text (Ok b) begins e same = tt
+  leaves_begun fault_of station_of shown station text (Err u) begins e same =
+      subst (λ (f : BeginFault). LeavesKept g is_new name config kept f (shown (station_of u)).kept) (sym e) (inr (shown station, text, begins, ap (λ s. (shown s).kept) same))
+
+-- it is no refusal
+pub unfailed : {B U : Type 0} (P : U → Type 0) (fault_of : U → BeginFault) (r : Refusal) (result : Result B U) → IfErr result (λ u. fault_of u ≡ NoMemory) → IfErr result (λ u. fault_of u ≡ Refused r → P u)
+unfailed P fault_of r (Ok b) e = tt
+unfailed P fault_of r (Err u) e = λ f. absurd (no_refusal (fault_of u) r e f)

@@ -1,5 +1,5 @@
 -- What a node answers to a line (this project's line protocol).
-use Rattle.std.specs.Prelude.{◌≡◌, ℕ, Bool, List, Option, Some, None, Result}
+use Rattle.std.specs.Prelude.{◌≡◌, ◌≢◌, ◌⊎◌, ℕ, ◌+◌, Bool, List, Option, Some, None, Result, Err}
 use Rattle.std.specs.declared.vec.Vec.{Vec}
 use Rattle.std.specs.Option.{option_map}
 use Rattle.std.specs.List.{flat_map}
@@ -15,6 +15,7 @@ use Rattle.sup_replica.specs.declared.event.Event.{Event}
 use Rattle.sup_replica.specs.declared.event.Act.TheVariants.{Event as Of}
 use Rattle.sup_replica.specs.declared.done.Done.{Done}
 use Rattle.sup_replica.specs.declared.refusal.Refusal.{Refusal}
+use Rattle.sup_replica.specs.declared.refusal.Refusal.TheVariants.{KeepFailed}
 use Rattle.sup_node_text.specs.Lines.{member_line}
 use Rattle.sup_node_text.specs.Shown.{Shown, shown_of, show_text, where_text, down_text}
 use Rattle.sup_node_text.specs.Inspected.{IsInspected}
@@ -31,14 +32,15 @@ pub record AnsweringNode : Type 0 where
   pub name : Bytes
   pub kept_station : KeptStation  -- its station
   pub peers : List Bytes  -- whose acknowledgements it has heard in this boot
+  pub failures : ℕ  -- how often its keeper has failed
   pub lost : Bool  -- its keeper doesn't know what outlives it: the node has given its last answer
 
-abbrev pub known : Bytes → KeptStation → List Bytes → Bool → AnsweringNode
-known name still peers lost = record { name = name; kept_station = still; peers = peers; lost = lost }
+abbrev pub known : Bytes → KeptStation → List Bytes → ℕ → Bool → AnsweringNode
+known name still peers failures lost = record { name = name; kept_station = still; peers = peers; failures = failures; lost = lost }
 
--- the node of this name with this station, where this is what its keeper keeps and whether that has lost it
-abbrev pub node_at : {K W Z : Type 0} {g : _} {h : _} → (K → Bytes) → (K → Bool) → Bytes → Code K W g h → Vec Bytes Z → AnsweringNode
-node_at kept lost name station peers = known name (kept_station_of kept station) peers.items (lost (keeper_of station))
+-- the node of this name with this station, where this is what its keeper keeps, how often that has failed and whether it has lost it
+abbrev pub node_at : {K W Z : Type 0} {g : _} {h : _} → (K → Bytes) → (K → ℕ) → (K → Bool) → Bytes → Code K W g h → Vec Bytes Z → AnsweringNode
+node_at kept failures lost name station peers = known name (kept_station_of kept station) peers.items (failures (keeper_of station)) (lost (keeper_of station))
 
 -- what its node shows, and nothing while that is down
 abbrev pub shown_by : KeptStation → Option Shown
@@ -64,11 +66,15 @@ IsInOrder names ordered = IsPermutation names ordered × IsSorted text_cmp order
 abbrev pub IsInspectedBy : Weigher → AnsweringNode → List ℕ → Type 0
 IsInspectedBy weigher s text = (peers : List Bytes) × IsInOrder s.peers peers × ((said : List ℕ) × IsInspected weigher s.name s.kept_station.node peers said × (text ≡ ended_text said))
 
+-- the count of the keeper's failures rises, by one, exactly where the end is that the image could not be kept
+abbrev pub IsCounted : Result Done Refusal → ℕ → ℕ → Type 0
+IsCounted end before after = (end ≡ Err KeepFailed → after ≡ before + 1) × (end ≢ Err KeepFailed → after ≡ before)
+
 -- An event's end is told, and the image is kept before that: the station's step says so.
 abbrev pub IsDone : Weigher → AnsweringNode → Event → ℕ → List ℕ → AnsweringNode → Type 0
 IsDone weigher s event now text t =
     (end : Result Done Refusal) × AnswersAct weigher s.kept_station (Of event) now end t.kept_station
-    × HearsPeers (Of event) end s.peers t.peers × (t.name ≡ s.name) × (text ≡ told_text end)
+    × IsCounted end s.failures t.failures × HearsPeers (Of event) end s.peers t.peers × (t.name ≡ s.name) × (text ≡ told_text end)
 
 -- the answer to what is asked; to show something changes nothing
 abbrev pub AnswersAsked : Weigher → AnsweringNode → Option Asked → List ℕ → AnsweringNode → Type 0
@@ -79,6 +85,22 @@ AnswersAsked weigher s (Some Inspect) text t = (t ≡ s) × IsInspectedBy weighe
 AnswersAsked weigher s (Some Members) text t = (t ≡ s) × (text ≡ ended_text (members_of s.name s.kept_station.node))
 AnswersAsked weigher s (Some Image) text t = (t ≡ s) × (text ≡ ended_text (ended_text s.kept_station.kept))
 AnswersAsked weigher s (Some (Where sought)) text t = (t ≡ s) × (text ≡ ended_text (where_text weigher s.name (shown_by s.kept_station) sought))
+
+-- Memory for the answer was refused: an event may be done, and the image is kept then too; nothing else is done.
+abbrev pub LacksDone : Weigher → AnsweringNode → Event → ℕ → AnsweringNode → Type 0
+LacksDone weigher s event now t =
+    (end : Result Done Refusal) × AnswersAct weigher s.kept_station (Of event) now end t.kept_station
+    × IsCounted end s.failures t.failures × ((t.peers ≡ s.peers) ⊎ HearsPeers (Of event) end s.peers t.peers) × (t.name ≡ s.name)
+
+-- the same of what is asked
+abbrev pub LacksAsked : Weigher → AnsweringNode → Option Asked → AnsweringNode → Type 0
+LacksAsked weigher s None t = t ≡ s
+LacksAsked weigher s (Some (Does event now)) t = LacksDone weigher s event now t
+LacksAsked weigher s (Some Show) t = t ≡ s
+LacksAsked weigher s (Some Inspect) t = t ≡ s
+LacksAsked weigher s (Some Members) t = t ≡ s
+LacksAsked weigher s (Some Image) t = t ≡ s
+LacksAsked weigher s (Some (Where sought)) t = t ≡ s
 
 -- what a line that was heard asks of the node; of one that was too long nothing was heard
 abbrev pub asked_by : Bytes → Option (List ℕ) → Option Asked

@@ -40,16 +40,29 @@ BeginsStation kept weigher is_new name config keeper station text = BeginsNode w
 abbrev pub IsOthersImage : Bytes → Bytes → Type 0
 IsOthersImage name bytes = (image : Image) × IsImageReadAs bytes (Some image) × (image.node ≢ name)
 
--- Why it doesn't begin. What is kept is the old then.
-abbrev pub IsNoBegin : Weigher → Bytes → Config → Bytes → BeginFault → Type 0
-IsNoBegin weigher name config kept (BadImage fault) = IsFault SaysImage kept (text_fault fault)
-IsNoBegin weigher name config kept OthersImage = IsOthersImage name kept
-IsNoBegin weigher name config kept (Refused refusal) = IsKeepRefusal refusal ⊎ RefusesAct weigher (stopped name config kept) None Restart 0 refusal
-IsNoBegin weigher name config kept NoMemory = Unit {0}
+-- Why a node doesn't begin, by what was kept. One that is new doesn't where its image can't be kept; another where what is kept is no image
+-- of it, or its restart is refused for something else.
+abbrev pub IsNoBegin : Weigher → Bool → Bytes → Config → Bytes → BeginFault → Type 0
+IsNoBegin weigher true name config kept (BadImage fault) = ⊥
+IsNoBegin weigher true name config kept OthersImage = ⊥
+IsNoBegin weigher true name config kept (Refused refusal) = IsKeepRefusal refusal
+IsNoBegin weigher true name config kept NoMemory = Unit {0}
+IsNoBegin weigher false name config kept (BadImage fault) = IsFault SaysImage kept (text_fault fault)
+IsNoBegin weigher false name config kept OthersImage = IsOthersImage name kept
+IsNoBegin weigher false name config kept (Refused refusal) = (refusal ≢ BadMessage) × RefusesAct weigher (stopped name config kept) None Restart 0 refusal
+IsNoBegin weigher false name config kept NoMemory = Unit {0}
 
--- why bytes are no image of the node of this name, or that they are one
-abbrev pub IsImageFault : Bytes → Bytes → BeginFault → Type 0
-IsImageFault name bytes (BadImage fault) = IsFault SaysImage bytes (text_fault fault)
-IsImageFault name bytes OthersImage = IsOthersImage name bytes
-IsImageFault name bytes (Refused refusal) = (refusal ≡ BadMessage) × ((image : Image) × IsImageReadAs bytes (Some image) × (image.node ≡ name))
-IsImageFault name bytes NoMemory = Unit {0}
+-- What is kept after it: the old; or, where memory was refused to the first answer of a node that had begun, what that kept.
+abbrev pub LeavesKept : Weigher → Bool → Bytes → Config → Bytes → BeginFault → Bytes → Type 0
+LeavesKept weigher is_new name config kept (BadImage fault) left = left ≡ kept
+LeavesKept weigher is_new name config kept OthersImage left = left ≡ kept
+LeavesKept weigher is_new name config kept (Refused refusal) left = left ≡ kept
+LeavesKept weigher is_new name config kept NoMemory left =
+    (left ≡ kept) ⊎ ((begun : KeptStation) × (text : List ℕ) × BeginsNode weigher is_new name config kept begun text × (left ≡ begun.kept))
+
+-- which fault bytes have as an image; or they are read as one
+abbrev pub IsImageFault : Bytes → BeginFault → Type 0
+IsImageFault bytes (BadImage fault) = IsFault SaysImage bytes (text_fault fault)
+IsImageFault bytes OthersImage = (image : Image) × IsImageReadAs bytes (Some image)
+IsImageFault bytes (Refused refusal) = ⊥
+IsImageFault bytes NoMemory = Unit {0}

@@ -1,9 +1,9 @@
 //! How a node begins.
 
-ghost use Rattle.std.specs.Prelude.{◌≡◌, [], true, false, Ok, IfOk, IfErr};
-ghost use Rattle.sup_station.specs.KeptStations.{kept_station_of};
+ghost use Rattle.std.specs.Prelude.{◌≡◌, ◌<◌, [], true, false, Ok, IfOk, IfErr};
+ghost use Rattle.sup_station.specs.KeptStations.{RefusesRestart, keeper_of, kept_station_of};
 ghost use Rattle.sup_told.specs.Told.{told_text};
-ghost use Rattle.sup_answering.specs.BegunNodes.{BeginsStation, IsImageFault, IsNoBegin};
+ghost use Rattle.sup_answering.specs.BegunNodes.{BeginsStation, IsImageFault, IsNoBegin, LeavesKept};
 
 use crate::filter::Filter;
 use std::alloc::{AllocError, Global};
@@ -14,7 +14,7 @@ use sup_local_sup::Effects;
 use sup_placement::Weigh;
 use sup_replica::{Act, Config, Done, Refusal, Reply};
 use sup_specs::NodeName;
-use sup_station::Station;
+use sup_station::{Refused, Station};
 use sup_told::told_text;
 use sup_wire::decode_image;
 use thiserror::Error;
@@ -53,11 +53,18 @@ pub struct Begun<K: ImageKeeper, W: Weigh + Drop> {
     pub first: Vec<u8>,
 }
 
+/// A node that didn't begin: why, and its station, with the keeper that was given.
+#[derive(Drop)]
+pub struct Unbegun<K: ImageKeeper, W: Weigh + Drop> {
+    pub fault: BeginFault,
+    pub station: Station<K, W>,
+}
+
 /// A node of this name: one that was just made, whose image is saved, or its next boot from what the keeper keeps.
 ///
 /// # Errors
 ///
-/// As [`BeginFault`] tells.
+/// As [`BeginFault`] tells. The keeper keeps what it kept then, unless memory was refused to the first answer of a node that had begun.
 pub fn begin<K: ImageKeeper, W: Weigh + Drop>(
     alloc: Global,
     name: NodeName,
@@ -65,11 +72,14 @@ pub fn begin<K: ImageKeeper, W: Weigh + Drop>(
     keeper: K,
     is_new: bool,
     weigher: W,
-) -> Result<Begun<K, W>, BeginFault>
+) -> Result<Begun<K, W>, Unbegun<K, W>>
     ensures begins { IfOk result (λ b. BeginsStation K.kept W.weight_of is_new name config keeper b.filter.station b.first.items) }
     ensures name { IfOk result (λ b. b.filter.name ≡ name) }
     ensures peers { IfOk result (λ b. b.filter.peers.items ≡ []) }
-    ensures fault { IfErr result (λ fault. IsNoBegin W.weight_of name config (K.kept keeper) fault) }
+    ensures uncounted { IfOk result (λ b. K.failures (keeper_of b.filter.station) ≡ K.failures keeper) }
+    ensures fault { IfErr result (λ u. IsNoBegin W.weight_of is_new name config (K.kept keeper) u.fault) }
+    ensures leaves { IfErr result (λ u. LeavesKept W.weight_of is_new name config (K.kept keeper) u.fault (K.kept (keeper_of u.station))) }
+    ensures rose { IfErr result (λ u. u.fault ≡ BeginFault.Refused Refusal.KeepFailed → K.failures keeper < K.failures (keeper_of u.station)) }
 {
     if is_new {
         open(alloc, name, config, keeper, weigher)
@@ -85,22 +95,42 @@ fn open<K: ImageKeeper, W: Weigh + Drop>(
     config: Config,
     keeper: K,
     weigher: W,
-) -> Result<Begun<K, W>, BeginFault>
+) -> Result<Begun<K, W>, Unbegun<K, W>>
     ensures begins { IfOk result (λ b. BeginsStation K.kept W.weight_of true name config keeper b.filter.station b.first.items) }
     ensures name { IfOk result (λ b. b.filter.name ≡ name) }
     ensures peers { IfOk result (λ b. b.filter.peers.items ≡ []) }
-    ensures fault { IfErr result (λ fault. IsNoBegin W.weight_of name config (K.kept keeper) fault) }
+    ensures uncounted { IfOk result (λ b. K.failures (keeper_of b.filter.station) ≡ K.failures keeper) }
+    ensures fault { IfErr result (λ u. IsNoBegin W.weight_of true name config (K.kept keeper) u.fault) }
+    ensures leaves { IfErr result (λ u. LeavesKept W.weight_of true name config (K.kept keeper) u.fault (K.kept (keeper_of u.station))) }
+    ensures rose { IfErr result (λ u. u.fault ≡ BeginFault.Refused Refusal.KeepFailed → K.failures keeper < K.failures (keeper_of u.station)) }
 {
     let station = match Station::new(alloc, name, config, keeper) {
         Ok(station) => station,
-        Err(refused) => return Err(BeginFault::Refused(refused.reason)),
+        Err(refused) => return Err(unopened(alloc, name, config, refused)),
     };
     let done = Done {
         reply: Reply::Boot(1),
         effects: Effects::new(Vec::new(alloc)),
         out: None,
     };
-    Ok(begun_with(alloc, name, station, done, weigher)?)
+    begun_with(alloc, name, station, done, weigher)
+}
+
+// A node that could not be made.
+fn unopened<K: ImageKeeper, W: Weigh + Drop>(
+    alloc: Global,
+    name: NodeName,
+    config: Config,
+    refused: Refused<K>,
+) -> Unbegun<K, W>
+    ensures fault { result.fault ≡ BeginFault.Refused refused.reason }
+    ensures keeper { keeper_of result.station ≡ refused.keeper }
+{
+    let Refused { keeper, reason } = refused;
+    Unbegun {
+        fault: BeginFault::Refused(reason),
+        station: Station::stopped(alloc, name, config, keeper),
+    }
 }
 
 // The next boot of a node.
@@ -110,21 +140,23 @@ fn go_on<K: ImageKeeper, W: Weigh + Drop>(
     config: Config,
     keeper: K,
     weigher: W,
-) -> Result<Begun<K, W>, BeginFault>
+) -> Result<Begun<K, W>, Unbegun<K, W>>
     ensures begins { IfOk result (λ b. BeginsStation K.kept W.weight_of false name config keeper b.filter.station b.first.items) }
     ensures name { IfOk result (λ b. b.filter.name ≡ name) }
     ensures peers { IfOk result (λ b. b.filter.peers.items ≡ []) }
-    ensures fault { IfErr result (λ fault. IsNoBegin W.weight_of name config (K.kept keeper) fault) }
+    ensures uncounted { IfOk result (λ b. K.failures (keeper_of b.filter.station) ≡ K.failures keeper) }
+    ensures fault { IfErr result (λ u. IsNoBegin W.weight_of false name config (K.kept keeper) u.fault) }
+    ensures leaves { IfErr result (λ u. LeavesKept W.weight_of false name config (K.kept keeper) u.fault (K.kept (keeper_of u.station))) }
+    ensures rose { IfErr result (λ u. u.fault ≡ BeginFault.Refused Refusal.KeepFailed → K.failures keeper < K.failures (keeper_of u.station)) }
 {
     let mut station = Station::stopped(alloc, name, config, keeper);
-    let done = match station.step(Act::Restart, 0, &weigher) {
-        Ok(done) => done,
-        Err(Refusal::BadMessage) => {
-            return Err(image_fault(alloc, &name, station.keeper().stored()));
+    match station.step(Act::Restart, 0, &weigher) {
+        Ok(done) => begun_with(alloc, name, station, done, weigher),
+        Err(refusal) => {
+            let fault = restart_fault(alloc, &station, refusal);
+            Err(Unbegun { fault, station })
         }
-        Err(refusal) => return Err(BeginFault::Refused(refusal)),
-    };
-    Ok(begun_with(alloc, name, station, done, weigher)?)
+    }
 }
 
 // A node that began with this station, by what was done.
@@ -134,38 +166,57 @@ fn begun_with<K: ImageKeeper, W: Weigh + Drop>(
     station: Station<K, W>,
     done: Done,
     weigher: W,
-) -> Result<Begun<K, W>, AllocError>
+) -> Result<Begun<K, W>, Unbegun<K, W>>
     ensures name { IfOk result (λ b. b.filter.name ≡ name) }
     ensures station { IfOk result (λ b. b.filter.station ≡ station) }
     ensures peers { IfOk result (λ b. b.filter.peers.items ≡ []) }
     ensures first { IfOk result (λ b. b.first.items ≡ told_text (Ok done)) }
+    ensures fault { IfErr result (λ u. u.fault ≡ BeginFault.NoMemory) }
+    ensures left { IfErr result (λ u. u.station ≡ station) }
 {
-    let first = told_text(alloc, Ok(done))?;
-    let filter = Filter {
-        name,
-        station,
-        peers: Vec::new(alloc),
-        weigher,
-        alloc,
-    };
-    Ok(Begun { filter, first })
+    match told_text(alloc, Ok(done)) {
+        Ok(first) => {
+            let filter = Filter {
+                name,
+                station,
+                peers: Vec::new(alloc),
+                weigher,
+                alloc,
+            };
+            Ok(Begun { filter, first })
+        }
+        Err(error) => Err(Unbegun {
+            fault: BeginFault::from(error),
+            station,
+        }),
+    }
 }
 
-// Why these bytes are no image of the node of this name.
-fn image_fault(alloc: Global, name: &NodeName, bytes: &[u8]) -> BeginFault
-    ensures { IsImageFault name.now bytes.now result }
+// Why the node of a stopped station doesn't begin, whose restart was refused so.
+fn restart_fault<K: ImageKeeper, W: Weigh + Drop>(
+    alloc: Global,
+    station: &Station<K, W>,
+    refusal: Refusal,
+) -> BeginFault
+    requires { RefusesRestart W.weight_of (kept_station_of K.kept station.now) refusal }
+    ensures fault { let s = kept_station_of K.kept station.now in IsNoBegin W.weight_of false s.name s.config s.kept result }
+    ensures same { (r : Refusal) → result ≡ BeginFault.Refused r → r ≡ refusal }
+{
+    match refusal {
+        Refusal::BadMessage => image_fault(alloc, station.keeper().stored()),
+        _ => BeginFault::Refused(refusal),
+    }
+}
+
+// Which fault these bytes have as an image, or that they are read as one.
+fn image_fault(alloc: Global, bytes: &[u8]) -> BeginFault
+    ensures { IsImageFault bytes.now result }
 {
     match decode_image(alloc, bytes) {
         Err(fault) => match fault_of(fault) {
             Fault::BadImage(fault) => BeginFault::BadImage(fault),
             _ => BeginFault::NoMemory,
         },
-        Ok(image) => {
-            if image.node == *name {
-                BeginFault::Refused(Refusal::BadMessage)
-            } else {
-                BeginFault::OthersImage
-            }
-        }
+        Ok(_) => BeginFault::OthersImage,
     }
 }

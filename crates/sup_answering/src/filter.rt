@@ -1,11 +1,12 @@
 //! A station that answers lines.
 
-ghost use Rattle.std.specs.Prelude.{◌≡◌, IfOk, OnOk};
-ghost use Rattle.sup_station.specs.KeptStations.{AnswersAct, kept_station_of};
+ghost use Rattle.std.specs.Prelude.{◌≡◌, ◌<◌, ◌≤◌, ◌+◌, Err, IfOk, OnOk, OnErr};
+ghost use Rattle.sup_replica.specs.declared.refusal.Refusal.TheVariants.{KeepFailed};
+ghost use Rattle.sup_station.specs.KeptStations.{AnswersAct, keeper_of, kept_station_of};
 ghost use Rattle.sup_node_text.specs.Shown.{show_text, where_text};
 ghost use Rattle.sup_told.specs.Told.{ended_text};
 ghost use Rattle.sup_answering.specs.Heard.{HearsPeers, with_peer};
-ghost use Rattle.sup_answering.specs.AnsweringNodes.{AnswersAsked, IsDone, IsInspectedBy, node_at, members_of, shown_at};
+ghost use Rattle.sup_answering.specs.AnsweringNodes.{AnswersAsked, IsDone, IsInspectedBy, LacksAsked, LacksDone, node_at, members_of, shown_at};
 
 use crate::members::members_of;
 use crate::peers::{acknowledger, in_order, is_acked};
@@ -35,10 +36,12 @@ impl<K: ImageKeeper, W: Weigh + Drop> Filter<K, W> {
     ///
     /// # Errors
     ///
-    /// Where memory for the text was refused. What is asked for may be done then.
+    /// Where memory for the text was refused. What is asked for may be done then, and nothing else is.
     pub fn answer_asked(&mut self, asked: Option<Asked>) -> Result<Vec<u8>, AllocError>
-        ensures { IfOk result (λ text. AnswersAsked W.weight_of (node_at K.kept K.lost self.old.name self.old.station self.old.peers) asked text.items
-            (node_at K.kept K.lost self.new.name self.new.station self.new.peers)) }
+        ensures answers { IfOk result (λ text. AnswersAsked W.weight_of (node_at K.kept K.failures K.lost self.old.name self.old.station self.old.peers) asked text.items
+            (node_at K.kept K.failures K.lost self.new.name self.new.station self.new.peers)) }
+        ensures lacks { OnErr result (LacksAsked W.weight_of (node_at K.kept K.failures K.lost self.old.name self.old.station self.old.peers) asked
+            (node_at K.kept K.failures K.lost self.new.name self.new.station self.new.peers)) }
     {
         match asked {
             None => bad_text(self.alloc),
@@ -53,8 +56,10 @@ impl<K: ImageKeeper, W: Weigh + Drop> Filter<K, W> {
 
     // Does an event, and tells its end.
     fn answer_event(&mut self, event: Event, now: u64) -> Result<Vec<u8>, AllocError>
-        ensures { IfOk result (λ text. IsDone W.weight_of (node_at K.kept K.lost self.old.name self.old.station self.old.peers) event now text.items
-            (node_at K.kept K.lost self.new.name self.new.station self.new.peers)) }
+        ensures done { IfOk result (λ text. IsDone W.weight_of (node_at K.kept K.failures K.lost self.old.name self.old.station self.old.peers) event now text.items
+            (node_at K.kept K.failures K.lost self.new.name self.new.station self.new.peers)) }
+        ensures lacks { OnErr result (LacksDone W.weight_of (node_at K.kept K.failures K.lost self.old.name self.old.station self.old.peers) event now
+            (node_at K.kept K.failures K.lost self.new.name self.new.station self.new.peers)) }
     {
         let act = Act::Event(event);
         let end = self.step(&act, now);
@@ -65,6 +70,10 @@ impl<K: ImageKeeper, W: Weigh + Drop> Filter<K, W> {
     // As the station's own step, which takes the act.
     fn step(&mut self, act: &Act, now: u64) -> Result<Done, Refusal>
         ensures goes { AnswersAct W.weight_of (kept_station_of K.kept self.old.station) act.now now result (kept_station_of K.kept self.new.station) }
+        ensures rose { result ≡ Err KeepFailed → K.failures (keeper_of self.old.station) < K.failures (keeper_of self.new.station) }
+        ensures told { K.failures (keeper_of self.old.station) < K.failures (keeper_of self.new.station) → result ≡ Err KeepFailed }
+        ensures never_falls { K.failures (keeper_of self.old.station) ≤ K.failures (keeper_of self.new.station) }
+        ensures by_one { K.failures (keeper_of self.new.station) ≤ K.failures (keeper_of self.old.station) + 1 }
         ensures name { self.new.name ≡ self.old.name }
         ensures peers { self.new.peers.items ≡ self.old.peers.items }
     {
@@ -75,6 +84,7 @@ impl<K: ImageKeeper, W: Weigh + Drop> Filter<K, W> {
     // Notes who acknowledged by an act that ended so.
     fn hear(&mut self, act: &Act, end: &Result<Done, Refusal>) -> Result<(), AllocError>
         ensures hears { OnOk result (HearsPeers act.now end.now self.old.peers.items self.new.peers.items) }
+        ensures refused { OnErr result (self.new.peers.items ≡ self.old.peers.items) }
         ensures name { self.new.name ≡ self.old.name }
         ensures station { self.new.station ≡ self.old.station }
     {
@@ -87,6 +97,7 @@ impl<K: ImageKeeper, W: Weigh + Drop> Filter<K, W> {
 
     fn note(&mut self, peer: Option<NodeName>) -> Result<(), AllocError>
         ensures peers { OnOk result (self.new.peers.items ≡ with_peer peer self.old.peers.items) }
+        ensures refused { OnErr result (self.new.peers.items ≡ self.old.peers.items) }
         ensures name { self.new.name ≡ self.old.name }
         ensures station { self.new.station ≡ self.old.station }
     {
@@ -108,7 +119,7 @@ impl<K: ImageKeeper, W: Weigh + Drop> Filter<K, W> {
     }
 
     fn inspect(&self) -> Result<Vec<u8>, AllocError>
-        ensures { IfOk result (λ text. IsInspectedBy W.weight_of (node_at K.kept K.lost self.now.name self.now.station self.now.peers) text.items) }
+        ensures { IfOk result (λ text. IsInspectedBy W.weight_of (node_at K.kept K.failures K.lost self.now.name self.now.station self.now.peers) text.items) }
     {
         let peers = in_order(self.alloc, self.peers.as_slice())?;
         let lines = inspect_text(
@@ -157,8 +168,8 @@ impl<K: ImageKeeper, W: Weigh + Drop> Answerer for Filter<K, W> {
 
     ghost over = { λ f. K.lost (keeper_of f.station) };
 
-    ghost answers = { λ s heard text t. AnswersLine W.weight_of (known s.name (kept_station_of K.kept s.station) s.peers.items (K.lost (keeper_of s.station))) heard text
-        (known t.name (kept_station_of K.kept t.station) t.peers.items (K.lost (keeper_of t.station))) };
+    ghost answers = { λ s heard text t. AnswersLine W.weight_of (known s.name (kept_station_of K.kept s.station) s.peers.items (K.failures (keeper_of s.station)) (K.lost (keeper_of s.station))) heard text
+        (known t.name (kept_station_of K.kept t.station) t.peers.items (K.failures (keeper_of t.station)) (K.lost (keeper_of t.station))) };
 
     fn answer(&mut self, line: Option<&[u8]>) -> Result<Vec<u8>, AllocError> {
         let asked = match line {

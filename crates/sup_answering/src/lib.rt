@@ -7,6 +7,6 @@ mod members;
 mod peers;
 pub mod serving;
 
-pub use begin::{BeginFault, Begun};
+pub use begin::{BeginFault, Begun, Unbegun};
 pub use filter::Filter;
 pub use serving::serve;

@@ -22,8 +22,8 @@ pub fn serve<K: ImageKeeper, W: Weigh + Drop, H: Host>(
     first: &[u8],
     host: &mut H,
 ) -> Result<TalkEnd, TalkFault>
-    ensures { ServesHost W.weight_of LINE_LIMIT (node_at K.kept K.lost filter.old.name filter.old.station filter.old.peers)
-        (node_at K.kept K.lost filter.new.name filter.new.station filter.new.peers) first.now (H.seen host.old) (H.seen host.new) result }
+    ensures { ServesHost W.weight_of LINE_LIMIT (node_at K.kept K.failures K.lost filter.old.name filter.old.station filter.old.peers)
+        (node_at K.kept K.failures K.lost filter.new.name filter.new.station filter.new.peers) first.now (H.seen host.old) (H.seen host.new) result }
 {
     match host.tell(first) {
         Ok(()) => talk(alloc, filter, host),

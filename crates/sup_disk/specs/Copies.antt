@@ -14,7 +14,9 @@ abbrev pub kept_of : What → Bytes
 kept_of None = []
 kept_of (Some bytes) = bytes
 
-pub record Filed : Type 0 where
+-- what a contract sees of a keeper over such a disk
+pub record Filed (D : Type 0) : Type 0 where
+  pub disk : D
   pub copy : What  -- what the file has
   pub failures : ℕ
   pub lost : Bool  -- the file may have other bytes than the copy

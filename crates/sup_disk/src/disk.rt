@@ -46,7 +46,8 @@ pub trait Disk: Drop {
         ensures only { OnOk result (OnlyThese (may_have self.new) bytes.now) };
 
     /// What the file has, none where it isn't there. It is flushed with the names of the folder, so that it has nothing else where the
-    /// power goes.
+    /// power goes, and nothing that it could not have had before.
     fn read(&mut self, alloc: Global) -> io::Result<Option<Vec<u8>>>
-        ensures { IfOk result (λ bytes. OnlyThis (may_have self.new) (copied bytes)) };
+        ensures file { NoMore (may_have self.old) (may_have self.new) }
+        ensures only { IfOk result (λ bytes. OnlyThis (may_have self.new) (copied bytes)) };
 }

@@ -1,8 +1,9 @@
 //! A keeper over a disk.
 
-ghost use Rattle.std.specs.Prelude.{◌≡◌, ◌↔◌, Bool, false, None, IfOk, IsTrue};
+ghost use Rattle.std.specs.Prelude.{◌≡◌, ◌≢◌, ◌↔◌, ◌+◌, Bool, true, false, Some, None, Err, IfOk, OnOk, OnErr, IsErr, IsTrue};
 ghost use Rattle.std.proofs.Props.{props};
-ghost use Rattle.sup_disk.specs.Crashes.{OnlyThis};
+ghost use Rattle.sup_keeper.specs.declared.keeper.KeepFault.TheVariants.{Failed};
+ghost use Rattle.sup_disk.specs.Crashes.{NoMore, OrThese, OnlyThis};
 ghost use Rattle.sup_disk.specs.Copies.{copied};
 
 use crate::disk::Disk;
@@ -42,9 +43,9 @@ pub struct DiskKeeper<D: Disk> {
 impl<D: Disk> Model for DiskKeeper<D> {
     ghost use Rattle.sup_disk.specs.Copies.{Filed, copied};
 
-    ghost Value = { Filed };
+    ghost Value = { Filed D };
 
-    ghost view = { λ k. record { copy = copied k.copy; failures = k.failures; lost = k.lost } };
+    ghost view = { λ k. record { disk = k.disk; copy = copied k.copy; failures = k.failures; lost = k.lost } };
 }
 
 impl<D: Disk> DiskKeeper<D> {
@@ -56,6 +57,9 @@ impl<D: Disk> DiskKeeper<D> {
     pub fn open(alloc: Global, disk: D) -> io::Result<DiskKeeper<D>>
         ensures sound { IfOk result (λ k. k.lost ≡ false) }
         ensures failures { IfOk result (λ k. k.failures ≡ 0) }
+        // A loss of power leaves what is kept, and nothing that the file could not have had before.
+        ensures file { IfOk result (λ k. NoMore (D.may_have disk) (D.may_have k.disk)) }
+        ensures only { IfOk result (λ k. OnlyThis (D.may_have k.disk) k.copy) }
     {
         let mut disk = disk;
         let copy = disk.read(alloc)?;
@@ -77,7 +81,8 @@ impl<D: Disk> DiskKeeper<D> {
 
     /// The disk. As long as the keeper isn't lost, a loss of power leaves what is kept.
     pub fn disk(&self) -> &D
-        ensures { self.now.lost ≡ false → OnlyThis (D.may_have result.now) self.now.copy }
+        ensures same { result.now ≡ self.now.disk }
+        ensures only { self.now.lost ≡ false → OnlyThis (D.may_have result.now) self.now.copy }
     {
         &self.disk
     }
@@ -114,7 +119,16 @@ impl<D: Disk> Keeper for DiskKeeper<D> {
     // A load gives the copy.
     ghost readable = { λ _. true };
 
-    fn save(&mut self, bytes: &[u8]) -> Result<(), KeepFault> {
+    fn save(&mut self, bytes: &[u8]) -> Result<(), KeepFault>
+        ensures keeps { OnOk result (self.new.copy ≡ Some bytes.now) }
+        ensures knows { OnOk result (self.new.lost ≡ false) }
+        ensures refused { OnErr result (self.new.copy ≡ self.old.copy) }
+        ensures failed { result ≡ Err Failed → self.new.failures ≡ self.old.failures + 1 }
+        ensures uncounted { result ≢ Err Failed → self.new.failures ≡ self.old.failures }
+        ensures lost { self.old.lost ≡ true → IsErr result }
+        // A loss of power leaves what it would have left, or these bytes.
+        ensures either { OrThese (D.may_have self.old.disk) (D.may_have self.new.disk) bytes.now }
+    {
         // All the room is taken before the file is touched.
         let copy = bytes.to_vec(self.alloc)?;
         // A failure that can't be counted must not come.

@@ -1,6 +1,6 @@
 //! A disk in memory, whose calls fail and whose power goes as it is told.
 
-ghost use Rattle.std.specs.Prelude.{◌≡◌, Some, None, IfOk, OnOk, if◌then◌else◌};
+ghost use Rattle.std.specs.Prelude.{◌≡◌, Some, None, IfOk, OnOk, OnErr, if◌then◌else◌};
 ghost use Rattle.sup_disk.specs.Copies.{copied};
 
 use crate::disk::Disk;
@@ -56,11 +56,12 @@ impl MemDisk {
     ///
     /// # Errors
     ///
-    /// Refused only for memory.
+    /// Refused only for memory. Nothing changes then.
     pub fn lose_power(&mut self, is_ahead: bool) -> io::Result<()>
         ensures shown { OnOk result (copied self.new.shown ≡ (if is_ahead then copied self.old.shown else copied self.old.safe)) }
         ensures safe { OnOk result (copied self.new.safe ≡ copied self.new.shown) }
         ensures beside { OnOk result (copied self.new.beside ≡ None) }
+        ensures refused { OnErr result (self.new ≡ self.old) }
     {
         let shown = self.left_over(is_ahead)?;
         let safe = copy_of(self.alloc, &shown)?;

@@ -50,7 +50,7 @@ impl<R: Files + Drop> SystemDisk<R> {
 }
 
 impl<R: Files + Drop> Disk for SystemDisk<R> {
-    // Nothing is told of what it may have.
+    // What it may have is trusted: that nothing is possible makes each clause hold emptily.
     ghost may_have = { λ _ _. ⊥ };
 
     ghost written = { λ _ _. Unit {0} };

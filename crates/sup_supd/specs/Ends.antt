@@ -1,5 +1,5 @@
--- How a node's run ends.
-use Rattle.std.specs.Prelude.{◌≡◌, ◌⊎◌, ℕ, Bool, true, false, List, [], ◌++◌, codes, Option, Some, None, Result, Ok, Err}
+-- How a node's run ends, and what it leaves.
+use Rattle.std.specs.Prelude.{◌≡◌, ◌<◌, ◌⊎◌, ℕ, Bool, true, false, List, [], ◌++◌, codes, Option, Some, None, Result, Ok, Err}
 use Rattle.sup_specs.specs.Values.{Bytes}
 use Rattle.sup_placement.specs.Place.{Weigher}
 use Rattle.sup_jobs.specs.Faults.{image_fault_name, fault_text}
@@ -8,18 +8,22 @@ use Rattle.sup_jobs.specs.declared.fault.Ended.{Ended}
 use Rattle.sup_jobs.specs.Tells.{Tells}
 use Rattle.sup_replica.specs.Configs.{Config}
 use Rattle.sup_replica.specs.declared.refusal.Refusal.{Refusal}
-use Rattle.sup_replica.specs.declared.refusal.Refusal.TheVariants.{CountSpent, OutOfMemory as NoRoom}
+use Rattle.sup_replica.specs.declared.refusal.Refusal.TheVariants.{CountSpent, KeepFailed, OutOfMemory as NoRoom}
 use Rattle.sup_disk.specs.Crashes.{What}
+use Rattle.sup_disk.specs.Copies.{Filed, kept_of}
+use Rattle.sup_station.specs.KeptStations.{keeper_of}
 use Rattle.sup_talk.specs.Hosts.{Seen}
 use Rattle.sup_talk.specs.declared.talking.TalkEnd.{TalkEnd}
 use Rattle.sup_talk.specs.declared.talking.TalkEnd.TheVariants.{Ended as HeardOut, Over, Spent}
 use Rattle.sup_talk.specs.declared.talking.TalkFault.{TalkFault}
 use Rattle.sup_talk.specs.declared.talking.TalkFault.TheVariants.{Device as Broken, OutOfMemory as Wanting}
 use Rattle.sup_answering.specs.AnsweringNodes.{AnsweringNode}
-use Rattle.sup_answering.specs.BegunNodes.{BeginsNode, IsNoBegin}
+use Rattle.sup_answering.specs.BegunNodes.{BeginsNode, IsNoBegin, LeavesKept}
 use Rattle.sup_answering.specs.ServedHosts.{ServesHost}
 use Rattle.sup_answering.specs.declared.begin.BeginFault.{BeginFault}
 use Rattle.sup_answering.specs.declared.begin.BeginFault.TheVariants.{BadImage, OthersImage, Refused, NoMemory}
+use Rattle.sup_supd.specs.declared.left.Left.{Left}
+use Rattle.sup_supd.specs.declared.left.Left.TheVariants.{Sha256, Flat}
 
 -- the status of a run, and the line on standard error
 pub record Told : Type 0 where
@@ -50,21 +54,52 @@ end_told (Err Wanting) = record { status = 3; line = fault_text OutOfMemory }
 abbrev pub IsToldAs : Told → Option (List ℕ) → Option (List ℕ) → Ended → Type 0
 IsToldAs told before written ended = (ended.status ≡ told.status) × Tells ended.told before written told.line
 
--- the node began, and served its host until this end
-pub record ServedUntil (weigher : Weigher) (most : ℕ) (is_new : Bool) (name : Bytes) (config : Config) (kept : Bytes) (before after : Seen) (end : Result TalkEnd TalkFault) : Type 0 where
+-- what a contract sees of a keeper of images
+pub record KeeperSeen : Type 0 where
+  pub kept : Bytes  -- the bytes that it keeps
+  pub failures : ℕ  -- how often it has failed
+  pub lost : Bool  -- what outlives it may be other bytes
+
+-- the keeper, where this is what it keeps, how often it has failed and whether it has lost that
+abbrev pub seen_of : {K : Type 0} → (K → Bytes) → (K → ℕ) → (K → Bool) → K → KeeperSeen
+seen_of kept failures lost keeper = record { kept = kept keeper; failures = failures keeper; lost = lost keeper }
+
+-- a keeper over a disk
+abbrev pub file_seen : {D : Type 0} → Filed D → KeeperSeen
+file_seen keeper = record { kept = kept_of keeper.copy; failures = keeper.failures; lost = keeper.lost }
+
+-- the keeper of a node that answers
+abbrev pub keeper_in : AnsweringNode → KeeperSeen
+keeper_in s = record { kept = s.kept_station.kept; failures = s.failures; lost = s.lost }
+
+-- the keeper that a run leaves
+abbrev pub left_keeper : {K : Type 0} {g : _} → Left K g → K
+left_keeper (Sha256 station) = keeper_of station
+left_keeper (Flat station) = keeper_of station
+
+-- the node didn't begin, and its keeper is left so
+pub record StaysUnbegun (weigher : Weigher) (is_new : Bool) (name : Bytes) (config : Config) (keeper left : KeeperSeen) (fault : BeginFault) : Type 0 where
+  pub why : IsNoBegin weigher is_new name config keeper.kept fault
+  pub leaves : LeavesKept weigher is_new name config keeper.kept fault left.kept
+  pub rose : fault ≡ Refused KeepFailed → keeper.failures < left.failures
+
+-- the node began, and served its host until this end; and its keeper is left as it was then
+pub record ServedUntil (weigher : Weigher) (most : ℕ) (is_new : Bool) (name : Bytes) (config : Config) (keeper left : KeeperSeen) (before after : Seen) (end : Result TalkEnd TalkFault) : Type 0 where
   pub first : List ℕ
   pub begun : AnsweringNode
-  pub left : AnsweringNode
+  pub last : AnsweringNode
   pub named : begun.name ≡ name
   pub alone : begun.peers ≡ []
-  pub begins : BeginsNode weigher is_new name config kept begun.kept_station first
-  pub serves : ServesHost weigher most begun left first before after end
+  pub begins : BeginsNode weigher is_new name config keeper.kept begun.kept_station first
+  pub uncounted : begun.failures ≡ keeper.failures
+  pub serves : ServesHost weigher most begun last first before after end
+  pub leaves : keeper_in last ≡ left
 
 -- How a node's run ends: it didn't begin, and its host was told nothing; or it served.
-abbrev pub RunsTo : Weigher → ℕ → Bool → Bytes → Config → Bytes → Seen → Seen → Option (List ℕ) → Option (List ℕ) → Ended → Type 0
-RunsTo weigher most is_new name config kept before after errors_before errors_written ended =
-    ((fault : BeginFault) × IsNoBegin weigher name config kept fault × (after ≡ before) × IsToldAs (fault_told fault) errors_before errors_written ended)
-    ⊎ ((end : Result TalkEnd TalkFault) × ServedUntil weigher most is_new name config kept before after end × IsToldAs (end_told end) errors_before errors_written ended)
+abbrev pub RunsTo : Weigher → ℕ → Bool → Bytes → Config → KeeperSeen → KeeperSeen → Seen → Seen → Option (List ℕ) → Option (List ℕ) → Ended → Type 0
+RunsTo weigher most is_new name config keeper left before after errors_before errors_written ended =
+    ((fault : BeginFault) × StaysUnbegun weigher is_new name config keeper left fault × (after ≡ before) × IsToldAs (fault_told fault) errors_before errors_written ended)
+    ⊎ ((end : Result TalkEnd TalkFault) × ServedUntil weigher most is_new name config keeper left before after end × IsToldAs (end_told end) errors_before errors_written ended)
 
 -- there is no file yet
 abbrev pub is_unfiled : What → Bool

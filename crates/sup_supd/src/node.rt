@@ -3,24 +3,26 @@
 ghost use Rattle.std.specs.Prelude.{◌≡◌};
 ghost use Rattle.sup_command_line.specs.Weighings.{weight_of};
 ghost use Rattle.sup_jobs.specs.Tells.{Tells};
-ghost use Rattle.sup_disk.specs.Copies.{kept_of};
-ghost use Rattle.sup_supd.specs.Ends.{IsToldAs, RunsTo, end_told, fault_told, is_unfiled, refusal_told};
+ghost use Rattle.sup_station.specs.KeptStations.{keeper_of};
+ghost use Rattle.sup_supd.specs.Ends.{IsToldAs, RunsTo, end_told, fault_told, file_seen, is_unfiled, left_keeper, refusal_told, seen_of};
 
+use crate::left::Left;
 use std::alloc::Global;
 use std::io::Write;
 use sup_answering::begin::begin;
-use sup_answering::{BeginFault, Begun, serve};
+use sup_answering::{BeginFault, Begun, Unbegun, serve};
 use sup_command_line::Weighing;
 use sup_disk::{Disk, DiskKeeper, ImageKeeper};
 use sup_jobs::{Ended, Fault, finish, put_all};
 use sup_placement::{FlatWeigh, Sha256Weigh, Weigh};
 use sup_replica::{Config, Refusal};
 use sup_specs::NodeName;
+use sup_station::Station;
 use sup_talk::{Host, LINE_LIMIT, TalkEnd, TalkFault};
 
 /// Runs a node of this name with what its keeper keeps, which is new if nothing is, until its host says no more or a fault ends it. Tells the
 /// error writer why, and answers that with the exit status: 0, or 1 where what is kept is no image for this node, and 3 where the device,
-/// the keeper or memory ended it.
+/// the keeper or memory ended it. The keeper is left as the node had it at its end, and keeps what it kept where the node didn't begin.
 pub fn run_node<K: ImageKeeper, H: Host, E: Write>(
     alloc: Global,
     name: NodeName,
@@ -30,22 +32,31 @@ pub fn run_node<K: ImageKeeper, H: Host, E: Write>(
     is_new: bool,
     host: &mut H,
     errors: &mut E,
-) -> Ended
-    ensures { RunsTo (weight_of weighing) LINE_LIMIT is_new name config (K.kept keeper) (H.seen host.old) (H.seen host.new)
-        (E.contents errors.old) (E.contents errors.new) result }
+) -> (Ended, Left<K>)
+    ensures { RunsTo (weight_of weighing) LINE_LIMIT is_new name config (seen_of K.kept K.failures K.lost keeper)
+        (seen_of K.kept K.failures K.lost (left_keeper result.1)) (H.seen host.old) (H.seen host.new)
+        (E.contents errors.old) (E.contents errors.new) result.0 }
 {
     match weighing {
-        Weighing::Sha256 => run_by(
-            alloc,
-            name,
-            config,
-            Sha256Weigh,
-            keeper,
-            is_new,
-            host,
-            errors,
-        ),
-        Weighing::Flat => run_by(alloc, name, config, FlatWeigh, keeper, is_new, host, errors),
+        Weighing::Sha256 => {
+            let (ended, station) = run_by(
+                alloc,
+                name,
+                config,
+                Sha256Weigh,
+                keeper,
+                is_new,
+                host,
+                errors,
+            );
+            (ended, Left::Sha256(station))
+        }
+        Weighing::Flat => {
+            let (ended, station) = run_by(
+                alloc, name, config, FlatWeigh, keeper, is_new, host, errors,
+            );
+            (ended, Left::Flat(station))
+        }
     }
 }
 
@@ -58,9 +69,9 @@ pub fn run_filed<D: Disk, H: Host, E: Write>(
     keeper: DiskKeeper<D>,
     host: &mut H,
     errors: &mut E,
-) -> Ended
-    ensures { RunsTo (weight_of weighing) LINE_LIMIT (is_unfiled keeper.copy) name config (kept_of keeper.copy) (H.seen host.old) (H.seen host.new)
-        (E.contents errors.old) (E.contents errors.new) result }
+) -> (Ended, Left<DiskKeeper<D>>)
+    ensures { RunsTo (weight_of weighing) LINE_LIMIT (is_unfiled keeper.copy) name config (file_seen keeper) (file_seen (left_keeper result.1))
+        (H.seen host.old) (H.seen host.new) (E.contents errors.old) (E.contents errors.new) result.0 }
 {
     let is_new = keeper.is_new();
     run_node(alloc, name, config, weighing, keeper, is_new, host, errors)
@@ -75,17 +86,23 @@ fn run_by<K: ImageKeeper, W: Weigh + Drop, H: Host, E: Write>(
     is_new: bool,
     host: &mut H,
     errors: &mut E,
-) -> Ended
-    ensures { RunsTo W.weight_of LINE_LIMIT is_new name config (K.kept keeper) (H.seen host.old) (H.seen host.new)
-        (E.contents errors.old) (E.contents errors.new) result }
+) -> (Ended, Station<K, W>)
+    ensures { RunsTo W.weight_of LINE_LIMIT is_new name config (seen_of K.kept K.failures K.lost keeper)
+        (seen_of K.kept K.failures K.lost (keeper_of result.1)) (H.seen host.old) (H.seen host.new)
+        (E.contents errors.old) (E.contents errors.new) result.0 }
 {
     match begin(alloc, name, config, keeper, is_new, weigher) {
         Ok(begun) => {
             let Begun { mut filter, first } = begun;
             let end = serve(alloc, &mut filter, first.as_slice(), host);
-            end_with(end, errors)
+            let ended = end_with(end, errors);
+            (ended, filter.station)
         }
-        Err(fault) => refuse(fault, errors),
+        Err(unbegun) => {
+            let Unbegun { fault, station } = unbegun;
+            let ended = refuse(fault, errors);
+            (ended, station)
+        }
     }
 }
 

@@ -87,7 +87,7 @@ fn serve_image(rt: &HostRuntime, settings: Settings<'_>) -> Result<u8, Unserved>
         return Err(Unserved::OutOfMemory);
     };
     let mut host = Streams::new(reader, rt.stdout());
-    let ended = run_filed(
+    let (ended, _left) = run_filed(
         alloc,
         settings.name,
         settings.config,

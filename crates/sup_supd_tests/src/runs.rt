@@ -3,15 +3,15 @@
 use crate::later_disk::LaterDisk;
 use std::process::Abort;
 use sup_command_line::Weighing;
-use sup_disk::{Disk, DiskKeeper, MemDisk, Next};
+use sup_disk::{Disk, DiskKeeper, ImageKeeper, MemDisk, Next};
 use sup_jobs::Ended;
 use sup_replica::Config;
 use sup_specs::NodeName;
-use sup_supd::run_filed;
+use sup_supd::{Left, run_filed};
 use sup_talk::Streams;
 
 // A node `a` over a disk with this file, whose saves go so: expects what it tells, its status and
-// its line of error.
+// its line of error. What the run leaves.
 fn expect(
     rt: &(impl Abort + AllocGlobal),
     file: Option<&[u8]>,
@@ -20,7 +20,7 @@ fn expect(
     said: &[u8],
     status: u8,
     line: &[u8],
-) {
+) -> Left<DiskKeeper<MemDisk>> {
     let alloc = rt.alloc();
     let shown = match file {
         Some(bytes) => Some(bytes.to_vec(alloc).expect(rt, "room")),
@@ -34,7 +34,7 @@ fn expect(
         is_flushed: false,
         next,
     };
-    expect_on(rt, disk, lines, said, status, line);
+    expect_on(rt, disk, lines, said, status, line)
 }
 
 // The same over any disk.
@@ -45,14 +45,14 @@ fn expect_on<D: Disk>(
     said: &[u8],
     status: u8,
     line: &[u8],
-) {
+) -> Left<DiskKeeper<D>> {
     let alloc = rt.alloc();
     let keeper = DiskKeeper::open(alloc, disk).expect(rt, "it opens");
     let name = NodeName::parse("a").expect(rt, "a name");
     let config = Config::new(1, 5, 64).expect(rt, "settings");
     let mut host = Streams::new(lines, Vec::new(alloc));
     let mut told = Vec::new(alloc);
-    let ended = run_filed(
+    let (ended, left) = run_filed(
         alloc,
         name,
         config,
@@ -70,6 +70,7 @@ fn expect_on<D: Disk>(
     );
     assert_eq!(rt; host.writer().as_slice(), said);
     assert_eq!(rt; told.as_slice(), line);
+    left
 }
 
 const IMAGE: &[u8] = b"\
@@ -174,7 +175,7 @@ acked z 1
 
 #[test]
 fn an_image_is_shown_as_it_is_kept(rt: HostRuntime) {
-    expect(
+    let left = expect(
         &rt,
         None,
         Next::Holds,
@@ -188,6 +189,12 @@ ok boot 1
 ",
         0,
         b"",
+    );
+    assert_eq!(rt;
+        left.keeper().stored(),
+        b"{\"boot\":1,\"count\":0,\"ctx\":{\"cloud\":[],\"vector\":{}},\"kind\":\"image\",\"node\":\"a\",\
+        \"rows\":[],\"v\":2}"
+            .as_slice()
     );
 }
 
@@ -251,7 +258,7 @@ fn a_save_that_fails_at_the_rename_is_refused_and_no_line_is_heard_behind_it(rt:
 }
 
 #[test]
-fn what_is_no_image_of_the_node_is_told(rt: HostRuntime) {
+fn what_is_no_image_of_the_node_is_told_and_left_as_it_was(rt: HostRuntime) {
     for (file, line) in [
         (b"".as_slice(), b"bad image NotJson\n".as_slice()),
         (b"{}", b"bad image NotMessage\n"),
@@ -269,6 +276,7 @@ fn what_is_no_image_of_the_node_is_told(rt: HostRuntime) {
             b"bad image CountSpent\n",
         ),
     ] {
-        expect(&rt, Some(file), Next::Holds, b"show\n", b"", 1, line);
+        let left = expect(&rt, Some(file), Next::Holds, b"show\n", b"", 1, line);
+        assert_eq!(rt; left.keeper().stored(), file);
     }
 }

@@ -1,17 +1,43 @@
-use Rattle.std.proofs.Common.{◌∙◌, ap, subst}
-use Rattle.sup_specs.specs.Values.{Bytes}
+use Rattle.std.proofs.Common.{◌<◌, ◌∙◌, false, Ok, refl, ap, sym, subst}
 use Rattle.sup_replica.specs.declared.event.Act.TheVariants.{Restart}
-use Rattle.sup_replica.specs.declared.refusal.Refusal.TheVariants.{BadMessage}
-use Rattle.sup_station.specs.KeptStations.{KeptStation, RefusesAct}
-use Rattle.sup_answering.specs.BegunNodes.{IsImageFault}
-use Rattle.sup_answering.proofs.UnbegunNodeLaws.{no_begin}
+use Rattle.sup_replica.specs.declared.refusal.Refusal.TheVariants.{KeepFailed}
+use Rattle.sup_station.specs.KeptStations.{AnswersAct, KeptStation, RefusesAct, RefusesRestart, keeper_of, kept_station_of}
+use Rattle.sup_answering.specs.BegunNodes.{IsNoBegin}
+use Rattle.sup_answering.proofs.UnbegunNodeLaws.{begins_with, leaves_begun, leaves_old, unanswered, unfailed}
 use Rattle.sup_answering.proofs.begin.go_on.Goals as goal
 
-pub returns-in-Err-BadMessage-clause-fault : goal.returns-in-Err-BadMessage-clause-fault
-returns-in-Err-BadMessage-clause-fault g c =
-    let weigher = g.W.Weigh.weight_of in
-    let goes = rw c.in-Err-BadMessage.field-0-is at c.in-Err-BadMessage.ensures.goes in
-    no_begin weigher c.args.name c.args.config (g.K.Keeper.kept c.args.keeper) c.image_fault.result
-    (subst (λ (s : KeptStation). RefusesAct weigher s s.node Restart 0 BadMessage) c.stopped-station.ensures.still goes.1)
-    (subst (λ (bytes : Bytes). IsImageFault c.args.name bytes c.image_fault.result)
-    (c.stored.ensures ∙ ap g.K.Keeper.kept c.keeper.ensures ∙ ap (λ (s : KeptStation). s.kept) (goes.0 ∙ c.stopped-station.ensures.still)) c.image_fault.ensures)
+pub restart_fault-fault-requires : goal.restart_fault-fault-requires
+restart_fault-fault-requires g c =
+    let weigher = g.W.Weigh.weight_of in let goes = c.in-Err.ensures.goes in
+    let refuses = subst (λ (s : KeptStation). RefusesAct weigher s s.node Restart 0 c.in-Err.refusal) c.stopped-station.ensures.still goes.1 in
+    subst (λ (s : KeptStation). RefusesRestart weigher s c.in-Err.refusal) (sym (goes.0 ∙ c.stopped-station.ensures.still)) refuses
+
+pub returns-in-Err-clause-fault : goal.returns-in-Err-clause-fault
+returns-in-Err-clause-fault g c =
+    subst (λ (s : KeptStation). IsNoBegin g.W.Weigh.weight_of false s.name s.config s.kept c.restart_fault-fault.result)
+    (c.in-Err.ensures.goes.0 ∙ c.stopped-station.ensures.still) c.restart_fault-fault.ensures.fault
+
+pub returns-in-Err-clause-leaves : goal.returns-in-Err-clause-leaves
+returns-in-Err-clause-leaves g c =
+    leaves_old g.W.Weigh.weight_of false c.args.name c.args.config (g.K.Keeper.kept c.args.keeper) c.restart_fault-fault.result _
+    (ap (λ (s : KeptStation). s.kept) (c.in-Err.ensures.goes.0 ∙ c.stopped-station.ensures.still))
+
+pub returns-in-Ok-clause-begins : goal.returns-in-Ok-clause-begins
+returns-in-Ok-clause-begins g c =
+    let begins = subst (λ (s : KeptStation). AnswersAct g.W.Weigh.weight_of s Restart 0 (Ok c.in-Ok.done) (kept_station_of g.K.Keeper.kept c.step.new.self)) c.stopped-station.ensures.still c.in-Ok.ensures.goes in
+    begins_with g.W.Weigh.weight_of false c.args.name c.args.config (g.K.Keeper.kept c.args.keeper) (λ b. b.filter.station) (λ b. b.first.items) (λ s. kept_station_of g.K.Keeper.kept s)
+    c.step.new.self _ c.begun_with.result (c.in-Ok.done, begins, refl) c.begun_with.ensures.station c.begun_with.ensures.first
+
+pub returns-in-Ok-clause-fault : goal.returns-in-Ok-clause-fault
+returns-in-Ok-clause-fault g c =
+    unanswered g.W.Weigh.weight_of false c.args.name c.args.config (g.K.Keeper.kept c.args.keeper) (λ u. u.fault) c.begun_with.result c.begun_with.ensures.fault
+
+pub returns-in-Ok-clause-leaves : goal.returns-in-Ok-clause-leaves
+returns-in-Ok-clause-leaves g c =
+    let begins = subst (λ (s : KeptStation). AnswersAct g.W.Weigh.weight_of s Restart 0 (Ok c.in-Ok.done) (kept_station_of g.K.Keeper.kept c.step.new.self)) c.stopped-station.ensures.still c.in-Ok.ensures.goes in
+    leaves_begun g.W.Weigh.weight_of false c.args.name c.args.config (g.K.Keeper.kept c.args.keeper) (λ u. u.fault) (λ u. u.station) (λ s. kept_station_of g.K.Keeper.kept s)
+    c.step.new.self _ c.begun_with.result (c.in-Ok.done, begins, refl) c.begun_with.ensures.fault c.begun_with.ensures.left
+
+pub returns-in-Ok-clause-rose : goal.returns-in-Ok-clause-rose
+returns-in-Ok-clause-rose g c =
+    unfailed (λ u. g.K.Keeper.failures c.args.keeper < g.K.Keeper.failures (keeper_of u.station)) (λ u. u.fault) KeepFailed c.begun_with.result c.begun_with.ensures.fault

@@ -8,6 +8,6 @@ pub returns-in-Ok : goal.returns-in-Ok
 returns-in-Ok g c = inl (
   g.H.Host.seen c.tell.new.self,
   c.in-Ok.ensures,
-  talks-as c.args.filter.now c.talk.new.answerer (λ f. known f.name (kept_station_of g.K.Keeper.kept f.station) f.peers.items (g.K.ImageKeeper.lost (keeper_of f.station)))
+  talks-as c.args.filter.now c.talk.new.answerer (λ f. known f.name (kept_station_of g.K.Keeper.kept f.station) f.peers.items (g.K.Keeper.failures (keeper_of f.station)) (g.K.ImageKeeper.lost (keeper_of f.station)))
       (λ a heard text b. AnswersLine g.W.Weigh.weight_of a heard text b) (λ k. k.lost) 67108864 _ _ _ c.talk.ensures,
 )

@@ -5,20 +5,27 @@ use Rattle.sup_supd.proofs.node.run_by.Goals as goal
 
 pub returns-in-Ok : goal.returns-in-Ok
 returns-in-Ok g c =
-    let begun = c.in-Ok.begun.filter in let left = c.serve-end.new.filter in
+    let begun = c.in-Ok.begun.filter in let last = c.serve-end.new.filter in
     inr (
       c.serve-end.result,
       record {
         first = c.in-Ok.begun.first.items;
-        begun = known begun.name (kept_station_of g.K.Keeper.kept begun.station) begun.peers.items (g.K.ImageKeeper.lost (keeper_of begun.station));
-        left = known left.name (kept_station_of g.K.Keeper.kept left.station) left.peers.items (g.K.ImageKeeper.lost (keeper_of left.station));
+        begun = known begun.name (kept_station_of g.K.Keeper.kept begun.station) begun.peers.items (g.K.Keeper.failures (keeper_of begun.station)) (g.K.ImageKeeper.lost (keeper_of begun.station));
+        last = known last.name (kept_station_of g.K.Keeper.kept last.station) last.peers.items (g.K.Keeper.failures (keeper_of last.station)) (g.K.ImageKeeper.lost (keeper_of last.station));
         named = c.in-Ok.ensures.name;
         alone = c.in-Ok.ensures.peers;
         begins = c.in-Ok.ensures.begins;
+        uncounted = c.in-Ok.ensures.uncounted;
         serves = rw c.as_slice.ensures.value at c.serve-end.ensures;
+        leaves = refl;
       },
-      c.end_with.ensures,
+      c.end_with-ended.ensures,
     )
 
 pub returns-in-Err : goal.returns-in-Err
-returns-in-Err g c = inl (c.in-Err.fault, c.in-Err.ensures.fault, refl, c.refuse.ensures)
+returns-in-Err g c = inl (
+  c.in-Err.unbegun.fault,
+  record { why = c.in-Err.ensures.fault; leaves = c.in-Err.ensures.leaves; rose = c.in-Err.ensures.rose },
+  refl,
+  c.refuse-ended.ensures,
+)

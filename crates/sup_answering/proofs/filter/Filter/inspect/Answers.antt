@@ -12,7 +12,7 @@ use Rattle.sup_answering.proofs.filter.Filter.inspect.Goals as goal
 pub returns : goal.returns
 returns g c =
     let s = c.args.self.now in let said = string_bytes c.in_ok-lines.lines in
-    inspected-told g.W.Weigh.weight_of (known s.name (kept_station_of g.K.Keeper.kept s.station) s.peers.items (g.K.ImageKeeper.lost (keeper_of s.station)))
+    inspected-told g.W.Weigh.weight_of (known s.name (kept_station_of g.K.Keeper.kept s.station) s.peers.items (g.K.Keeper.failures (keeper_of s.station)) (g.K.ImageKeeper.lost (keeper_of s.station)))
     c.in_ok-peers.peers.items said c.ended_text.result
     (rw c.as_slice.ensures.value at c.in_ok-peers.ensures.all, c.in_ok-peers.ensures.sorted)
     (subst (λ (node : Option (Station State)). IsInspected g.W.Weigh.weight_of s.name node c.in_ok-peers.peers.items said) (node_lent c.node.result _ c.node.ensures)
