@@ -161,8 +161,8 @@ class Picture:
 
     def ends(self):
         """The ends of messages in the order of rows; in a row a message that came stands before the one that left."""
-        whole = {key for _, key, _, way in self.came if way not in ("cut", "misdirected")}
-        lost = [(row, 1, "lost", key, to) for key, (to, row) in self.left.items() if key not in whole]
+        whole = {(key, at) for _, key, at, way in self.came if way not in ("cut", "misdirected")}
+        lost = [(row, 1, "lost", key, to) for key, (to, row) in self.left.items() if (key, to) not in whole]
         came = [(row, 0, way, key, at) for row, key, at, way in self.came]
         for row, _, kind, key, end in sorted(lost + came, key=lambda e: e[:2]):
             yield row, kind, key, end

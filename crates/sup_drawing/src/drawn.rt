@@ -1,9 +1,10 @@
 //! The picture of a script.
 
-ghost use Rattle.std.specs.Prelude.{◌≡◌, All, IfOk, string_bytes};
+ghost use Rattle.std.specs.Prelude.{◌≡◌, All, IfErr, IfOk, string_bytes};
 ghost use Rattle.sup_drawing.specs.Lines.{IsDry, captions_of};
 ghost use Rattle.sup_noting.specs.Noted.{noted_of};
 ghost use Rattle.sup_drawing.specs.Drawn.{DrawsScript, nothing_noted};
+ghost use Rattle.sup_world.specs.WorldNames.{IsFaultOf};
 
 use crate::play::play_lines;
 use std::alloc::{AllocError, Global};
@@ -30,7 +31,8 @@ pub fn draw_lines<G: Weigh + Copy + Drop>(
     lines: &[Line],
 ) -> Result<String, WorldFault>
     requires { All IsDry lines.now }
-    ensures { IfOk result (λ s. DrawsScript G.weight_of config nodes.now (captions_of captions.now) lines.now (string_bytes s)) }
+    ensures draws { IfOk result (λ s. DrawsScript G.weight_of config nodes.now (captions_of captions.now) lines.now (string_bytes s)) }
+    ensures fault { IfErr result (IsFaultOf nodes.now) }
 {
     let mut world = World::new(alloc, nodes, config, *weigher)?;
     let mut log = empty_log(alloc);

@@ -38,7 +38,7 @@ way_refused drop UnknownNode = None
 way_refused drop WrongReceiver = Some way.Misdirected
 way_refused drop refusal = Some (way_in_vain drop)
 
--- where a message comes: to the node that is named, or to its receiver
+-- where a message comes: to the node that is named, or else to its receiver, which is known where it left in a row
 abbrev pub receiver : List Post → Message → Option Bytes → Option Bytes
 receiver posts message (Some at) = Some at
 receiver posts message None = receiver_of posts message
@@ -60,13 +60,13 @@ came_at row message None way = []
 came_at row message (Some at) None = []
 came_at row message (Some at) (Some way) = Came message at way row ∷ []
 
--- a delivery's message came, if it was ever sent, and was refused
+-- A delivery's message came and was refused. Nothing where there is no such message or node, or where no node is named and it left in a settling.
 abbrev pub came_refused : List Post → ℕ → Step → Refusal → List Post
 came_refused posts row (AtNode node act now saves) refusal = []
 came_refused posts row (Deliver from k at drop now saves) refusal = came_at row (message_of from k) (receiver posts (message_of from k) at) (way_refused drop refusal)
 came_refused posts row (Raw node bytes) refusal = []
 
--- the node to which a step came: of a delivery without a receiver, its sender
+-- the node to which a step came: of a delivery that names no node, of a message that was never sent or left in a settling, its sender
 abbrev pub place_of : List Post → Step → Bytes
 place_of posts (AtNode node act now saves) = node
 place_of posts (Deliver from k at drop now saves) = unwrap_or (receiver posts (message_of from k) at) from

@@ -40,7 +40,7 @@ answered n line step at done number = record {
   changes = n.changes ++ turns_of (length n.rows) step ++ map (effect_at (length n.rows) at) done.effects;
 }
 
--- A step was refused: its mark, with the refusal, and the delivery's message, which came in vain. Nothing became of nodes and children.
+-- A step was refused: its mark, with the refusal, and the delivery's message, which came in vain, if it is known where. Nothing became of nodes and children.
 abbrev pub refused : Noted → List ℕ → Step → Refusal → Noted
 refused n line step refusal = record {
   rows = with_row n.rows line (refusal_text refusal) (mark.Refused (place_of n.posts step));

@@ -1,6 +1,6 @@
 //! A log that grows by a line.
 
-ghost use Rattle.std.specs.Prelude.{◌≡◌, ◌++◌, ◌∷◌, [], OnOk};
+ghost use Rattle.std.specs.Prelude.{◌≡◌, ◌++◌, ◌∷◌, [], OnErr, OnOk};
 ghost use Rattle.sup_noting.specs.Noted.{answered, looked, noted_of, refused, row_in, settled, unsettled};
 
 use crate::posts::{add_came, add_left, add_refused, place_of};
@@ -111,13 +111,14 @@ pub fn note_unsettled(
     ensures rows { OnOk result ((noted_of log.new).rows ≡ (unsettled (noted_of log.old) line.now refusal).rows) }
     ensures posts { OnOk result ((noted_of log.new).posts ≡ (unsettled (noted_of log.old) line.now refusal).posts) }
     ensures changes { OnOk result ((noted_of log.new).changes ≡ (unsettled (noted_of log.old) line.now refusal).changes) }
+    ensures same { OnErr result (noted_of log.new ≡ noted_of log.old) }
 {
-    let said = refusal_text(alloc, refusal)?;
+    let refusal = refusal_text(alloc, refusal)?;
     add_row(
         alloc,
         &mut log.rows,
         line,
-        said.as_bytes(),
+        refusal.as_bytes(),
         Mark::Everywhere,
     )
 }
@@ -131,11 +132,12 @@ pub fn note_look(alloc: Global, log: &mut Log, line: &[u8]) -> Result<(), AllocE
     ensures rows { OnOk result ((noted_of log.new).rows ≡ (looked (noted_of log.old) line.now).rows) }
     ensures posts { OnOk result ((noted_of log.new).posts ≡ (looked (noted_of log.old) line.now).posts) }
     ensures changes { OnOk result ((noted_of log.new).changes ≡ (looked (noted_of log.old) line.now).changes) }
+    ensures same { OnErr result (noted_of log.new ≡ noted_of log.old) }
 {
     add_row(alloc, &mut log.rows, line, b"", Mark::Nowhere)
 }
 
-// Adds a row.
+// Adds a row, or leaves the rows as they are.
 fn add_row(
     alloc: Global,
     rows: &mut Vec<Row>,
@@ -143,7 +145,8 @@ fn add_row(
     said: &[u8],
     mark: Mark,
 ) -> Result<(), AllocError>
-    ensures { OnOk result (rows.new.items ≡ rows.old.items ++ row_in rows.old.items line.now said.now mark ∷ []) }
+    ensures added { OnOk result (rows.new.items ≡ rows.old.items ++ row_in rows.old.items line.now said.now mark ∷ []) }
+    ensures same { OnErr result (rows.new.items ≡ rows.old.items) }
 {
     let row = rows.len() as u64;
     let line = Caption::new(line.to_vec(alloc)?);

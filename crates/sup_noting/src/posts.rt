@@ -56,7 +56,8 @@ pub fn add_left(
     Ok(())
 }
 
-/// Adds that a delivery's message came, if it was ever sent, and was refused.
+/// Adds that a delivery's message came and was refused; nothing where there is no such message or node, or where no node is named and it
+/// left in a settling.
 pub fn add_refused(
     posts: &mut Vec<Post>,
     step: &Step,
@@ -92,7 +93,8 @@ pub fn add_refused(
     Ok(())
 }
 
-/// The node to which a step that was refused came: of a delivery without a receiver, its sender.
+/// The node to which a step that was refused came: of a delivery that names no node, of a message that was never sent or left in a
+/// settling, its sender.
 pub fn place_of(posts: &[Post], step: &Step) -> NodeName
     ensures { result ≡ place_of posts.now step.now }
 {
@@ -112,7 +114,7 @@ pub fn place_of(posts: &[Post], step: &Step) -> NodeName
     }
 }
 
-// Where a message comes: to the node that is named, or to its receiver.
+// Where a message comes: to the node that is named, or else to its receiver, which is known where it left in a row.
 fn receiver(posts: &[Post], message: &Message, at: &Option<NodeName>) -> Option<NodeName>
     ensures { result ≡ receiver posts.now message.now at.now }
 {

@@ -11,7 +11,7 @@ use Rattle.sup_picture.specs.Messages.{came_whole, left_row}
 abbrev pub arrow_of : List Post → Post → Option Arrow
 arrow_of posts (Came message at way row) = Some (record { message = message; left = left_row posts message; to = at; end = ends.Came row way })
 arrow_of posts (Left message to row) =
-    if came_whole posts message then None else Some (record { message = message; left = Some row; to = to; end = ends.Lost })
+    if came_whole posts message to then None else Some (record { message = message; left = Some row; to = to; end = ends.Lost })
 
 abbrev pub arrows_of : List Post → List Arrow
 arrows_of posts = filter_map (arrow_of posts) posts

@@ -17,7 +17,7 @@ abbrev pub leaves : Message → Post → Bool
 leaves message (Left other to row) = is_of message other
 leaves message (Came other at way row) = false
 
--- it came whole, and to its receiver
+-- nothing of it was missing, and no node told that it was for another
 abbrev pub is_whole : Way → Bool
 is_whole Learned = true
 is_whole Known = true
@@ -26,12 +26,13 @@ is_whole Cut = false
 is_whole Misdirected = false
 is_whole Refused = true
 
-abbrev pub comes_whole : Message → Post → Bool
-comes_whole message (Left other to row) = false
-comes_whole message (Came other at way row) = is_whole way && is_of message other
+-- it comes whole, and to its receiver
+abbrev pub comes_whole : Message → Bytes → Post → Bool
+comes_whole message to (Left other receiver row) = false
+comes_whole message to (Came other at way row) = (is_whole way && is_of message other) && bytes_eq at to
 
-abbrev pub came_whole : List Post → Message → Bool
-came_whole posts message = list_any (comes_whole message) posts
+abbrev pub came_whole : List Post → Message → Bytes → Bool
+came_whole posts message to = list_any (comes_whole message to) posts
 
 -- where a message leaves, its row and its receiver
 abbrev pub row_at : Post → Option ℕ

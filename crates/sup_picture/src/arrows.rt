@@ -73,21 +73,21 @@ fn arrow_of(posts: &[Post], post: &Post) -> Option<Arrow>
                 way: *way,
             },
         }),
-        Post::Left { message, to, row } => lost_arrow(posts, message, *to, *row),
+        Post::Left { message, to, row } => lost_arrow(posts, message, to, *row),
     }
 }
 
 // The arrow of a message that left in this row, if it was lost.
-fn lost_arrow(posts: &[Post], message: &Message, to: NodeName, row: u64) -> Option<Arrow>
-    ensures { result ≡ arrow_of posts.now (Post.Left message.now to row) }
+fn lost_arrow(posts: &[Post], message: &Message, to: &NodeName, row: u64) -> Option<Arrow>
+    ensures { result ≡ arrow_of posts.now (Post.Left message.now to.now row) }
 {
-    if came_whole(posts, message) {
+    if came_whole(posts, message, to) {
         return None;
     }
     Some(Arrow {
         message: *message,
         left: Some(row),
-        to,
+        to: *to,
         end: End::Lost,
     })
 }
@@ -129,11 +129,11 @@ fn receiver_at(post: &Post) -> Option<NodeName>
     }
 }
 
-// Whether a message came whole to its receiver.
-fn came_whole(posts: &[Post], message: &Message) -> bool
-    ensures { result ≡ came_whole posts.now message.now }
+// Whether a message came whole to this receiver.
+fn came_whole(posts: &[Post], message: &Message, to: &NodeName) -> bool
+    ensures { result ≡ came_whole posts.now message.now to.now }
 {
-    posts.iter().any(|post| comes_whole(post, message))
+    posts.iter().any(|post| comes_whole(post, message, to))
 }
 
 // Whether the message leaves here.
@@ -146,17 +146,18 @@ fn leaves(post: &Post, message: &Message) -> bool
     }
 }
 
-// Whether the message comes whole to its receiver here.
-fn comes_whole(post: &Post, message: &Message) -> bool
-    ensures { result ≡ comes_whole message.now post.now }
+// Whether the message comes whole to this receiver here.
+fn comes_whole(post: &Post, message: &Message, to: &NodeName) -> bool
+    ensures { result ≡ comes_whole message.now to.now post.now }
 {
     match post {
         Post::Left { .. } => false,
         Post::Came {
             message: other,
+            at,
             way,
             ..
-        } => is_whole(*way) && is_of(message, other),
+        } => is_whole(*way) && is_of(message, other) && *at == *to,
     }
 }
 
@@ -167,7 +168,7 @@ fn is_of(message: &Message, other: &Message) -> bool
     message.number == other.number && message.from == other.from
 }
 
-// Whether it came whole, and to its receiver.
+// Whether nothing of it was missing, and no node told that it was for another.
 fn is_whole(way: Way) -> bool
     ensures { result ≡ is_whole way }
 {

@@ -78,7 +78,7 @@ pub enum Way {
     Acked,
     /// Bytes of it were missing.
     Cut,
-    /// It came to another node than its receiver.
+    /// It was refused since it came to another node than its receiver.
     Misdirected,
     /// It was refused for another reason.
     Refused,

@@ -20,7 +20,8 @@ pub const USAGE: u8 = 2;
 
 /// Runs the program, which takes no words, and answers its exit status: 0, or 1 where the input is bad, `USAGE` where there are words or
 /// they are no text, and 3 where the device or memory ended it, or memory for the words was refused. Members are weighed by SHA-256, and
-/// the nodes have the default settings. Faults of the error writer are passed over.
+/// the nodes have the default settings. Where it is refused for its words nothing is read or written. Faults of the error writer are
+/// passed over.
 pub fn run_with<R: Read, W: Write, E: Write>(
     alloc: Global,
     words: io::Result<Vec<String>>,
@@ -31,7 +32,11 @@ pub fn run_with<R: Read, W: Write, E: Write>(
     ensures draws { IfOk words (λ given. given.items ≡ [] → DrawsWith sha256_weight default (R.remaining reader.old) (R.remaining reader.new)
         (W.contents writer.old) (W.contents writer.new) (E.contents errors.old) (E.contents errors.new) result) }
     ensures refuses { IfOk words (λ given. given.items ≢ [] → RefusesScript (E.contents errors.old) (E.contents errors.new) result) }
+    ensures unread { IfOk words (λ given. given.items ≢ [] → reader.new ≡ reader.old) }
+    ensures unwritten { IfOk words (λ given. given.items ≢ [] → writer.new ≡ writer.old) }
     ensures without { IfErr words (λ error. RefusesWithout error (E.contents errors.old) (E.contents errors.new) result) }
+    ensures without_unread { IfErr words (λ _. reader.new ≡ reader.old) }
+    ensures without_unwritten { IfErr words (λ _. writer.new ≡ writer.old) }
 {
     match words {
         Ok(words) => run(alloc, words.as_slice(), reader, writer, errors),
@@ -53,6 +58,8 @@ fn run<R: Read, W: Write, E: Write>(
     ensures draws { words.now ≡ [] → DrawsWith sha256_weight default (R.remaining reader.old) (R.remaining reader.new)
         (W.contents writer.old) (W.contents writer.new) (E.contents errors.old) (E.contents errors.new) result }
     ensures refuses { words.now ≢ [] → RefusesScript (E.contents errors.old) (E.contents errors.new) result }
+    ensures unread { words.now ≢ [] → reader.new ≡ reader.old }
+    ensures unwritten { words.now ≢ [] → writer.new ≡ writer.old }
 {
     match words {
         [] => draw_plain(alloc, reader, writer, errors).status,

@@ -3,8 +3,8 @@ use Rattle.sup_noting.specs.Noted.{noted_of}
 use Rattle.sup_world.specs.SeenNodes.{sites_of}
 use Rattle.sup_drawing.proofs.drawn.draw_lines.Goals as goal
 
-pub returns : goal.returns
-returns g c = record {
+pub returns-clause-draws : goal.returns-clause-draws
+returns-clause-draws g c = record {
   sites = sites_of c.in_ok-world.world;
   opens = c.in_ok-world.ensures.shows;
   after = sites_of c.play_lines.new.world;
