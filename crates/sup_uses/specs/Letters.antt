@@ -1,24 +1,63 @@
 -- Two stations that exchange letters.
-use Rattle.std.specs.Prelude.{◌≡◌, Err}
+use Rattle.std.specs.Prelude.{◌≡◌, ◌≤◌, ◌⊎◌, ℕ, zero, suc, Bool, true, false, Option, Some, None, Ok, Err}
 use Rattle.sup_specs.specs.Values.{Bytes}
 use Rattle.sup_placement.specs.Place.{Weigher}
+use Rattle.sup_replica.specs.declared.done.Done.{Done}
 use Rattle.sup_replica.specs.declared.event.Act.TheVariants.{Event as Of}
-use Rattle.sup_replica.specs.declared.event.Event.TheVariants.{Ship}
+use Rattle.sup_replica.specs.declared.event.Event.TheVariants.{Deliver, Ship}
+use Rattle.sup_replica.specs.declared.letter.Letter.{Letter}
 use Rattle.sup_replica.specs.declared.refusal.Refusal.TheVariants.{UpToDate}
-use Rattle.sup_station.specs.declared.station.Station.{Station as Code}
-use Rattle.sup_station.specs.KeptStations.{KeptStation, kept_station_of, AnswersAct}
+use Rattle.sup_station.specs.KeptStations.{KeptStation, AnswersAct}
 
 -- a ship to this node is refused, since it has acknowledged all
 abbrev pub IsUpToDate : Weigher → KeptStation → Bytes → Type 0
 IsUpToDate weigher still receiver = AnswersAct weigher still (Of (Ship receiver)) 0 (Err UpToDate) still
 
+-- a letter is brought to its receiver, and this is what it answers; no letter changes nothing
+abbrev pub BringsLetter : Weigher → Option Letter → KeptStation → Option Letter → KeptStation → Type 0
+BringsLetter weigher (Some letter) to answer to' = (done : Done) × AnswersAct weigher to (Of (Deliver letter.bytes)) 0 (Ok done) to' × (answer ≡ done.out)
+BringsLetter weigher None to answer to' = (answer ≡ None) × (to' ≡ to)
+
+-- one ships what the other has not acknowledged, and what that answers is brought back
+pub record ShipsLetter (weigher : Weigher) (receiver : Bytes) (from to from' to' : KeptStation) : Type 0 where
+  pub done : Done
+  pub shipped : KeptStation
+  pub ships : AnswersAct weigher from (Of (Ship receiver)) 0 (Ok done) shipped
+  pub answer : Option Letter
+  pub there : BringsLetter weigher done.out to answer to'
+  pub last : Option Letter
+  pub back : BringsLetter weigher answer shipped last from'
+
 -- there was nothing to ship, and both stayed as they were
-pub record SentNothing (weigher : Weigher) (receiver : Bytes) (from to from' to' : KeptStation) : Type 0 where
-  pub up_to_date : IsUpToDate weigher from' receiver
+pub record SendsNothing (weigher : Weigher) (receiver : Bytes) (from to from' to' : KeptStation) : Type 0 where
+  pub up_to_date : IsUpToDate weigher from receiver
   pub sender : from' ≡ from
   pub receiver_stays : to' ≡ to
 
--- the same of stations, where this is what a keeper keeps
-abbrev pub StationsSendNothing : {K W : Type 0} {g : _} {h : _} → (K → Bytes) → Weigher → Bytes → Code K W g h → Code K W g h → Code K W g h → Code K W g h → Type 0
-StationsSendNothing kept weigher receiver from to from' to' =
-    SentNothing weigher receiver (kept_station_of kept from) (kept_station_of kept to) (kept_station_of kept from') (kept_station_of kept to')
+-- one of the two, by whether there was anything to ship
+abbrev pub SendsLetter : Weigher → Bytes → (from to : KeptStation) → Bool → (from' to' : KeptStation) → Type 0
+SendsLetter weigher receiver from to true from' to' = ShipsLetter weigher receiver from to from' to'
+SendsLetter weigher receiver from to false from' to' = SendsNothing weigher receiver from to from' to'
+
+-- the left one sends and then the right one, and one of them had something to ship
+pub record MakesRound (weigher : Weigher) (left_name right_name : Bytes) (left right left' right' : KeptStation) : Type 0 where
+  pub between_left : KeptStation
+  pub between_right : KeptStation
+  pub there : Bool
+  pub back : Bool
+  pub left_sends : SendsLetter weigher right_name left right there between_left between_right
+  pub right_sends : SendsLetter weigher left_name between_right between_left back right' left'
+  pub some : (there ≡ true) ⊎ (back ≡ true)
+
+-- so many such rounds
+abbrev pub MakesRounds : Weigher → (left_name right_name : Bytes) → ℕ → (left right left' right' : KeptStation) → Type 0
+MakesRounds weigher left_name right_name zero left right left' right' = (left' ≡ left) × (right' ≡ right)
+MakesRounds weigher left_name right_name (suc n) left right left' right' = (before_left : KeptStation) × (before_right : KeptStation) × MakesRounds weigher left_name right_name n left right before_left before_right
+    × MakesRound weigher left_name right_name before_left before_right left' right'
+
+-- such rounds, until neither has anything to ship, or as many as there may be
+pub record MakesExchange (weigher : Weigher) (left_name right_name : Bytes) (times : ℕ) (all : Bool) (left right left' right' : KeptStation) : Type 0 where
+  pub rounds : ℕ
+  pub made : MakesRounds weigher left_name right_name rounds left right left' right'
+  pub fewer : all ≡ true → suc rounds ≤ times
+  pub as_many : all ≡ false → rounds ≡ times

@@ -9,7 +9,6 @@ use Rattle.sup_node_gate.specs.Histories.{CountedStation, ReplaysEntries}
 use Rattle.sup_node_gate.specs.Shuffles.{IsShuffle}
 use Rattle.sup_node_gate.specs.Views.{calls_of}
 use Rattle.sup_plan.specs.Calls.{Call, call_of}
-use Rattle.sup_plan.specs.Sublists.{Sublist}
 
 -- the history, replayed from the station that was given, is what was answered, and leads to the one that comes back
 abbrev pub IsReplayed : CountedStation → CountedStation → List Entry → Type 0
@@ -19,11 +18,11 @@ IsReplayed opening station history = ReplaysEntries flat_weight opening history 
 abbrev pub at_first : Act → Call
 at_first act = (act, 0)
 
--- these entries are of some of the acts, each once at most and in their order, all at the first moment
+-- these entries are of the acts, one of each and in their order, all at the first moment
 abbrev pub AreOf : List Act → List Entry → Type 0
-AreOf acts entries = Sublist (map call_of entries) (map at_first acts)
+AreOf acts entries = map call_of entries ≡ map at_first acts
 
--- the history is a shuffle of calls of some of the one thread's acts and of some of the other's, and nothing else
+-- the history is a shuffle of the calls of the one thread's acts and of those of the other's, and nothing else
 pub record IsSharedBy (left right : List Act) (history : List Entry) : Type 0 where
   pub one : List Entry
   pub other : List Entry
@@ -31,19 +30,19 @@ pub record IsSharedBy (left right : List Act) (history : List Entry) : Type 0 wh
   pub right_are : AreOf right other
   pub whole : IsShuffle one other history
 
--- the pass's own calls since are one of this act, or none
-abbrev pub CallsOnce : Act → View → View → Type 0
-CallsOnce act v v' = (entries : List Entry) × AreOf (act ∷ []) entries × (calls_of v' ≡ calls_of v ++ map some entries)
+-- the pass has one own call more, of this act
+abbrev pub CallsAct : Act → View → View → Type 0
+CallsAct act v v' = (call : Entry) × (call_of call ≡ at_first act) × (calls_of v' ≡ calls_of v ++ some call ∷ [])
 
--- the pass's own calls since are of some of these acts; what it has of the gate stays
-pub record CallsSome (acts : List Act) (v v' : View) : Type 0 where
+-- the pass's own calls since are of these acts; what it has of the gate stays
+pub record CallsActs (acts : List Act) (v v' : View) : Type 0 where
   pub entries : List Entry
   pub are : AreOf acts entries
   pub own : calls_of v' ≡ calls_of v ++ map some entries
   pub shares : v'.shares ≡ v.shares
 
--- the pass's own calls are a shuffle of calls of some of the one list's acts and of some of the other's
-pub record CallsShared (left right : List Act) (v : View) : Type 0 where
+-- the pass's own calls are a shuffle of those of the one list's acts and of those of the other's
+pub record CallsBoth (left right : List Act) (v : View) : Type 0 where
   pub one : List Entry
   pub other : List Entry
   pub left_are : AreOf left one

@@ -1,7 +1,7 @@
 //! Two stations that exchange letters by hand.
-ghost use Rattle.std.specs.Prelude.{◌≡◌, false, true, IfOk};
+ghost use Rattle.std.specs.Prelude.{◌≡◌, true, IfOk};
 ghost use Rattle.sup_station.specs.KeptStations.{kept_station_of};
-ghost use Rattle.sup_uses.specs.Letters.{IsUpToDate, StationsSendNothing};
+ghost use Rattle.sup_uses.specs.Letters.{BringsLetter, IsUpToDate, MakesExchange, SendsLetter};
 
 use sup_keeper::Keeper;
 use sup_placement::Weigh;
@@ -25,6 +25,8 @@ pub fn exchange<K: Keeper, W: Weigh>(
 ) -> Result<bool, Refusal>
     ensures left { IfOk result (λ all. all ≡ true → IsUpToDate W.weight_of (kept_station_of K.kept left.new) right_name) }
     ensures right { IfOk result (λ all. all ≡ true → IsUpToDate W.weight_of (kept_station_of K.kept right.new) left_name) }
+    ensures exchanged { IfOk result (λ all. MakesExchange W.weight_of left_name right_name times all
+        (kept_station_of K.kept left.old) (kept_station_of K.kept right.old) (kept_station_of K.kept left.new) (kept_station_of K.kept right.new)) }
 {
     for _ in 0..times {
         let there = send(left, right, right_name, weigher)?;
@@ -43,13 +45,13 @@ fn send<K: Keeper, W: Weigh>(
     receiver: NodeName,
     weigher: &W,
 ) -> Result<bool, Refusal>
-    ensures { IfOk result (λ sent. sent ≡ false → StationsSendNothing K.kept W.weight_of receiver from.old to.old from.new to.new) }
+    ensures { IfOk result (λ sent. SendsLetter W.weight_of receiver (kept_station_of K.kept from.old) (kept_station_of K.kept to.old) sent
+        (kept_station_of K.kept from.new) (kept_station_of K.kept to.new)) }
 {
     match from.step(Act::Event(Event::Ship(receiver)), 0, weigher) {
         Ok(done) => {
-            if let Some(acknowledgement) = bring(to, done.out, weigher)? {
-                bring(from, Some(acknowledgement), weigher)?;
-            }
+            let answer = bring(to, done.out, weigher)?;
+            bring(from, answer, weigher)?;
             Ok(true)
         }
         Err(Refusal::UpToDate) => Ok(false),
@@ -62,7 +64,9 @@ fn bring<K: Keeper, W: Weigh>(
     to: &mut Station<K, W>,
     letter: Option<Letter>,
     weigher: &W,
-) -> Result<Option<Letter>, Refusal> {
+) -> Result<Option<Letter>, Refusal>
+    ensures { IfOk result (λ answer. BringsLetter W.weight_of letter (kept_station_of K.kept to.old) answer (kept_station_of K.kept to.new)) }
+{
     let Some(letter) = letter else {
         return Ok(None);
     };

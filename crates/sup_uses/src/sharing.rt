@@ -1,12 +1,12 @@
 //! A node that two threads share.
-ghost use Rattle.std.specs.Prelude.{◌≡◌, ◌++◌, [], IfSome};
+ghost use Rattle.std.specs.Prelude.{◌≡◌, ◌++◌, [], IfSome, true};
 ghost use Rattle.std.specs.Thread.{IsSync};
 ghost use Rattle.sup_node_gate.specs.InMemory.{failures_by, sound_by};
 ghost use Rattle.sup_station.specs.OpenedStations.{kept_by};
 ghost use Rattle.sup_node_gate.specs.Gates.{IsOf, view_of};
-ghost use Rattle.sup_node_gate.specs.Histories.{counted_of};
+ghost use Rattle.sup_node_gate.specs.Histories.{counted_of, may_enter};
 ghost use Rattle.sup_node_gate.specs.Shares.{halved};
-ghost use Rattle.sup_uses.specs.SharedGates.{CallsOnce, CallsShared, CallsSome, IsReplayed, IsSharedBy};
+ghost use Rattle.sup_uses.specs.SharedGates.{CallsAct, CallsActs, CallsBoth, IsReplayed, IsSharedBy};
 
 use std::alloc::Global;
 use std::sync::Wait;
@@ -14,11 +14,11 @@ use std::thread::{Threads, join};
 use sup_keeper::MemKeeper;
 use sup_node_gate::{Entry, NodeGate, Pass};
 use sup_placement::FlatWeigh;
-use sup_replica::Act;
+use sup_replica::{Act, Done, Refusal};
 use sup_station::Station;
 
-/// Has two threads make these acts at one station, each its own in their order and at moment 0, and gives the station with its history, which
-/// is a replay of all that was answered: of each act once, but of those that were refused for memory or since the history was full.
+/// Has two threads make these acts at one station, each its own in their order and at moment 0, and gives the station with its history: a call
+/// of each act, and of nothing else, with its answer. None where memory was refused, or the history is full: it has room for 1,000.
 pub fn share<R: Threads + Wait + Sync>(
     rt: &R,
     alloc: Global,
@@ -32,75 +32,89 @@ pub fn share<R: Threads + Wait + Sync>(
     let Ok((gate, pass)) = NodeGate::new(alloc, station, 1000) else {
         return None;
     };
-    let pass = both_work(rt, alloc, &gate, pass, left, right);
+    let pass = make_both(rt, alloc, &gate, pass, left, right)?;
     gate.close(pass)
 }
 
-// The pass of all calls, once two threads have made their acts.
-fn both_work<R: Threads + Wait + Sync>(
+// Has two threads make their acts. Gives the pass of all these calls.
+fn make_both<R: Threads + Wait + Sync>(
     rt: &R,
     alloc: Global,
     gate: &NodeGate<MemKeeper, FlatWeigh>,
     pass: Pass<MemKeeper, FlatWeigh>,
     left: &[Act],
     right: &[Act],
-) -> Pass<MemKeeper, FlatWeigh>
+) -> Option<Pass<MemKeeper, FlatWeigh>>
     requires of { IsOf kept_by failures_by sound_by gate.now pass }
     requires fresh { (view_of pass).own ≡ [] }
-    ensures of { IsOf kept_by failures_by sound_by gate.now result }
-    ensures calls { CallsShared left.now right.now (view_of result) }
-    ensures shares { (view_of result).shares ≡ halved (view_of pass).shares ++ halved (view_of pass).shares }
+    ensures of { IfSome result (IsOf kept_by failures_by sound_by gate.now) }
+    ensures calls { IfSome result (λ p. CallsBoth left.now right.now (view_of p)) }
+    ensures shares { IfSome result (λ p. (view_of p).shares ≡ halved (view_of pass).shares ++ halved (view_of pass).shares) }
 {
     let (one, other) = gate.split(pass);
     let (one, other) = join(
         rt,
-        || -> Pass<MemKeeper, FlatWeigh>
+        || -> Option<Pass<MemKeeper, FlatWeigh>>
             requires { IsSync R.row × IsOf kept_by failures_by sound_by gate.now one }
-            ensures of { IsOf kept_by failures_by sound_by gate.entry.now result }
-            ensures calls { CallsSome left.entry.now (view_of one) (view_of result) }
-        { works(rt, alloc, gate, one, left) },
-        || -> Pass<MemKeeper, FlatWeigh>
+            ensures of { IfSome result (IsOf kept_by failures_by sound_by gate.entry.now) }
+            ensures calls { IfSome result (λ p. CallsActs left.entry.now (view_of one) (view_of p)) }
+        { make_acts(rt, alloc, gate, one, left) },
+        || -> Option<Pass<MemKeeper, FlatWeigh>>
             requires { IsSync R.row × IsOf kept_by failures_by sound_by gate.now other }
-            ensures of { IsOf kept_by failures_by sound_by gate.entry.now result }
-            ensures calls { CallsSome right.entry.now (view_of other) (view_of result) }
-        { works(rt, alloc, gate, other, right) },
+            ensures of { IfSome result (IsOf kept_by failures_by sound_by gate.entry.now) }
+            ensures calls { IfSome result (λ p. CallsActs right.entry.now (view_of other) (view_of p)) }
+        { make_acts(rt, alloc, gate, other, right) },
     );
-    gate.join(one, other)
+    Some(gate.join(one?, other?))
 }
 
-// Makes the acts of one thread, which waits for its turn.
-fn works<R: Wait>(
+// Makes the acts of one thread, which waits for its turn at each.
+fn make_acts<R: Wait>(
     rt: &R,
     alloc: Global,
     gate: &NodeGate<MemKeeper, FlatWeigh>,
     pass: Pass<MemKeeper, FlatWeigh>,
     acts: &[Act],
-) -> Pass<MemKeeper, FlatWeigh>
+) -> Option<Pass<MemKeeper, FlatWeigh>>
     requires { IsOf kept_by failures_by sound_by gate.now pass }
-    ensures of { IsOf kept_by failures_by sound_by gate.now result }
-    ensures calls { CallsSome acts.now (view_of pass) (view_of result) }
+    ensures of { IfSome result (IsOf kept_by failures_by sound_by gate.now) }
+    ensures calls { IfSome result (λ p. CallsActs acts.now (view_of pass) (view_of p)) }
 {
     let mut pass = pass;
     for act in acts {
-        work(rt, alloc, gate, &mut pass, act);
+        if !make_act(rt, alloc, gate, &mut pass, act) {
+            return None;
+        }
     }
-    pass
+    Some(pass)
 }
 
-// Makes a copy of an act, if there is memory for it.
-fn work<R: Wait>(
+// Makes an act, if there is memory for it and room in the history. Whether it stands there now.
+fn make_act<R: Wait>(
     rt: &R,
     alloc: Global,
     gate: &NodeGate<MemKeeper, FlatWeigh>,
     pass: &mut Pass<MemKeeper, FlatWeigh>,
     act: &Act,
-)
+) -> bool
     requires { IsOf kept_by failures_by sound_by gate.now pass.old }
     ensures of { IsOf kept_by failures_by sound_by gate.now pass.new }
-    ensures calls { CallsOnce act.now (view_of pass.old) (view_of pass.new) }
+    ensures calls { result ≡ true → CallsAct act.now (view_of pass.old) (view_of pass.new) }
     ensures shares { (view_of pass.new).shares ≡ (view_of pass.old).shares }
 {
-    if let Ok(act) = act.try_clone(alloc) {
-        let _answer = gate.call(rt, pass, act, 0, &FlatWeigh);
-    }
+    let Ok(act) = act.try_clone(alloc) else {
+        return false;
+    };
+    let answer = gate.call(rt, pass, act, 0, &FlatWeigh);
+    is_entered(&answer)
+}
+
+// Whether an answer stands in the history.
+fn is_entered(answer: &Result<Done, Refusal>) -> bool
+    ensures { result ≡ may_enter answer.now }
+{
+    !matches!(
+        answer,
+        Err(Refusal::HistoryFull) | Err(Refusal::OutOfMemory)
+    )
 }

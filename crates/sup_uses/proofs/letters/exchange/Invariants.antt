@@ -1,0 +1,8 @@
+use Rattle.sup_station.specs.KeptStations.{kept_station_of}
+use Rattle.sup_uses.specs.Letters.{MakesRounds}
+use Rattle.sup_uses.proofs.letters.exchange.Given as goal
+
+abbrev pub invariant-loop : goal.invariant-loop
+invariant-loop g l =
+    let kept = kept_station_of g.K.Keeper.kept in
+    MakesRounds g.W.Weigh.weight_of l.left_name l.right_name l.counter (kept l.fn.left) (kept l.fn.right) (kept l.left) (kept l.right)
