@@ -28,7 +28,7 @@ use sup_world::World;
 ///
 /// # Errors
 ///
-/// Only where memory for the text was refused. The line's steps are made then.
+/// Only where memory for the text was refused. The line's steps are made then, or nothing has changed.
 pub fn line_text<G: Weigh>(
     alloc: Global,
     weigher: &G,

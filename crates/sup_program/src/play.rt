@@ -24,7 +24,8 @@ use sup_world::World;
 /// # Errors
 ///
 /// The writer's fault, or want of memory for a text. The lines before are played and written then, and the one at which it ended
-/// is played; it is written in part where the device failed, and not at all where memory was refused. None behind it is played.
+/// is played, and written in part, where the device failed; where memory was refused it is played or has changed nothing, and is not
+/// written. None behind it is played.
 pub fn play<G: Weigh, W: Write>(
     alloc: Global,
     weigher: &G,
