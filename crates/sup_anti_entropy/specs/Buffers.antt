@@ -10,7 +10,7 @@ pub record Buffer (Id K : Type 0) : Type 0 where
   pub held : List K
   pub acked : Id → ℕ  -- 0 where the peer has acknowledged nothing
 
--- what a peer is sent: with the count as its number, a part of the changes or all that is known
+-- what a peer is sent: with the count as its number, the newest changes or all that is known
 pub record Shipment (K : Type 0) : Type 0 where
   pub content : K
   pub number : ℕ
@@ -20,7 +20,7 @@ pub record Shipment (K : Type 0) : Type 0 where
 abbrev pub holds_more : {K : Type 0} → ℕ → List K → K → List K
 holds_more room held delta = newest_of room (held ++ delta ∷ [])
 
--- the number of changes that a peer hasn't acknowledged decides: none, those held, or all that is known
+-- the number of changes that a peer hasn't acknowledged decides: nothing, so many of the newest that are held, or all that is known
 abbrev pub shipment_of : {K : Type 0} → (K → K → K) → K → List K → ℕ → K → ℕ → Option (Shipment K)
 shipment_of join nothing held count known missing =
     if missing == 0 then None

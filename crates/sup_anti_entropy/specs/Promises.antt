@@ -3,7 +3,7 @@
 use Rattle.std.specs.Prelude.{ℕ, ◌≡◌, ◌-◌, ◌≤◌, List, [], ◌∷◌, length}
 use mathlib.Core.Logic.{◌⊎◌}
 use Rattle.sup_anti_entropy.specs.Joins.{JoinLattice, newest_of, joined}
-use Rattle.sup_anti_entropy.specs.Peers.{OccursIn, Letter, delta, Peer, GivesPast, PeersAreSound, Change, changed, sends, forgets}
+use Rattle.sup_anti_entropy.specs.Peers.{OccursIn, Peer, GivesPast, PeersAreSound, Change, changed, forgets}
 use Rattle.sup_anti_entropy.specs.Settling.{GathersOthers, SpreadsToOthers, StatesAlike, AllStatesAlike}
 
 -- peers are named by texts
@@ -11,7 +11,7 @@ abbrev pub NamedPeer : Type 0 → Type 0
 NamedPeer S = Peer (List ℕ) S
 
 module _ {S : Type 0} (j : JoinLattice S) where
-  -- the deltas that a peer has not acknowledged, joined
+  -- those of the deltas held that a peer has not acknowledged, joined
   abbrev pub missing : NamedPeer S → NamedPeer S → S
   missing p q = joined j.join j.nothing (newest_of (p.count - p.acked q.name) p.held)
 
@@ -28,7 +28,7 @@ module _ {S : Type 0} (j : JoinLattice S) where
   abbrev pub StepOf : NamedPeer S → NamedPeer S → Type 0
   StepOf p r = ((room : ℕ) × (s : S) × (d : S) × Change j p s d × (r ≡ changed p room s d)) ⊎ (r ≡ forgets p)
 
-  -- the peers after one of them is r
+  -- no peers but r and those before
   abbrev pub PeersWith : List (NamedPeer S) → NamedPeer S → List (NamedPeer S) → Type 0
   PeersWith peers r after = (y : NamedPeer S) → OccursIn after y → (y ≡ r) ⊎ OccursIn peers y
 

@@ -37,7 +37,7 @@ impl Buffer {
     ghost use Rattle.sup_anti_entropy.specs.Contents.{buffer_of, shipment_of};
 
     /// A buffer that holds nothing, with room for `capacity` deltas, 1 to 1024. All the room that `note` needs is taken
-    /// here.
+    /// here, and an `Err` says that it was refused.
     pub fn new(alloc: Global, capacity: usize) -> Result<Buffer, AllocError>
         requires limits { (1 ≤ capacity) × (capacity ≤ 1024) }
         ensures { IfOk result (λ b. buffer_of b ≡ record { room = capacity; count = 0; held = []; acked = λ peer. 0 }) }
@@ -111,7 +111,7 @@ impl Buffer {
         Ok(delta)
     }
 
-    /// Takes an acknowledgement of the number `n`. A peer's acknowledged number only rises.
+    /// Takes an acknowledgement of the number `n`, at most the count. One below the peer's last changes nothing.
     ///
     /// # Errors
     ///

@@ -4,8 +4,8 @@ ghost use Rattle.sup_anti_entropy.specs.Promises.{ShipsAreRight, StepsKeepSound,
 
 use sup_causal::Lattice;
 
-/// Where nothing is missing the receiver has all; the deltas that it hasn't acknowledged give it all, and nothing else, and
-/// so does the whole state.
+/// Of peers that are sound: where nothing is missing the receiver has all; the deltas that it hasn't acknowledged, where all
+/// of these are held, give it all, and nothing else, and so does the whole state.
 pub fn ships_are_right<L: Lattice>()
     ensures { HoldsForJoin L.join ShipsAreRight }
 {}

@@ -1,5 +1,5 @@
-//! Anti-entropy: what a node keeps so that a peer is sent what it lacks, and why that is enough, over any lattice. No
-//! message is named here.
+//! Anti-entropy by delta intervals (Almeida, Shoker, Baquero 2018): what a node keeps so that a peer is sent what it lacks,
+//! and, over any lattice, why that is enough. The texts of messages are another crate's.
 #![tactic(auto)]
 
 pub mod buffer;

@@ -7,6 +7,6 @@ pub struct Shipment {
     pub delta: Tables,
     /// The sender's count, which the peer acknowledges.
     pub n: u64,
-    /// Whether the delta is all that the sender knows, rather than a part.
+    /// Whether the delta is the sender's state, as not all that the peer lacks is held, rather than deltas joined.
     pub whole: bool,
 }

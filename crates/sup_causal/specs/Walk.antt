@@ -8,7 +8,7 @@ use Rattle.std.specs.List.Sorted.{IsStrictlySortedBy}
 use Rattle.std.specs.Map.{keys_of}
 use Rattle.std.specs.Option.{is_some, option_copied}
 
--- the entries after what is at the key k, if something is
+-- what is at the key k, if something is, and these entries behind it
 abbrev pub at_first : {K V : Type 0} → K → Option V → List (K × V) → List (K × V)
 at_first k None es = es
 at_first k (Some v) es = (k, v) ∷ es
@@ -29,7 +29,8 @@ pub record IsLeastKey {K V : Type 0} (cmp : K → K → Ordering) (k : K) (left 
   pub below_right : IsBelowKeys cmp k rights
   pub held : (is_some left || is_some right) ≡ true
 
--- how the first entry of a list stands to a key: it is the key's, with the value that is told there, or above the key
+-- how the first entry of a list stands to a key: it is the key's, with the value that is told there, or,
+-- where none is told, above the key or not there
 abbrev pub StandsTo : {K V : Type 0} → (K → K → Ordering) → K → Option V → Option (K × V) → Type 0
 StandsTo cmp k (Some v) first = first ≡ Some (k, v)
 StandsTo cmp k None None = Unit {0}

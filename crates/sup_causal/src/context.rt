@@ -23,8 +23,9 @@ use std::alloc::{AllocError, Global};
 use std::marker::Model;
 use sup_specs::{MAX, NodeName};
 
-/// A set of dots (Almeida, Shoker and Baquero 2018). A contract sees it by one test, `has`. It keeps its cut alone, so
-/// no call takes more time or memory where runs are longer.
+/// A set of dots (Almeida, Shoker and Baquero 2018). A contract sees its dots as a rising list, in which `has` looks for
+/// one, and nothing of how they are kept. Kept are a version vector and a dot cloud alone, so no call takes more time or
+/// memory where a node has more dots without a gap.
 #[derive(Drop)]
 pub struct CausalContext {
     // By name, the run of each node that has one.
@@ -191,7 +192,7 @@ impl CausalContext {
         Ok(cloud)
     }
 
-    /// Whether the context has at most so many dots. It takes no memory, and one look at each entry of the vector.
+    /// Whether the context has at most so many dots. It takes no memory, and at most one look at each entry of the vector.
     pub fn has_at_most(&self, most: usize) -> bool
         ensures { IsTrue result ↔ (length self.now ≤ most) }
     {

@@ -1,4 +1,4 @@
-//! Join semilattices.
+//! Join semilattices, as deltas are joined in them (Almeida, Shoker and Baquero 2018).
 
 ghost use Rattle.std.specs.Prelude.{◌≡◌, ◌↔◌, IsTrue, IfOk, OnOk, OnErr};
 ghost use Rattle.sup_causal.specs.Join.{JoinLaws};
@@ -17,7 +17,7 @@ pub trait Lattice: Drop {
     // The join of two meanings.
     ghost join: { Meaning → Meaning → Meaning };
 
-    /// The join of the two. Refused only for memory.
+    /// The join of the two. Refused only for memory, where a lattice doesn't say more.
     fn joined(&self, alloc: Global, other: &Self) -> Result<Self, AllocError>
         ensures { IfOk result (λ r. meaning r ≡ join (meaning self.now) (meaning other.now)) };
 
@@ -25,7 +25,7 @@ pub trait Lattice: Drop {
     fn leq(&self, other: &Self) -> bool
         ensures { IsTrue result ↔ (join (meaning self.now) (meaning other.now) ≡ meaning other.now) };
 
-    /// Becomes the join of the two. Refused only for memory, and then it stays as it was.
+    /// Becomes the join of the two. Refused as `joined` is, and then it stays as it was.
     fn join_from(&mut self, alloc: Global, other: &Self) -> Result<(), AllocError>
         ensures ok { OnOk result (meaning self.new ≡ join (meaning self.old) (meaning other.now)) }
         ensures err { OnErr result (self.new ≡ self.old) }

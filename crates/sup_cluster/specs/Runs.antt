@@ -32,7 +32,7 @@ pub record IsDrivenFront (plan : Plan) (h : History) (front : List Entry) : Type
 abbrev pub carried : Plan → List Entry → History → History → List Bytes
 carried plan front from to = image (script_between from.node to.node plan.scripts.items) (letters_to to.node front)
 
--- the node's commands were made, and the letters of a front that has them reached the other nodes: they stand in order among the deliveries there
+-- the node's commands were made, and what the links make of the letters of a front that has them stands in order among the deliveries to the other nodes
 pub record RanCommands (plan : Plan) (all : List History) (h : History) : Type 0 where
   pub front : List Entry
   pub driven : IsDrivenFront plan h front

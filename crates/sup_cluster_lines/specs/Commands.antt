@@ -1,4 +1,4 @@
--- The lines of commands (this project's script format): those of a script that are commands of a node, without endings but a moment.
+-- The lines of commands (this project's script format): those of a script's steps that are acts at a node; of a step's endings they have the moment alone.
 use Rattle.std.specs.Prelude.{◌&&◌, List, Option, Some, None, if◌then◌else◌}
 use Rattle.sup_model.specs.declared.step.Step.{Step}
 use Rattle.sup_model.specs.declared.step.Step.TheVariants.{Node as AtNode}

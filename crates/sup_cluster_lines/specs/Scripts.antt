@@ -1,4 +1,4 @@
--- Scripts as they are read, line by line (for private contracts; this project).
+-- Scripts as they are read, line by line (this project).
 use Rattle.std.specs.Prelude.{◌≡◌, ℕ, List, map, Some, None, Result, Ok, Err}
 use Rattle.sup_lines.specs.Words.{Name, ◌>>=◌}
 use Rattle.sup_lines.specs.declared.fault.LineFault.{LineFault}
@@ -14,7 +14,7 @@ use Rattle.sup_cluster_lines.specs.declared.script.PlanScript.{PlanScript}
 abbrev pub asked_in : PlanScript → Asked
 asked_in script = (map link_in script.links.items, script.commands.items)
 
--- a line was taken in behind what was asked before; it is bad exactly where it doesn't fit there, and what is refused isn't kept
+-- a line was taken in behind what was asked before; it is told bad only where it doesn't fit there, and what is refused isn't kept
 abbrev pub TakesIn : {A : Type 0} → List Name → Asked → List ℕ → Result A LineFault → Asked → Type 0
 TakesIn nodes asked bytes (Ok _) new = (said_of nodes bytes >>= behind asked) ≡ Some new
 TakesIn nodes asked bytes (Err Bad) new = ((said_of nodes bytes >>= behind asked) ≡ None) × (new ≡ asked)

@@ -9,7 +9,8 @@ use sup_plan::Command;
 use sup_plan::checking::may_tell;
 use sup_specs::NodeName;
 
-/// The command that a line of a script asks for; none where that is no act of one of these nodes' drivers.
+/// The command that a line of a script asks for; none where the line is no act at a node, where its save is told to fail, or where these
+/// nodes may not be told it ([`may_tell`]).
 pub fn command_of(nodes: &[NodeName], line: Line) -> Option<Command>
     ensures { result ≡ command_of nodes.now line }
 {

@@ -12,12 +12,12 @@ use sup_plan::Route;
 use sup_plan::checking::{is_among, is_peer};
 use sup_specs::NodeName;
 
-/// The script of a link, between two of these nodes.
+/// The link that the words behind `link` say, with its script: `FROM TO VERDICT..`, from one of these nodes to another.
 ///
 /// # Errors
 ///
-/// - `LineFault::Bad` exactly where the words have not that form.
-/// - `LineFault::OutOfMemory` where they have, and memory was refused.
+/// - `LineFault::Bad` exactly where the words don't have that form.
+/// - `LineFault::OutOfMemory` where they have it, and memory was refused.
 #[tactic(auto, unfolding(crate::specs::Links::link_of))]
 pub fn read_link(alloc: Global, nodes: &[NodeName], words: &[&str]) -> Result<Route, LineFault>
     ensures { Reads link_in result (link_of nodes.now (texts words.now)) }

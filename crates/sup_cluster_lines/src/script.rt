@@ -15,7 +15,7 @@ use sup_plan::checking::is_same_link;
 use sup_plan::{Command, Route};
 use sup_specs::NodeName;
 
-/// The nodes of a run of threads, the scripts of their links, and their commands.
+/// The nodes of a run of threads, the scripts of their links, and their commands, as [`read_plan_script`] gives them.
 #[derive(Drop)]
 pub struct PlanScript {
     /// Distinct names, 2 to 5.

@@ -41,7 +41,7 @@ of_run run.HistoryFull = HistoryFull
 of_run run.LinkClosed = LinkClosed
 of_run run.OutOfMemory = Job job.OutOfMemory
 
--- of histories that are no run
+-- of histories that aren't certified
 abbrev pub of_certify : CertifyFault → ClusterFault
 of_certify judged.Stuck = Stuck
 of_certify (judged.Differs node place) = Differs node place

@@ -79,7 +79,7 @@ pub fn of_run(fault: RunFault) -> ClusterFault
     }
 }
 
-/// The fault that ends a cluster whose histories are judged to be no run.
+/// The fault that ends a cluster whose histories aren't certified.
 pub fn of_certify(fault: CertifyFault) -> ClusterFault
     ensures { result ≡ of_certify fault }
 {

@@ -16,7 +16,7 @@ use sup_replica::Config;
 ///
 /// # Errors
 ///
-/// `BadLine` with the number of the first bad line; `OutOfMemory`.
+/// `BadLine` with the number of the first bad line, from 1, or 0 where all lines are skipped; `OutOfMemory` where memory was refused.
 pub fn read_plan(alloc: Global, config: Config, input: &[u8]) -> Result<Plan, Fault>
     requires { length input.now ≤ LIMIT }
     ensures says { IfOk result (SaysPlan config input.now) }

@@ -10,7 +10,7 @@ use std::io::Write;
 use sup_jobs::{DeviceFault, Ended, put_all};
 use sup_specs::NodeName;
 
-/// Tells how a cluster ended, and answers that with its exit status.
+/// Writes the line of a cluster's fault, if it ended by one. Gives the exit status, and whether the line was written.
 pub fn finish<E: Write>(errors: &mut E, end: Result<(), ClusterFault>) -> Ended
     ensures status { result.status ≡ status_at end }
     ensures told { Tells result.told (E.contents errors.old) (E.contents errors.new) (fault_line_at end) }

@@ -49,7 +49,7 @@ ClustersTo weigher config input before written (Err LinkClosed) = RefusesAt weig
 ClustersTo weigher config input before written (Err Stuck) = RefusesAt weigher config input before written Stuck
 ClustersTo weigher config input before written (Err (Differs node place)) = RefusesAt weigher config input before written (Differs node place)
 
--- what of the reader was taken, by the end of the run: one byte more than an input may have exactly where it is too long
+-- the end of the run as one of any job, with the cluster's own faults as a good one: the input was read by then
 abbrev pub job_end : {X : Type 0} → Result X ClusterFault → Result (Unit {0}) Fault
 job_end (Ok x) = Ok tt
 job_end (Err (Job fault)) = Err fault
@@ -58,6 +58,7 @@ job_end (Err LinkClosed) = Ok tt
 job_end (Err Stuck) = Ok tt
 job_end (Err (Differs node place)) = Ok tt
 
+-- What was taken from the reader fits the end of the run: one byte more than an input may have exactly where it ended as too long.
 abbrev pub TakesFor : {X : Type 0} → Result X ClusterFault → KnownBytes → KnownBytes → Type 0
 TakesFor end before after = (taken : List ℕ) × IsTaken (job_end end) taken × Consumes before after taken
 

@@ -14,9 +14,9 @@ use sup_jobs::{Ended, Fault, LIMIT, put_all, read_input};
 use sup_placement::Weigh;
 use sup_replica::Config;
 
-/// Runs the script that the reader has by threads, each of its nodes with this setting: writes what its nodes know at the end, and
-/// answers how that ended, once a fault is told. Nothing is written of a script with a bad line, of a longer one than may be read, or of
-/// a run that isn't certified; that it isn't is told only where no order of all entries is a run of the world.
+/// Runs the script that the reader has by threads, each of its nodes with this setting: writes what its nodes know once they have exchanged
+/// all, and answers how that ended, once a fault is told. Nothing is written of a script with a bad line, of a longer one than may be
+/// read, or of a run that isn't certified; that it isn't is told only where no order of all entries is a run of the world.
 pub fn run_cluster<
     T: Threads + Wait + Sync,
     G: Weigh + Copy + Drop + Send + Sync,

@@ -71,7 +71,7 @@ pub(crate) struct BadOption<'a> {
     pub(crate) word: &'a str,
 }
 
-// The first option with a word that is no value of it.
+// The first option with a word that is no value of it, where there is one.
 pub(crate) fn bad_option_in<'a>(options: &ArgMatches<'a>) -> Option<BadOption<'a>> {
     if weighing_in(options).is_none() {
         return option_at(options, "weigh", "sha256|flat");

@@ -13,9 +13,13 @@ use clap::{ArgMatches, Error};
 use std::alloc::{AllocError, Global};
 use std::convert::AsStr;
 
-/// What the words after the program's name ask for. An error, with `clap`'s text, is that they ask for nothing, or that
-/// memory was refused ([`is_want_of_memory`]): no command or an unknown one, an option that the command doesn't have or that
-/// is given twice, a word that is no value of its option, and the wish for help.
+/// What the words after the program's name ask for.
+///
+/// # Errors
+///
+/// An error of `clap`, with its text, where memory was refused ([`is_want_of_memory`]), or where they ask for nothing: no
+/// command or an unknown one, an option that the command doesn't have or that is given twice, a word that is no value of its
+/// option, and the wish for help.
 #[tactic(auto, unfolding(crate::specs::Requests::request_of), using(crate::proofs::Requests::with_fault, crate::proofs::Requests::without_request))]
 pub fn read_words<S: AsStr>(alloc: Global, words: &[S]) -> Result<Request, Error>
     ensures { ReadsTo (request_of (map S.text words.now)) result }

@@ -5,9 +5,9 @@ use sup_replica::Config;
 /// How members are weighed for children.
 #[derive(Clone, Copy, Debug, PartialEq, Eq)]
 pub enum Weighing {
-    /// By SHA-256 of both names.
+    /// By SHA-256 of the member's name and the child's id.
     Sha256,
-    /// All alike.
+    /// All alike, so that the least name is every child's place.
     Flat,
 }
 

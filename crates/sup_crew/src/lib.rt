@@ -1,7 +1,8 @@
 //! Jobs that run at once, each in a thread of its own, where their number is known only at run time.
 //!
 //! What each job gave is known by what the work says of it, place by place: `run_all` gives a result for each job, in the order of the
-//! jobs, and `run_teams` the results of jobs that come in teams, team by team. Jobs may wait for one another, since none begins only where another one has ended: a thread that can't be made is refused.
+//! jobs, and `run_teams` the results of jobs that come in teams, team by team. Jobs may wait for one another, since none has to wait for a
+//! thread: each has one of its own, or the run is refused.
 //!
 //! ```rust
 //! use sup_crew::{Work, run_all};

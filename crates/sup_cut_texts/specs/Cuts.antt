@@ -5,10 +5,10 @@ use Rattle.sup_specs.specs.Values.{Bytes}
 use Rattle.sup_wire.specs.Drafts.{Draft}
 use Rattle.sup_wire.specs.Faults.{TextSays, IsTextOf}
 
--- no JSON value is read of a front of a text
+-- no JSON value is read of a shorter front of a text that is written
 abbrev pub AreFrontsUnread : {M : Type 0} → (M → Draft → Type 0) → (M → Type 0) → Type 0
 AreFrontsUnread {M} IsDraft InRange = (text : Bytes) (x : M) (k : ℕ) → IsTextOf IsDraft InRange text x → k < length text → read (take k text) ≡ None
 
--- a front of a text says nothing
+-- a shorter front of a text that is written says nothing
 abbrev pub AreFrontsMute : {M : Type 0} → (M → Draft → Type 0) → (M → Type 0) → Type 0
 AreFrontsMute {M} IsDraft InRange = (text : Bytes) (x : M) (k : ℕ) → IsTextOf IsDraft InRange text x → k < length text → (y : M) → ¬ TextSays IsDraft (take k text) y

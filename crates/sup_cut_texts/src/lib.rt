@@ -1,5 +1,5 @@
-//! A text that is cut short is no text. What is left of a message's text, or of an image's, is no JSON value, so it says
-//! nothing and is refused.
+//! A text that is cut short is no text. What is left of the text that `encode` gives of a message, or `encode_image` of an
+//! image, is no JSON value, so it says nothing and is refused.
 #![tactic(auto)]
 
 ghost use Rattle.std.specs.Prelude.{◌≡◌, ◌⊎◌, ◌<◌, length, Err};
@@ -11,19 +11,19 @@ ghost use Rattle.sup_cut_texts.specs.Cuts.{AreFrontsUnread, AreFrontsMute};
 use std::alloc::Global;
 use sup_wire::{Image, Message, WireFault, decode, decode_image};
 
-/// No JSON value is read of a front of a message's text, nor of an image's.
+/// No JSON value is read of a shorter front of a message's text as it is written, nor of an image's.
 pub fn a_text_cut_short_is_no_json()
     ensures message { AreFrontsUnread IsDraftOf IsInRange }
     ensures image { AreFrontsUnread IsDraftOfImage IsImageInRange }
 {}
 
-/// So it says no message, and no image.
+/// So that of a message says no message, and that of an image no image.
 pub fn a_text_cut_short_says_nothing()
     ensures message { AreFrontsMute IsDraftOf IsInRange }
     ensures image { AreFrontsMute IsDraftOfImage IsImageInRange }
 {}
 
-/// The first bytes of a message's text are refused as no JSON, unless memory runs out.
+/// The first bytes of a message's text, but not all, are refused as no JSON, unless memory runs out.
 pub fn a_message_cut_short_is_refused(
     alloc: Global,
     message: &Message,
@@ -37,7 +37,7 @@ pub fn a_message_cut_short_is_refused(
     decode(alloc, &text[..kept])
 }
 
-/// The first bytes of an image's text are refused as no JSON, unless memory runs out.
+/// The first bytes of an image's text, but not all, are refused as no JSON, unless memory runs out.
 pub fn an_image_cut_short_is_refused(
     alloc: Global,
     image: &Image,

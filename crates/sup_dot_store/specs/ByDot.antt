@@ -1,4 +1,4 @@
--- Values by dot, as the list of their entries in rising order of the dots (this project).
+-- Values by dot, as the list of their entries (this project). `DotsRise` says that the dots rise.
 use Rattle.std.specs.Prelude.{List, Option}
 use Rattle.std.specs.Map.{lookup, keys_of}
 use Rattle.std.specs.BTreeMap.{is_at}

@@ -18,7 +18,7 @@ abbrev pub rows_in : {K V Row : Type 0} → (K → Dot → V → Row) → List (
 rows_in make [] = []
 rows_in make (e ∷ es) = map (λ f. make e.0 f.0 f.1) (values_of e.1).entries ++ rows_in make es
 
--- the same as these three
+-- these rows, each as its key, its dot and its value
 abbrev pub rows_of : {K V : Type 0} → List (K × DotFun V) → List (K × Dot × V)
 rows_of es = rows_in (λ key dot value. (key, dot, value)) es
 

@@ -11,7 +11,7 @@ use std::alloc::{AllocError, Global};
 use sup_causal::{CausalContext, Lattice};
 use thiserror::Error;
 
-/// A state: a store with a context that has all its dots. The context also has the dots of rows that are gone.
+/// A state: a store with a context that has all its dots. It may have more: the dots of rows that are gone.
 ///
 /// As a lattice a state is what it knows: its context, and at each dot and place whether the dot is unknown, a value
 /// is present, or it is gone (Almeida, Shoker, Baquero 2018). The laws hold for every store.

@@ -63,7 +63,7 @@ impl<'a, V: Plain> Below<Dot, V> for ValuesUnder<'a> {
             (Some(left), Some(right)) => right <= left,
             // Known here and without a value it is gone here, which is above any value there.
             (None, Some(_)) => !self.mine.contains(key),
-            // The other context has the dot, and so it is gone there.
+            // Where this context has the dot the other has it, too, and so it is gone there.
             (_, None) => true,
         }
     }

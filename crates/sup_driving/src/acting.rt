@@ -1,4 +1,4 @@
-//! What a node has done with its children, told the runner.
+//! What is to be done with a node's children, told the runner.
 ghost use Rattle.std.specs.Prelude.{◌++◌, IfOk, IfErr, OnOk};
 ghost use Rattle.sup_node_gate.specs.declared.view.View.{View};
 ghost use Rattle.sup_node_gate.specs.Gates.{IsOf, view_of, bound_of};

@@ -6,16 +6,17 @@ ghost use Rattle.sup_local_sup.specs.declared.effect.Effect.{Effect};
 use sup_local_sup::Effect;
 use sup_specs::NodeName;
 
-/// Has done what nodes have done with their children. Several threads tell it of one node, and between threads there is no order: of a node
-/// that was stopped, a start of the boot before may be told after one of the new boot. Incarnations are in order, by boot and then by number,
-/// so who runs children leaves out a start that is older than what it has. That a node stops is not told: its children end with it.
+/// Does what nodes' answers ask to be done with their children. Several threads tell it of one node, and between threads there is no order:
+/// of a node that was stopped, a start of the boot before may be told after one of the new boot. Incarnations are in order, by boot and
+/// then by number, so who runs children leaves out a start that is older than what it has. That a node stops is not told: its children end
+/// with it.
 pub trait Runner {
     /// What it was told of a node, by its name, and answered. A run's contract says for which nodes, effects and answers it holds, and only
-    /// [`act`](Runner::act) shows it: so the run did call it with just these. Who has nothing to say of an answer takes `Unit`.
+    /// [`act`](Runner::act) shows it: so the run did call it with these. Who has nothing to say of an answer takes `Unit`.
     ghost did: { Self → Bytes → Effect → Bool → Type 0 };
 
-    /// Does it at this node. False where a start failed: the node is then told, by the thread that was told this, that the child's run
-    /// has ended with the reason `failed`.
+    /// Does this effect at the node. False where a start failed: the thread that called this then tells the node that the child's run has
+    /// ended, with the reason `failed`. What is answered to a stop is not looked at.
     fn act(&self, node: &NodeName, effect: &Effect) -> bool
         ensures { did self.now node.now effect.now result };
 }

@@ -84,7 +84,7 @@ pub(crate) fn end_each<R: Wait>(rt: &R, wires: Vec<Wire>) {
     }
 }
 
-// Puts the end marks, also where memory is refused. What was put until then stays known.
+// Puts the end marks, also where memory is refused. Gives the ended links, of which it stays known what was put.
 pub(crate) fn end_all<R: Wait>(
     rt: &R,
     alloc: Global,

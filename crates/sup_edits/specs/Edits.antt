@@ -15,7 +15,8 @@ abbrev pub after : {X : Type 0} → (X → X → Ordering) → X → List X → 
 after cmp q [] = []
 after cmp q (x ∷ xs) = cond (is_lt (cmp x q)) (after cmp q xs) (x ∷ xs)
 
--- one item comes to its place, or what is at its place goes; the next edit concerns what stands behind
+-- one item comes to its place, or the first that isn't before its place goes, whatever it is; the next edit concerns
+-- what stands behind
 abbrev pub edited : {X : Type 0} → (X → X → Ordering) → List (Edit X) → List X → List X
 edited cmp [] xs = xs
 edited cmp (Comes q ∷ es) xs = before cmp q xs ++ q ∷ edited cmp es (after cmp q xs)

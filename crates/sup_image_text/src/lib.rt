@@ -1,5 +1,5 @@
 //! The text of the next image, put together from the texts of the last one's rows: what stands before the rows is written anew, rows
-//! that stay are copied, and those that come are written.
+//! that stay are copied, and those that come are written. And the text of a delta with all rows, which are copied too.
 //!
 //! ```rust
 //! use sup_array_text::Room;

@@ -58,7 +58,7 @@ fn bare_text(
     let context = context.joined(alloc, &nothing)?;
     let delta = match Tables::from_rows(alloc, context, Vec::new(alloc)) {
         Ok(delta) => delta,
-        // No rows are in order, and a context has their dots.
+        // Where there are no rows, only memory can be refused.
         Err(_) => return Err(AllocError),
     };
     let message = Message::Delta {

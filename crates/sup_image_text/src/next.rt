@@ -16,8 +16,8 @@ use sup_edits::Edit;
 use sup_tables::LentRow;
 use sup_wire::{Heading, image_front};
 
-/// The text of the image that comes of another, of which this is the text. It changes nothing, and takes all memory: what it
-/// gives takes the old text's place by a move. It is put together in this room.
+/// The text of the image that comes of another, of which this is the text. It changes nothing, and asks for all the memory
+/// that is wanted: what it gives can take the old text's place by a move. It is put together in this room.
 ///
 /// # Errors
 ///
@@ -74,7 +74,8 @@ fn all_text(
 // An edit, with its search, takes as long as some 8 rows that are written.
 const SEARCH: usize = 8;
 
-/// Whether so few edits come to so many rows that one by one they take less time than all rows written anew.
+/// Whether there are fewer edits than an eighth of the rows, rounded down: one by one these are taken to be done sooner than
+/// all rows are written anew.
 pub fn is_few(edits: usize, rows: usize) -> bool
     ensures { IsTrue result ↔ (edits < rows / 8) }
 {

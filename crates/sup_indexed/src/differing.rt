@@ -76,7 +76,8 @@ fn function_or<'a, V: Plain>(
     }
 }
 
-// Whether a join leaves what stands under a key as it is, for functions of one value. Not told of all others that it leaves.
+// Where this is true, a join leaves what stands under the key as it is. It looks at functions of one value alone: false says
+// nothing.
 fn is_kept<V: Plain>(
     here: Option<&DotFun<V>>,
     there: Option<&DotFun<V>>,

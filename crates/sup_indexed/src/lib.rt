@@ -1,4 +1,4 @@
-//! Maps that are joined in place in three steps, and rows that are found by their dots.
+//! Maps that are joined in place in three steps (a plan, room for it, the change), and rows that are found by their dots.
 #![tactic(auto)]
 
 mod after;

@@ -23,7 +23,8 @@ pub struct ReadyMap<K: Plain, V: Plain> {
 impl<K: Plain, V: Plain> IndexedMap<K, V> {
     ghost use Rattle.sup_indexed.specs.Contents.{functions_of, functions_before, functions_to_be, functions_planned};
 
-    /// Takes all room that a plan needs, in any map. An `Err` is want of memory, and gives a map of the same rows back.
+    /// Takes all room that a plan needs, whichever map it was made for. An `Err` is want of memory, and gives a map of the
+    /// same rows back.
     pub fn open_for(self, alloc: Global, plan: PlannedMap<K, V>) -> Result<ReadyMap<K, V>, Self>
         ensures planned { IfOk result (λ r. IsSamePlan K.cmp (functions_to_be r) (functions_before r) (functions_planned plan) (functions_of self)) }
         ensures same { IfOk result (λ r. HaveSameValues K.cmp (functions_before r) (functions_of self)) }
@@ -46,7 +47,7 @@ impl<K: Plain, V: Plain> IndexedMap<K, V> {
         ready.changing.carried_out()
     }
 
-    /// The map as it was. It takes no memory.
+    /// A map of the rows as they were. It takes no memory.
     pub fn give_up(ready: ReadyMap<K, V>) -> Self
         ensures { HaveSameValues K.cmp (functions_of result) (functions_before ready) }
     {

@@ -20,7 +20,8 @@ use sup_specs::Plain;
 /// Which keys a plan of a join looks at. Each gives a plan of the same join.
 #[derive(Clone, Copy, Debug, PartialEq, Eq)]
 pub enum Looks {
-    /// At those that the other map has, and at those here under which it knows a dot: cheap where these are few.
+    /// At those that the other map has, and at those here under which a value has a dot that its context has: cheap where
+    /// these are few. Where there is no index here, at all keys of both.
     AtTouched,
     /// At all keys of both, in one pass: cheap where they have most in common. Of a key under which both have the same one
     /// value nothing is planned.

@@ -17,7 +17,8 @@ use sup_specs::Plain;
 impl<K: Plain, V: Plain> IndexedMap<K, V> {
     ghost use Rattle.sup_indexed.specs.Contents.{functions_of, functions_planned};
 
-    /// The keys whose first value, or its dot, differs once the plan is carried out, is new then or is gone: rising.
+    /// The keys whose first value, or its dot, differs once the plan is carried out, is new then or is gone: rising. An `Err` is
+    /// want of memory.
     pub fn touched_by(&self, alloc: Global, plan: &PlannedMap<K, V>) -> Result<Vec<K>, AllocError>
         ensures rise { IfOk result (λ keys. IsStrictlySortedBy K.cmp keys.items) }
         ensures exact { IfOk result (λ keys. AreTouchedKeys K.cmp (functions_planned plan.now) (functions_of self.now) keys.items) }

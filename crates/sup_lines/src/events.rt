@@ -1,5 +1,5 @@
-//! The lines of runs that end and of messages, each by its form, and the words that it leaves. But
-//! for a delivery these are the words behind the node's name.
+//! The lines of runs that end and of messages, each by its form, and the words that it leaves. A
+//! delivery is read from the words behind its verb, each other from those behind the node's name.
 
 ghost use Rattle.std.specs.Prelude.{◌≡◌, IfErr, option_map};
 ghost use Rattle.sup_lines.specs.Words.{Reads, and_rest, texts};
@@ -34,7 +34,7 @@ pub fn read_exit<'a>(alloc: Global, words: &'a [&'a str]) -> Result<(Act, &'a [&
     }
 }
 
-/// Another node is sent what it lacks.
+/// Another node is sent what it hasn't acknowledged.
 #[tactic(auto, unfolding(crate::specs::Forms::ship_of))]
 pub fn read_ship<'a>(words: &'a [&'a str]) -> Result<(Act, &'a [&'a str]), LineFault>
     ensures act { Reads and_rest result (ship_of (texts words.entry.now)) }

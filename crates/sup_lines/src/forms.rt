@@ -31,7 +31,7 @@ pub fn read_deed<'a>(
     }
 }
 
-// Where the node has no name, no memory is taken.
+// The node's name is judged before memory is taken.
 #[tactic(auto, unfolding(crate::specs::Forms::told_of))]
 fn read_told<'a>(
     alloc: Global,

@@ -81,7 +81,7 @@ pub fn read_distinct(alloc: Global, words: &[&str]) -> Result<Vec<NodeName>, Lin
     read_names(alloc, words)
 }
 
-// Sixteen words at most, as below.
+// Callers give sixteen words at most, here and below.
 #[tactic(auto, using(crate::proofs::WordValues::named))]
 fn check_names(words: &[&str]) -> Result<(), LineFault>
     ensures names { Reads (λ _. texts words.now) result (names_of (texts words.now)) }
@@ -106,7 +106,7 @@ fn read_names(alloc: Global, words: &[&str]) -> Result<Vec<NodeName>, LineFault>
     Ok(names)
 }
 
-// Sixteen words at most: each is looked for among the later ones.
+// Each is looked for among the later ones, since there are few.
 fn are_distinct(words: &[&str]) -> bool
     ensures { result ≡ are_distinct (texts words.now) }
 {

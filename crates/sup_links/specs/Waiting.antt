@@ -10,7 +10,7 @@ use Rattle.sup_links.specs.declared.script.Verdict.TheVariants.{Hold}
 abbrev pub waiting : List Held → List (ℕ × Bytes)
 waiting = map (λ h. (h.left, h.text.items))
 
--- what a new message adds to these; its own put is the first of them
+-- what a new message adds to these; of the puts for which it waits its own is the first
 abbrev pub held_back : {X : Type 0} → Verdict → X → List (ℕ × X)
 held_back (Hold n) text = (n + 1, text) ∷ []
 held_back _ text = []

@@ -18,7 +18,7 @@ pub fn count_down(held: &mut Vec<Held>)
     }
 }
 
-// Lets those go that wait no more.
+// Removes those that wait no more.
 pub fn keep_waiting(held: &mut Vec<Held>)
     ensures { waiting held.new.items ≡ kept (waiting held.old.items) }
 {

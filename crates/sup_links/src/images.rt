@@ -107,7 +107,7 @@ fn push_message(
 }
 
 /// What a link with this script lets through where these messages are put: for each message its copies, then each message whose hold ends
-/// there. What is never released is lost. It is played as the link plays it, and takes no more time.
+/// there. What is never released is lost. It is played message by message, as the link plays it.
 ///
 /// # Errors
 ///

@@ -102,7 +102,8 @@ impl LinkIn {
     ///
     /// # Errors
     ///
-    /// `Closed` where a message that was to go found the other end gone, and from then on. `OutOfMemory`, which leaves all as it was.
+    /// `Closed` where a message that was to go found the other end gone, and from then on. `OutOfMemory` where memory was refused: then
+    /// nothing was put, and the link stays open.
     pub fn put<R: Wait>(&mut self, rt: &R, text: Vec<u8>) -> Result<(), PutFault>
         ensures link { SameIn self.old self.new }
         ensures script { script_of self.new ≡ script_of self.old }

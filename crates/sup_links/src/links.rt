@@ -8,10 +8,10 @@ use crate::pipe::pipe;
 use crate::script::LinkScript;
 use std::alloc::{AllocError, Global};
 
-/// The most messages that a link holds on their way.
+/// The greatest capacity of a link, in messages on their way.
 pub const MAX_CAPACITY: usize = 1024;
 
-/// A link with this script that holds so many messages on their way.
+/// A link with this script, with room for `capacity` messages on their way, from 1 to [`MAX_CAPACITY`].
 ///
 /// # Errors
 ///

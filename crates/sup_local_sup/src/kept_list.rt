@@ -1,7 +1,8 @@
-//! The kept list: a map in the order of starts, and behind it what came while no room could be had for it in the map.
+//! The kept list: a map in the order in which children came, and behind it what came while no room could be had for it.
 //!
-//! What is planned brings list nodes, and these are hung on behind the map with no memory asked for; only then does the
-//! list try to move them into the map. So nothing that was planned can be refused, and no contract speaks of room.
+//! A planned change brings list nodes, and these are hung on behind the map with no memory asked for; only then does the
+//! list try to move them into the map. So nothing that was planned can be refused, and no supervisor's contract speaks of
+//! room.
 ghost use Rattle.std.specs.Prelude.{◌≡◌, ◌+◌, ◌<◌, ◌^◌, ◌++◌, [], length};
 ghost use Rattle.std.specs.Str.{bytes_eq};
 ghost use Rattle.std.specs.Map.{lookup, keys_of};
@@ -25,7 +26,8 @@ use std::marker::Model;
 use sup_specs::ChildId;
 use walk::KeptWalk;
 
-/// The kept children, each found by its id, in the order in which they were started. A contract sees a list.
+/// The kept children, each found by its id, in the order in which they came; a restart keeps a child's place. A contract
+/// sees a list.
 #[derive(Drop)]
 pub struct KeptList {
     map: IndexMap<ChildId, KeptEntry>,
@@ -94,7 +96,7 @@ impl KeptList {
         self.late.clear();
     }
 
-    /// What is kept under an id.
+    /// What is kept under an id, or none.
     pub fn get(&self, id: &ChildId) -> Option<&Entry>
         ensures { option_copied result ≡ lookup (bytes_eq id.now) self.now }
     {
@@ -139,7 +141,7 @@ impl KeptList {
         }
     }
 
-    // Lets go what is kept under these ids: one pass over all that is kept where several go, else a look-up for each.
+    // Lets go what is kept under these ids: one pass over the map where several go, else a look-up for each.
     pub(crate) fn remove_among(&mut self, ids: &[ChildId], several: bool)
         requires { TextsRise ids.now }
         ensures { self.new ≡ without self.old ids.now }
@@ -151,7 +153,7 @@ impl KeptList {
         }
     }
 
-    // One pass over all that is kept.
+    // One pass over the map, and then each id behind it.
     fn remove_several(&mut self, ids: &[ChildId])
         requires { TextsRise ids.now }
         ensures { self.new ≡ without self.old ids.now }

@@ -1,4 +1,4 @@
-//! Which bytes are a message: what `sup_wire` says by what was written, told by a test of the bytes alone.
+//! Which bytes are a message: `sup_wire` says it by the value that they are the text of, here a test of the bytes tells it.
 #![tactic(auto)]
 
 ghost use Rattle.std.specs.Prelude.{◌↔◌, IsTrue};

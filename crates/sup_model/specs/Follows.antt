@@ -1,4 +1,4 @@
--- The clauses of the world's calls (this project): what the code's world stands for, that a step follows the model, and that settling settles.
+-- Laws of the code's world beside the model's (this project): what it stands for, that a step follows the model, and that settling settles.
 use Rattle.std.specs.Prelude.{ℕ, ◌≡◌, ◌⊎◌, true, false, List, [], ◌∷◌, ◌++◌, map, Some, Result, Err}
 use Rattle.sup_specs.specs.Values.{Bytes}
 use Rattle.sup_replica.specs.declared.refusal.Refusal.{Refusal}
@@ -39,24 +39,25 @@ StepMakes real step answer after =
     ((answer ≡ real_answer_of (real_step by_tables real step)) × (after ≡ real_after by_tables real (real_step by_tables real step)))
     ⊎ ((answer ≡ Err OutOfMemory) × (may_want step (is_late (real_step by_tables real step)) ≡ true) × (after ≡ real))
 
--- a clause of `World::step`, and of `World::new`
+-- a law: whatever world of the model the code's stands for, its step follows that
 abbrev pub StepsFollow : Type 0
 StepsFollow =
     (real after : RealWorld State) (step : Step) (answer : Result (RealAnswer State) Refusal) → StepMakes real step answer after
     → (model : ModelWorld) → WorldStandsFor real model → StepFollows model step answer after
 
+-- a law: the code's new world stands for the model's
 abbrev pub NewStands : Type 0
 NewStands = (setting : WorldSetting) (room : ℕ) (codec : MailCodec State) (names : List Bytes) → WorldStandsFor (real_new by_tables setting room codec names) (new setting (reads codec) names)
 
--- what stands for a model does so node by node and letter by letter
+-- a law: what stands for a model does so node by node and letter by letter
 abbrev pub WorldsStand : Type 0
 WorldsStand = (real : RealWorld State) (model : ModelWorld) → WorldStandsFor real model → WorldStands by_tables table_view real model
 
--- a clause of `World::run`: the answers are those of a run of the model
+-- a law: after any list of steps from a new world the answers are those of a run of the model, and the code's world stands for that one's
 abbrev pub RunsFollow : Type 0
 RunsFollow = (setting : WorldSetting) (room : ℕ) (codec : MailCodec State) (names : List Bytes) (steps : List Step) → RefinedRun by_tables table_view setting room codec names steps
 
--- names that differ from one, and from one another
+-- a name that is none of these; and names that all differ
 abbrev pub NameIsApart : Bytes → List Bytes → Type 0
 NameIsApart name [] = Unit {0}
 NameIsApart name (other ∷ others) = (is_named name other ≡ false) × (is_named other name ≡ false) × NameIsApart name others

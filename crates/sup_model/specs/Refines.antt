@@ -39,7 +39,7 @@ pub record NodePair (K : Type 0) : Type 0 where
   pub site : ModelSite
 
 module _ {K : Type 0} (k : Knowledge K) (view : StateView K) where
-  -- a letter beside its message: the same receiver and kind; a delta or a push joined to its receiver's state, whoever that is now, stands for the receiver's operations and then the message's
+  -- a letter beside its message: the same receiver and kind; a delta or a push joined to its receiver's state, whatever that has become, stands for the receiver's operations and then the message's
   abbrev pub LetterCarries : List (NodePair K) → Mail K → Message Ops → Type 0
   LetterCarries pairs (a_delta from to number whole content) m =
       (to ≡ m.to) × (m.kind ≡ is_delta) × ((p : NodePair K) → OccursIn pairs p → to ≡ p.site.node.name → view.stands (k.with_more p.post.station.node.known content) (p.site.node.known ++ m.content))
@@ -62,7 +62,7 @@ module _ {K : Type 0} (k : Knowledge K) (view : StateView K) where
     pub nodes : (p : NodePair K) → OccursIn pairs p → NodeStands view p.post.station.node p.site.node
     pub mail : (p : NodePair K) → OccursIn pairs p → LettersCarry pairs p.post.sent p.site.sent
 
-  -- after these steps
+  -- from a new world, after these steps: a run of the model with the same answers, and the two worlds then
   pub record RefinedRun (setting : WorldSetting) (room : ℕ) (codec : MailCodec K) (names : List Bytes) (steps : List Step) : Type 0 where
     pub model : ModelWorld
     pub answers : List (Result ModelAnswer Refusal)

@@ -59,8 +59,8 @@ may_want (AtNode at Restart now saves) late = true
 may_want (Delivery from k at drop now saves) late = true
 may_want (Raw at bytes) late = true
 
--- from w, a step may be answered so and leave w': as the model says; or out of memory, where that may be; or, in place of an answer that is no
--- refusal, up to date. A refused step leaves w
+-- from w, a step may be answered so and leave w': as the model says; or out of memory, where that may be; or, of a ship
+-- that isn't refused, up to date, where its target knows all that the sender knows. A refused step leaves w
 abbrev pub ModelAllows : ModelWorld → Step → Result ModelAnswer Refusal → ModelWorld → Type 0
 ModelAllows w s answer w' =
     ((answer ≡ answer_of (step w s)) × (w' ≡ world_after w (step w s)))
@@ -91,7 +91,7 @@ all_issued w (s ∷ steps) (answer ∷ rest) w' run = issued w s run.0 ++ all_is
 all_issued w [] (answer ∷ rest) w' run = []
 all_issued w (s ∷ steps) [] w' run = []
 
--- the dots that a run's replies made
+-- the new dot that a reply tells, if any; and those of a run's replies
 abbrev pub dot_of : Reply → List Dot
 dot_of (Added dot) = dot ∷ []
 dot_of (Replaced dot removes) = dot ∷ []

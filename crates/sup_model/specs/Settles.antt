@@ -39,6 +39,6 @@ abbrev pub SpreadToOthers : ModelWorld → Bytes → List Bytes → ModelWorld �
 SpreadToOthers w first [] w' = w' ≡ w
 SpreadToOthers w first (name ∷ names) w' = (mid : ModelWorld) × Exchanged w first name mid × SpreadToOthers mid first names w'
 
--- settling of up nodes in the order of their names
+-- settling: each of the others to the first, then the first to each of them
 abbrev pub WorldSettles : ModelWorld → Bytes → List Bytes → ModelWorld → Type 0
 WorldSettles w first names w' = (mid : ModelWorld) × GatheredAtFirst w first names mid × SpreadToOthers mid first names w'

@@ -28,7 +28,7 @@ module _ {K : Type 0} (view : StateView K) where
     pub kept : u.kept ≡ v.kept
     pub window : view.window u.window v.window
 
-  -- a node: its state stands for its operations, and the rest is equal
+  -- a node: its state and its newest own stand for operations, its supervisor for the model's, and the rest is equal
   pub record NodeStands (n : Node K) (m : Node Ops) : Type 0 where
     pub name : n.name ≡ m.name
     pub up : n.up ≡ m.up

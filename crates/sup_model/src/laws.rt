@@ -42,13 +42,15 @@ pub fn a_shipment_is_enough()
     ensures { ShipmentIsEnough }
 {}
 
-/// After any list of steps the answers of the code's world are those of a run of the model, and it stands for the model's.
+/// After any list of steps from a new world the answers of the code's world are those of a run of the model, and it stands for
+/// the model's.
 pub fn runs_follow()
     ensures { RunsFollow }
 {}
 
-/// What stands for a model does so node by node: a state for the operations that the node absorbed, a letter, joined to its
-/// receiver's state, for the receiver's operations and then the letter's; and the rest is equal.
+/// What stands for a model does so node by node: a state, and that of the newest own operation, for the model's operations; a
+/// window that holds the newest restarts for one that holds all; a delta or a push, joined to its receiver's state, for the
+/// receiver's operations and then the message's. What else the model has of a node or a message is equal.
 pub fn worlds_stand()
     ensures { WorldsStand }
 {}
@@ -58,7 +60,8 @@ pub fn a_restarted_child_stays()
     ensures { RestartsStay }
 {}
 
-/// Bytes that are read as a message come to a station as the world brings that message; other bytes are no message.
+/// Bytes that are read as a message come to a station as the world brings that message whole. Other bytes are refused: `Down`
+/// where it is stopped, else `BadMessage`.
 pub fn bytes_come_as_they_are_read()
     ensures read { BytesArrive }
     ensures other { OtherBytesAreRefused }
@@ -72,14 +75,15 @@ pub fn memory_is_wanted_late()
 
 /// A node whose state stands for operations answers an act, and a delta or a push that stands for operations, as the
 /// definition of one node over operations does: the same refusal, or the same reply and effects; and then its state stands
-/// for the operations that it has by then.
+/// for the operations that it has by then. It is so where no dot has two adds in what it has and what comes.
 pub fn a_node_answers_as_its_definition()
     ensures acts { ActsStand }
     ensures deliveries { DeliveriesStand }
 {}
 
-/// So does a station, but for which deltas a ship sends; and a ship that isn't refused is up to date exactly where all changes
-/// are acknowledged.
+/// So does a station whose numbers are within the greatest, for mail as for acts, where an acknowledgement's number is no greater
+/// than the count. Which deltas a ship sends isn't said, and one that the node over operations makes is refused as up to date exactly
+/// where all changes are acknowledged.
 pub fn a_station_answers_as_its_node()
     ensures acts { PlainActsStand }
     ensures ships { ShipsStand }

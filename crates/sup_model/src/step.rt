@@ -12,7 +12,8 @@ pub enum Step {
         now: u64,
         saves: bool,
     },
-    /// The k-th message that a node ever sent, k from 1, comes: to its receiver or to another node, and without its last bytes.
+    /// The k-th message that a node ever sent, k from 1, comes: to its receiver or, where `at` names
+    /// one, to that node, and without its last `drop` bytes.
     Deliver {
         from: NodeName,
         k: u64,

@@ -110,7 +110,7 @@ Tells o nodes lines =
     (told_by by_tables (λ s. s.context) o nodes (map (λ l. l.0) lines) ≡ map (λ l. l.1) lines)
     × (told_by by_operations (λ ops. rising dot_cmp (flat_map dots_of ops)) o nodes (map (λ l. l.0) lines) ≡ map (λ l. l.1) lines)
 
--- the k-th letter that a node has sent after a script, over tables
+-- the steps of a script, without what else it asks
 abbrev pub steps_in : List Asked → List Step
 steps_in [] = []
 steps_in (steps s ∷ rest) = s ∷ steps_in rest
@@ -120,6 +120,7 @@ abbrev pub mail_in : Option (StationPost State) → ℕ → Option (Mail State)
 mail_in None k = None
 mail_in (Some post) k = mail_of post k
 
+-- the k-th letter that a node has sent after the steps of a script, over tables
 abbrev pub mail_after : Options → List Bytes → List Asked → Bytes → ℕ → Option (Mail State)
 mail_after o nodes asked node k =
     mail_in (post_of (real_run by_tables (real_new by_tables o.setting o.room (codec_of o.messages) nodes) (steps_in asked)) node) k

@@ -34,7 +34,7 @@ module _ {K : Type 0} (k : Knowledge K) where
     effects = s.effects ++ map (λ e. (step.answer.at, e)) step.answer.effects;
   }
 
-  -- a step, and then so many deliveries, each of the letter that was just sent. A refused one is passed over
+  -- a step, and then so many deliveries, each of the letter that was just sent. The first that is refused ends them
   abbrev pub follows : ℕ → Settling K → Result (RealStepped K) Refusal → Settling K
   follows n s (Err refusal) = s
   follows zero s (Ok step) = settling_with s step

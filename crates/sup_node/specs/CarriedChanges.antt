@@ -1,9 +1,9 @@
--- What carrying a change out takes.
+-- Which changes may be refused when they are carried out.
 use Rattle.std.specs.Prelude.{Bool, true, false}
 use Rattle.sup_node.specs.declared.change.Change.{Change}
 use Rattle.sup_node.specs.declared.change.Change.TheVariants.{Nothing, Begins, Learns, Acknowledges}
 
--- memory: for a peer's first acknowledgement, and for the rows that come; all else was taken when it was made ready
+-- for want of memory: to note what a peer acknowledged, or to take in a delta; no other change is refused
 abbrev pub takes_memory : Change → Bool
 takes_memory Nothing = false
 takes_memory (Begins id now) = false

@@ -40,15 +40,15 @@ use Rattle.sup_node.specs.declared.change.Ready.{Ready}
 use Rattle.sup_local_sup.specs.declared.change.Change.{Change as ChangeOf}
 use Rattle.sup_node.specs.Placed.{keeps_placed, changes_then}
 
--- what a node keeps
+-- a node's image
 abbrev pub image_of : Node State → Image
 image_of n = record { node = n.name; boot = n.supervisor.boot; count = n.count; state = n.known }
 
--- what it is to keep once its tables are these
+-- its image after one change more, once its tables are these
 abbrev pub image_with : Node State → State → Image
 image_with n known = record { node = n.name; boot = n.supervisor.boot; count = n.count + 1; state = known }
 
--- the newest own operation, where this one is own or none
+-- the newest own operation: this one, or the old one where there is none
 abbrev pub newer : Option State → Option State → Option State
 newer (Some own) old = Some own
 newer None old = old
@@ -107,7 +107,7 @@ ChangesTablesOf n (Acknowledges from number) = Unit {0}
 abbrev pub IsMadeFor : Weigher → Node State → Change → Type 0
 IsMadeFor g n change = ChangesTablesOf n change × (keeps_placed g (changed n change) ≡ true)
 
--- the same of a station: what it learned stands behind the held deltas, and an acknowledged number only rises
+-- a station after a change: what it learned stands behind the held deltas, and an acknowledged number only rises
 abbrev pub station_after : Station State → Change → Station State
 station_after s Nothing = s
 station_after s (Begins id now) = record s { node = changed s.node (Begins id now) }
@@ -161,11 +161,11 @@ RestartsAs step (Err r) = (checked step ≡ Err r) ⊎ ((r ≡ OutOfMemory) × I
 abbrev pub with_delta : Node State → Option State → State → Node State
 with_delta n own delta = record n { known = join_states n.known delta; count = n.count + 1; newest = newer own n.newest }
 
--- what is wanted of it
+-- what is wanted at a node with a delta
 abbrev pub wanted_with : Weigher → Node State → State → List Wanted
 wanted_with g n delta = wanted_at g n.name (join_states n.known delta).rows
 
--- how a delta is taken in: the tables become those with it, and what is kept and told is what is wanted then, without those that leave
+-- how a delta is taken in: the tables become those with it; those that leave are let go, and then what is wanted with it is kept
 pub record IsIntake (g : Weigher) (n : Node State) (leaving : Leaving) (delta : State) (intake : Intake) (effects : List Effect) : Type 0 where
   pub makes : ChangesTables intake n.known (join_states n.known delta)
   pub kept : kept_by n.supervisor intake ≡ leaving_after n.supervisor leaving (wanted_with g n delta)
@@ -176,7 +176,7 @@ pub record IsIntake (g : Weigher) (n : Node State) (leaving : Leaving) (delta : 
 abbrev pub IsNoIntake : Weigher → Node State → Leaving → State → Refusal → Type 0
 IsNoIntake g n leaving delta r = (r ≡ OutOfMemory) ⊎ ((r ≡ CountSpent) × (MAX < (leaving_after n.supervisor leaving (wanted_with g n delta)).given))
 
--- and then keeps what is wanted, without those that leave
+-- a node takes in a delta, lets go those that leave, and then keeps what is wanted with it
 abbrev pub learns : Weigher → Node State → Option State → Reply → Leaving → State → ActOutcome State
 learns g n own reply leaving delta = record {
   done = record { reply = reply; effects = leaving_effects n.supervisor leaving (wanted by_tables g (with_delta n own delta)) };

@@ -50,7 +50,7 @@ ListsLeaving ids Nobody = Unit {0}
 ListsLeaving ids (Finished id) = among text_cmp ids id ≡ true
 ListsLeaving ids (GaveUp id) = ⊥
 
--- whose run has ended
+-- the one child that leaves; none where nobody does, or all do
 abbrev pub ended_of : Leaving → Option Bytes
 ended_of Nobody = None
 ended_of (Finished id) = Some id

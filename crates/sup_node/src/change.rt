@@ -1,4 +1,4 @@
-//! What an act makes ready, so that it can be carried out with no more to be looked for.
+//! What an act makes ready, before anything changes.
 use sup_local_sup::{Effects, Plan, PlannedChange};
 use sup_replica::Reply;
 use sup_specs::{ChildId, NodeName};

@@ -1,4 +1,4 @@
-//! Letters, and the answers that have none.
+//! The letters that a node sends.
 ghost use Rattle.std.specs.Prelude.{◌≡◌, ◌≢◌, [], None, true, IfOk};
 ghost use Rattle.sup_tables.specs.States.{State};
 ghost use Rattle.sup_wire.specs.Drafts.{IsWhole};

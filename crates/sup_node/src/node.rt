@@ -56,7 +56,7 @@ impl<W: Weigh> Node<W> {
     ///
     /// # Errors
     ///
-    /// `CountSpent` where the boot would pass `MAX`; `OutOfMemory`.
+    /// `CountSpent` where the next boot, the image's count or an incarnation would pass `MAX`; `OutOfMemory`.
     pub fn from_image(
         alloc: Global,
         image: Image,
@@ -73,8 +73,8 @@ impl<W: Weigh> Node<W> {
     ///
     /// # Errors
     ///
-    /// The refusal of the first check that fails. Want of memory is told of a delivery, and of another event only where none
-    /// fails but that of numbers.
+    /// The refusal of the first check that fails. `OutOfMemory` may be told of any delivery, and of another event only where no
+    /// check fails but that of numbers.
     pub fn plan(&self, event: &Event, now: u64, weigher: &W) -> Result<Planned, Refusal>
         ensures { PlansEvent W.weight_of (station_of self.now) event.now now result }
     {

@@ -1,4 +1,4 @@
-//! A node's state that is opened for a delta: all memory is taken, and nothing can be refused any more.
+//! A node's state that is opened for a delta: it has all memory that it can't do without, so nothing can be refused any more.
 ghost use Rattle.std.specs.Prelude.{◌≡◌, ◌<◌, ◌≤◌, true};
 ghost use Rattle.sup_specs.specs.declared.limits.TheConstants.{MAX as MOST};
 ghost use Rattle.sup_anti_entropy.specs.Contents.{buffer_of};
@@ -22,7 +22,7 @@ pub(crate) struct OpenState {
     pub ghost runs: { replica.up ≡ true },
 }
 
-/// How a delta is taken in, once all memory for it is there.
+/// How a delta is taken in, once the memory is there that it can't do without.
 #[derive(Drop)]
 pub(crate) enum OpenIntake {
     Whole(Tables, Plan),
@@ -34,7 +34,8 @@ impl OpenState {
     ghost use Rattle.sup_node.specs.NodeStates.{station_in};
     ghost use Rattle.sup_node.specs.Openings.{TablesBecome, IsClosedStation, kept_with, with_known};
 
-    // The state with the delta. It takes no memory.
+    // The state with the delta. It can't be refused: the kept list alone may ask for memory, and does without where there is
+    // none.
     pub fn carried_out(self) -> NodeState
         requires tables { (old : State) × (new : State) × TablesBecome self.intake self.replica.known old new }
         requires given { (kept_with self.replica.supervisor self.intake).given ≤ MOST }

@@ -1,4 +1,5 @@
-//! A node that is opened for a change of its tables: all memory is taken, and nothing can be refused any more.
+//! A node that is opened for a change of its tables: it has all memory that it can't do without, so nothing can be refused
+//! any more.
 ghost use Rattle.std.specs.Prelude.{◌≡◌, true, IfOk, IfErr};
 ghost use Rattle.sup_replica.specs.Stations.{Station};
 ghost use Rattle.sup_tables.specs.States.{State};
@@ -24,8 +25,8 @@ pub struct OpenNode<W: Weigh> {
 }
 
 impl<W: Weigh> Node<W> {
-    /// Takes all memory that a change which is saved wants, with the node as it was when it was planned. An `Err` is want of
-    /// memory, and gives the node back.
+    /// Takes the memory without which a change that is saved can't be carried out, with the node as it was when that was
+    /// planned. An `Err` is want of memory, and gives the node back.
     pub fn open(self, planned: Planned) -> Result<OpenNode<W>, Node<W>>
         requires fits { FitsNode W.weight_of (station_of self) planned.change }
         requires saved { saves planned.change ≡ true }
@@ -50,7 +51,8 @@ impl<W: Weigh> Node<W> {
 }
 
 impl<W: Weigh> OpenNode<W> {
-    /// The node after the change, and the answer. It takes no memory.
+    /// The node after the change, and the answer. It can't be refused: the list of kept children alone may ask for memory, and
+    /// does without where there is none.
     pub fn carried_out(self) -> (Node<W>, Done)
         requires { (old : Station State) × (new : Station State) × IsOpenNode W.weight_of self old new }
         ensures node { (old : Station State) (new : Station State) → IsOpenNode W.weight_of self old new → station_of result.0 ≡ new }

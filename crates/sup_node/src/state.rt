@@ -51,7 +51,7 @@ impl NodeState {
     ///
     /// # Errors
     ///
-    /// `CountSpent` where the boot would pass `MAX`; `OutOfMemory`.
+    /// `CountSpent` where the next boot, the image's count or an incarnation would pass `MAX`; `OutOfMemory`.
     pub fn from_image<W: Weigh>(
         alloc: Global,
         image: Image,
@@ -108,7 +108,7 @@ impl NodeState {
         Ok(())
     }
 
-    // Takes all memory that a delta wants. An `Err` is want of memory, and gives the state back.
+    // Takes the memory without which a delta can't be taken in. An `Err` is want of memory, and gives the state back.
     pub(crate) fn open(self, learned: Learned) -> Result<OpenState, NodeState>
         requires count { self.replica.count < MOST }
         requires given { (kept_by self.replica.supervisor learned.intake).given ≤ MOST }

@@ -2,7 +2,7 @@
 use std::marker::Model;
 use sup_specs::{ChildId, NodeName};
 
-/// Where a name leads. A contract sees the texts.
+/// Where a name leads.
 #[derive(Clone, Copy)]
 pub enum Whereis<'a> {
     /// There is no such name.

@@ -6,6 +6,6 @@ use Rattle.sup_keeper.specs.Keeping.{Kept}
 abbrev pub failures_by : Kept → ℕ
 failures_by k = k.failures
 
--- whether its next save holds
+-- whether its next save fails only for memory
 abbrev pub sound_by : Kept → Bool
 sound_by k = not k.failing

@@ -14,9 +14,9 @@ use sup_placement::Weigh;
 use sup_specs::NodeName;
 use sup_still::Still;
 
-/// The lines of what is told of the node of this name, which is none while it's stopped: what it shows, how often its tables
-/// changed, how many deltas it holds, its context's vector and cloud, and how far each of these peers has acknowledged its
-/// changes, where it has. To print is no step.
+/// The lines of what is told of the node of this name: what it shows, how often its tables changed, how many deltas it holds,
+/// its context's vector and cloud, and how far each of these peers has acknowledged its changes, where it has. A stopped
+/// node, none here, has one line that says so. To print is no step.
 ///
 /// # Errors
 ///

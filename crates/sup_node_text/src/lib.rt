@@ -1,4 +1,4 @@
-//! What is printed of a node: what it shows, and where a name leads.
+//! What is printed of a node: what it shows, what is told where it or its stored image is inspected, and where a name leads.
 #![tactic(auto)]
 
 mod cut;

@@ -10,8 +10,9 @@ use sup_node::Node;
 use sup_placement::Weigh;
 use sup_specs::NodeName;
 
-/// The lines of what is shown of the node of this name, which is none while it's stopped: its boot, then its members, children
-/// and names, each by key with its losers, then what it keeps, in the order of its starts. To print is no step.
+/// The lines of what is shown of the node of this name: its boot, then its members, children and names, each by key with its
+/// losers, then what it keeps, in the order of its starts. A stopped node, none here, has one line that says so. To print is
+/// no step.
 ///
 /// # Errors
 ///

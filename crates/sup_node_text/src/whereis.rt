@@ -11,8 +11,8 @@ use sup_node::Node;
 use sup_placement::Weigh;
 use sup_specs::{Name, NodeName};
 
-/// The line of where a name leads at the node of this name, which is none while it's stopped: its child, and the member that
-/// the child is placed on. To print is no step.
+/// The line of where a name leads at the node of this name: its child, and the member that the child is placed on. The line of
+/// a stopped node, none here, says that it is down. To print is no step.
 ///
 /// # Errors
 ///

@@ -12,8 +12,8 @@ use std::collections::BTreeMap;
 use std::marker::{Model, PhantomData};
 use sup_specs::{ChildId, NodeName, Plain};
 
-/// Which member runs each of some children: a child is weighed when it comes, and never again. Its type names how children
-/// are weighed. A contract sees the members, and of which ids it tells.
+/// Which member runs each of some children: a child is weighed when it is told of, not when it is asked for. Its type names
+/// how children are weighed. A contract sees the members, and of which ids it tells.
 #[derive(Drop)]
 pub struct Assignment<W: Weigh> {
     members: Vec<NodeName>,

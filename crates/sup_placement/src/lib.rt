@@ -1,8 +1,8 @@
 //! Which member of the cluster runs a child: rendezvous hashing, also called highest random weight.
 //!
 //! Each node answers for itself, with no table and no message: nodes that know the same members
-//! place each child alike, and few children move when members come and go. It knows of members only
-//! their names, and takes no memory. Who wants the places of many children again and again keeps them
+//! place each child alike, and few children move when members come and go. [`place`] knows of members
+//! only their names, and takes no memory. Who wants the places of many children again and again keeps them
 //! in an `Assignment`.
 //!
 //! ```rust

@@ -87,7 +87,8 @@ fn are_linked(nodes: &[NodeName], scripts: &[Route]) -> bool
         && is_peer(nodes, &route.from, &route.to))
 }
 
-// Whether no two scripts are of one link. Where nodes are few and scripts are of links between them, one of the first few is found again.
+// Whether no two scripts are of one link. Five nodes have 20 links between them, so where there are more scripts one of the first 20 is
+// found again, and the search ends there.
 fn are_single(scripts: &[Route]) -> bool
     ensures { IsTrue result ↔ IsDistinct is_same_link scripts.now }
 {

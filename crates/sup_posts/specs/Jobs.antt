@@ -45,8 +45,8 @@ module _ {W : Type 0} {h : WeighGhosts W} where
     pub seat : IsSeatAt posts drive.at drive.seat
     pub lanes : All (IsLane posts) drive.lanes.items
 
-  -- What the runner did and answered of the nodes, by their names, is an argument, `did`, and of which of their commands the checkpoint was told
-  -- another, `stood`: relations that only their own calls show.
+  -- Two relations are arguments: `did`, what the runner did and answered at nodes, by their names; and `stood`, of which of their commands, by
+  -- place, the checkpoint was told. Only their own calls show them.
 
   -- what the link makes of the letters to the other node, of the answers of these entries, stands in order among the deliveries to that node; the
   -- pass there delivered just this, and made no other call but exits of children that didn't start at it, as the runner answered, which was told

@@ -29,7 +29,7 @@ pub struct Arrived<W: Weigh> {
     pub seat: Seat<W>,
 }
 
-/// What a driver hands back, with what the receivers of its links did.
+/// What a driver hands back: its pass, and what the receivers of its links hand back, in the links' order.
 #[derive(Drop)]
 pub struct Driven<W: Weigh> {
     pub seat: Seat<W>,

@@ -1,17 +1,15 @@
 -- A node that ships the deltas that a peer has not acknowledged: Almeida, Shoker, Baquero 2018, 6, with this project's bounded buffer.
--- A station's answer and what it becomes are one function of the station, the act, the moment and whether a save would hold: the first half
--- makes it ready, and the second, which is the save, either carries it out whole or refuses and changes nothing.
+-- A station's answer and what it becomes are one function of the station, the act, the moment and whether a save would hold: an act that
+-- saves is refused where it wouldn't.
 use Rattle.std.specs.Prelude.{ℕ, ◌-◌, Bool, true, not, nat_lt, List, [], Option, Some, None, Result, Ok, Err, if◌then◌else◌}
-use Rattle.std.specs.Option.{unwrap_or, option_map}
+use Rattle.std.specs.Option.{unwrap_or}
 use Rattle.sup_specs.specs.Values.{Bytes}
 use Rattle.sup_anti_entropy.specs.Buffers.{Shipment, holds_more, shipment_of, acknowledged_by}
 use Rattle.sup_placement.specs.Place.{Weigher}
 use Rattle.sup_replica.specs.declared.event.Event.TheVariants.{Ship, Deliver}
 use Rattle.sup_replica.specs.declared.event.Act.{Act}
 use Rattle.sup_replica.specs.declared.event.Act.TheVariants.{Event as Of, Stop, Restart}
-use Rattle.sup_replica.specs.declared.done.Done.{Done}
 use Rattle.sup_replica.specs.declared.done.Reply.TheVariants.{Sent, Acked}
-use Rattle.sup_replica.specs.declared.letter.Letter.{Letter}
 use Rattle.sup_replica.specs.declared.letter.LetterKind.{LetterKind}
 use Rattle.sup_replica.specs.declared.letter.LetterKind.TheVariants.{Part, Whole, Push as Pushed, Ack}
 use Rattle.sup_replica.specs.declared.refusal.Refusal.{Refusal}
@@ -53,13 +51,6 @@ module _ {K : Type 0} where
   kind_of (a_delta from to n whole content) = if whole then Whole n else Part n
   kind_of (a_push from to content) = Pushed
   kind_of (an_ack from to n) = Ack n
-
-  abbrev pub letter_of : MailCodec K → Mail K → Letter
-  letter_of codec mail = record { to = receiver_of mail; kind = kind_of mail; bytes = codec.write mail }
-
-  -- what is answered, with the letter's bytes
-  abbrev pub done_of : MailCodec K → StationMove K → Done
-  done_of codec move = record { reply = move.done.reply; effects = move.done.effects; out = option_map (letter_of codec) move.letter }
 
   -- a shipment as mail
   abbrev pub mail_of_shipment : Bytes → Bytes → Option (Shipment K) → Option (Mail K)
@@ -105,7 +96,7 @@ module _ {K : Type 0} (k : Knowledge K) where
   taken_with g s from m saves letter =
       then_do (kept_by saves (deliver k g s.node from m true)) (λ o. Ok (moved o (notes s o.node m.content) letter))
 
-  -- an acknowledged number only rises, and is no greater than the count
+  -- an acknowledged number only rises
   abbrev pub acknowledged : Station K → Bytes → ℕ → Station K
   acknowledged s from n = record s { acked = acknowledged_by is_named s.acked from n }
 

@@ -1,6 +1,5 @@
 -- One event at one node, over what it knows (this project). A ship sends all that the node knows, a push its newest own operation.
-use Rattle.std.specs.Prelude.{ℕ, ◌≡◌, ◌+◌, Bool, true, false, not, ◌||◌, List, [], nat_lt, Option, Some, None, Result, Ok, Err, IsOk}
-use mathlib.Core.Logic.{◌⊎◌}
+use Rattle.std.specs.Prelude.{ℕ, ◌+◌, Bool, true, false, not, ◌||◌, List, [], nat_lt, Option, Some, None, Result, Ok, Err}
 use Rattle.sup_specs.specs.Values.{Bytes}
 use Rattle.sup_specs.specs.declared.limits.TheConstants.{MAX}
 use Rattle.sup_tables.specs.Operations.{Operation}
@@ -20,9 +19,9 @@ use Rattle.sup_replica.specs.declared.event.Event.TheVariants.{Join, Leave, Drai
 use Rattle.sup_replica.specs.declared.done.Reply.{Reply}
 use Rattle.sup_replica.specs.declared.done.Reply.TheVariants.{Added, Replaced, Removed, Restarted, Finished, GaveUp, Sent}
 use Rattle.sup_replica.specs.declared.refusal.Refusal.{Refusal}
-use Rattle.sup_replica.specs.declared.refusal.Refusal.TheVariants.{Down, UnknownNode, StaleExit, BadMessage, OutOfMemory, CountSpent, NothingToPush}
+use Rattle.sup_replica.specs.declared.refusal.Refusal.TheVariants.{Down, UnknownNode, StaleExit, BadMessage, NothingToPush}
 use Rattle.sup_replica.specs.Checks.{refused_if, then_do}
-use Rattle.sup_replica.specs.Nodes.{Knowledge, Node, delta, push, Message, ToldOutcome, ActOutcome, is_named, wanted_at}
+use Rattle.sup_replica.specs.Nodes.{Knowledge, Node, delta, push, Message, ActOutcome, is_named, wanted_at}
 use Rattle.sup_replica.specs.Commands.{CommandReading, next, join, leave, drain, start, replace, delete, register, unregister}
 
 module _ {K : Type 0} where
@@ -46,7 +45,7 @@ module _ {K : Type 0} (k : Knowledge K) (weigher : Weigher) where
   abbrev pub wanted : Node K → List Wanted
   wanted n = wanted_at weigher n.name (k.rows n.known)
 
-  -- and then it keeps what is wanted now, without those that leave
+  -- what comes of an own operation: those that leave are let go, and then what is wanted with it is kept
   abbrev pub issues : Node K → Reply → Leaving → K → ActOutcome K
   issues n reply leaving own = record {
     done = record { reply = reply; effects = leaving_effects n.supervisor leaving (wanted (with_own k n own)) };
@@ -89,19 +88,6 @@ module _ {K : Type 0} (k : Knowledge K) (weigher : Weigher) where
   abbrev pub event_step : Node K → Event → ℕ → Result (ActOutcome K) Refusal
   event_step n event now = refused_if (not n.up) Down (up_step n event now)
 
--- the last check before the save: no number passes the greatest
+-- whether a number passes the greatest: the last check before the save
 abbrev pub passes_greatest : {K : Type 0} → Node K → Bool
 passes_greatest n = nat_lt MAX n.count || (nat_lt MAX n.supervisor.given || nat_lt MAX n.supervisor.boot)
-
--- what is told, and the node then
-abbrev pub told : {K : Type 0} → Result (ActOutcome K) Refusal → Result (ToldOutcome × Node K) Refusal
-told step = then_do step (λ o. refused_if (passes_greatest o.node) CountSpent (Ok (o.done, o.node)))
-
--- why a step is refused: as it says, or for memory, and that only where it says no refusal but of numbers
-abbrev pub StepRefuses : {K : Type 0} → Result (ActOutcome K) Refusal → Refusal → Type 0
-StepRefuses step r = (told step ≡ Err r) ⊎ ((r ≡ OutOfMemory) × IsOk step)
-
--- result and node are the step's; a refused step changes nothing
-abbrev pub StepGives : {K : Type 0} → Result (ActOutcome K) Refusal → Node K → Result ToldOutcome Refusal → Node K → Type 0
-StepGives step old (Ok done) new = told step ≡ Ok (done, new)
-StepGives step old (Err r) new = (new ≡ old) × StepRefuses step r

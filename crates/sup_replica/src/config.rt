@@ -54,7 +54,7 @@ impl Config {
         self.intensity
     }
 
-    /// In units of the moments that acts are given, as seconds.
+    /// How long a restart counts, in the unit of the moments that acts are given: seconds, say.
     pub fn period(&self) -> u32
         ensures value { result ≡ self.now.period }
         ensures within { (1 ≤ result) × (result ≤ 1000000) }

@@ -31,7 +31,7 @@ impl Letter {
     }
 }
 
-/// What a message brings. The number is the sender's count of changes.
+/// What a message brings. A delta's number is its sender's count of changes.
 #[derive(Clone, Copy)]
 pub enum LetterKind {
     /// The changes up to this count that its receiver hasn't acknowledged.

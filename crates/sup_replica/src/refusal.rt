@@ -5,7 +5,7 @@ ghost use Rattle.sup_replica.specs.Refusals.{number_of};
 use std::alloc::AllocError;
 use thiserror::Error;
 
-/// Why an act is refused. A refused act changes nothing.
+/// Why an act is refused. A refused act leaves the node and its image as they were.
 #[derive(Clone, Copy, Debug, PartialEq, Eq, Error)]
 pub enum Refusal {
     #[error("the node is stopped")]

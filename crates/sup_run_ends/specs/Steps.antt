@@ -29,7 +29,7 @@ use Rattle.sup_run_ends.specs.Passes.{IsCutOff, IsFresh, AreMadeBy}
 abbrev pub BeginsWithSeen : {W : Type 0} {h : WeighGhosts W} → Seat W h → History → Type 0
 BeginsWithSeen seat history = IsPrefix (view_of seat).seen history.entries.items
 
--- how many messages are on their way over a link at once
+-- how many messages may be on their way over a link at once
 abbrev pub room : ℕ
 room = 16
 
@@ -51,7 +51,7 @@ module _ {W : Type 0} {h : WeighGhosts W} where
   abbrev pub IsSeatOf : SharedNode W h → Seat W h → Type 0
   IsSeatOf post seat = IsOf kept_by failures_by sound_by post.gate seat
 
-  -- the pass was cut once, for the driver at another place, and what was cut off comes to the row
+  -- the pass was cut once, unless it is of the gate of the driver's own node, and what was cut off comes to the row
   pub record IsCutFor (post : SharedNode W h) (at to : ℕ) (seat kept : Seat W h) (old new : List (ℕ × Seat W h)) : Type 0 where
     pub cut : List (ℕ × Seat W h)
     pub row : new ≡ old ++ cut

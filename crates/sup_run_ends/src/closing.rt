@@ -88,7 +88,11 @@ fn close_all<W: Weigh>(
     Ok(histories)
 }
 
-/// The histories, of what the drivers hand back.
+/// The histories of these nodes, in their order, of what the drivers hand back.
+///
+/// # Errors
+///
+/// The gravest fault among the results; where they have none, `OutOfMemory`, where memory was refused.
 pub fn finish<W: Weigh>(
     alloc: Global,
     posts: Vec<SharedNode<W>>,

@@ -32,7 +32,8 @@ fn cut_one<W: Weigh>(
     Ok(first)
 }
 
-// A pass of each gate but the one at the place more, behind those that they were cut off.
+// Cuts a pass off that of each gate but the one at this place. Gives the passes that are kept, and those that were cut off, with their
+// places.
 pub(crate) fn cut_row<W: Weigh>(
     alloc: Global,
     at: usize,

@@ -14,7 +14,7 @@ use sup_plan::Plan;
 use sup_posts::{Drive, Lane, Seat, SharedNode};
 use sup_specs::NodeName;
 
-// How many messages of a link are on their way at once.
+// How many messages of a link may be on their way at once.
 const CAPACITY: usize = 16;
 
 // The link from a node to the one at a place, with a pass of that one's gate.
@@ -63,7 +63,7 @@ fn make_lanes<W: Weigh>(
     Ok(lanes)
 }
 
-// The links of each driver, in the order of the nodes, and the passes that all passes behind them were cut off.
+// What is left of each gate's first pass, and the links of each driver, in the order of the nodes, with the passes that were cut off these.
 fn deal<W: Weigh>(
     alloc: Global,
     plan: &Plan,
@@ -114,8 +114,12 @@ fn make_drive<W: Weigh>(
     })
 }
 
-/// What the drivers are given, in the order of their nodes. The passes of each gate, which begin with its first one, have all of
-/// it together.
+/// What the drivers are given, in the order of their nodes, where `seats` are the first passes of these nodes' gates. The passes of a gate
+/// that are among it have all of the gate together.
+///
+/// # Errors
+///
+/// `AllocError` where memory was refused.
 pub fn make_drives<W: Weigh>(
     alloc: Global,
     plan: &Plan,

@@ -39,6 +39,10 @@ fn open_post<W: Weigh>(
 
 /// These nodes, in their order, each one's history with room for `bound` entries, from 1 to
 /// [`MAX_BOUND`](sup_node_gate::MAX_BOUND), and a first pass of each one's gate.
+///
+/// # Errors
+///
+/// `OutOfMemory` where memory was refused.
 pub fn open_posts<W: Weigh>(
     alloc: Global,
     config: Config,

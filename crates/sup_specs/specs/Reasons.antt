@@ -1,4 +1,5 @@
--- The texts of exit reasons (this project's script format; the reasons are those of Erlang/OTP's supervisor manual).
+-- The texts of exit reasons (this project's script format; normal, shutdown and shutdown with a word are those of
+-- Erlang/OTP's supervisor manual, failed and crash are this project's).
 use Rattle.std.specs.Prelude.{nat_eq, drop, ◌++◌, is_some, Option, Some, None, if◌then◌else◌, codes}
 use Rattle.std.specs.Str.{bytes_eq}
 use Rattle.std.specs.List.{starts_with}

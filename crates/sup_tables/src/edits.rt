@@ -20,9 +20,9 @@ use sup_indexed::PlannedMap;
 use sup_specs::Plain;
 
 impl Tables {
-    /// The rows that go and those that come once the plan is carried out, losers among them, in the order of their places. Of a
-    /// key that the plan may change all rows go, and those come that stand there then. No row is copied, and no other key is
-    /// looked at. An `Err` where a growth was refused.
+    /// The rows that go and those that come once the plan is carried out, losers among them, by table and key. Of a key that the
+    /// plan may change first all rows go, by dot, and then those come, by dot, that stand there then. No row is copied, and no
+    /// other key is looked at. An `Err` where a growth was refused.
     pub fn lent_edits_after<'a>(
         &'a self,
         alloc: Global,

@@ -92,7 +92,7 @@ impl Tables {
         Ok(planned)
     }
 
-    /// What a plan touches.
+    /// What a plan touches. An `Err` is want of memory.
     pub fn touched_by(&self, alloc: Global, plan: &PlannedTables) -> Result<Touched, AllocError>
         ensures rise { IfOk result (λ t. IsStrictlySortedBy text_cmp t.children.items) }
         ensures children { IfOk result (λ t. (new : State) → IsPlanFor plan.now self.now new → AreTouched t.children.items self.now new) }
@@ -108,7 +108,8 @@ impl Tables {
         })
     }
 
-    /// Takes in what other tables know, and tells what that touched. An `Err` changes nothing.
+    /// Takes in what other tables know, and tells what that touched. An `Err` is want of memory, or of a count of the rows, and
+    /// changes nothing.
     pub fn join_touching(&mut self, alloc: Global, delta: &Tables) -> Result<Touched, AllocError>
         ensures state { OnOk result (self.new ≡ join_states self.old delta.now) }
         ensures err { OnErr result (self.new ≡ self.old) }
@@ -205,7 +206,8 @@ fn planned(
     })
 }
 
-// Whether a context has, as far as its runs tell, at most so many dots that another lacks. It decides of cost alone.
+// Whether `theirs` has at most so many dots that `mine` lacks, by an estimate: of its runs only the dots above the greatest that
+// `mine` has of the node are counted. It decides of cost alone.
 fn brings_few(
     mine: &CausalContext,
     theirs: &CausalContext,

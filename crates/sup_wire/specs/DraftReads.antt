@@ -1,4 +1,4 @@
--- What contexts, messages and images are read as (this project). For private clauses.
+-- What contexts, messages and images are read as (this project). For private clauses, and for tests of bytes.
 use Rattle.std.specs.Prelude.{ℕ, ◌≡◌, ◌≢◌, ◌⊎◌, List, [], ◌∷◌, Option, Some, None, option_map, Result, Ok, Err, codes, bytes_eq, if◌then◌else◌}
 use Rattle.sup_specs.specs.Values.{Bytes}
 use Rattle.sup_specs.specs.Texts.{text_fault}
@@ -139,7 +139,7 @@ NoJson text BadVersion = ⊥
 NoJson text NotCanonical = ⊥
 NoJson text OutOfMemory = Unit {0}
 
--- Tables of these parts, or why there are none: no memory may stand in place of any answer.
+-- Tables of these parts, or why there are none: `OutOfMemory` may stand in place of any answer.
 abbrev pub RefusesParts : WireFault → TableParts → Type 0
 RefusesParts NotJson p = ⊥
 RefusesParts NotMessage p = ⊥

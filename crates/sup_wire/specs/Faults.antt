@@ -57,7 +57,7 @@ version_at d = option_and_then (λ v. option_and_then as_u64 (as_number v)) (get
 abbrev pub IsMisformed : (Draft → Type 0) → Data → Type 0
 IsMisformed Kind d = (version_at d ≡ None) ⊎ ((v : Version) × (version_at d ≡ Some (version_number v)) × ((draft : Draft) → Kind draft → IsFormed v draft → d ≢ value_in v draft))
 
--- why a text is no message (or no image), first fault first; no memory may stand in place of any answer
+-- why a text is no message (or no image), first fault first; `OutOfMemory` may stand in place of any answer
 abbrev pub IsFault : (Draft → Type 0) → Bytes → WireFault → Type 0
 IsFault Kind text NotJson = (d : Data) → ¬ IsJson text d
 IsFault Kind text NotMessage = (d : Data) × IsJson text d × IsMisformed Kind d
@@ -76,6 +76,6 @@ IsInRange (Ack from to n) = (from ≢ to) × IsCount n
 IsInRange (Push from to state) = from ≢ to
 IsInRange (Delta from to n state) = (from ≢ to) × IsCount n
 
--- the same of an image
+-- the numbers of an image are in their ranges
 abbrev pub IsImageInRange : Image → Type 0
 IsImageInRange i = IsCount i.boot × (i.count ≤ MAX)

@@ -14,7 +14,7 @@ infixl 10 ◌>>=◌
 abbrev pub ◌>>=◌ : {A B : Type 0} → Option A → (A → Option B) → Option B
 o >>= f = option_and_then f o
 
--- What a reader answered, beside what is read there: no memory may stand in place of any answer.
+-- What a reader answered, beside what is read there: `OutOfMemory` may stand in place of any answer.
 abbrev pub ReadFails : {Y : Type 0} → WireFault → Option Y → Type 0
 ReadFails NotJson read = ⊥
 ReadFails NotMessage read = read ≡ None

@@ -4,8 +4,7 @@ use Rattle.std.specs.List.{AllByRecursion}
 use Rattle.json.specs.Print.{quoted}
 use Rattle.serde_json.specs.Written.{compact_text}
 use Rattle.sup_specs.specs.Values.{Bytes}
-use Rattle.sup_causal.specs.declared.dot.Dot.{Dot}
-use Rattle.sup_causal.specs.Dots.{Context, has}
+use Rattle.sup_causal.specs.Dots.{has}
 use Rattle.sup_causal.specs.Cut.{IsVector, IsCloud}
 use Rattle.sup_tables.specs.declared.row.Row.{Row}
 use Rattle.sup_array_text.specs.Arrays.{ArrayShown, shown, whole}

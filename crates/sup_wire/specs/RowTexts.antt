@@ -9,7 +9,7 @@ use Rattle.sup_tables.specs.Rows.{AreInOrder}
 use Rattle.sup_wire.specs.Forms.{row_value, IsWritten}
 use Rattle.sup_wire.specs.declared.version.Version.TheVariants.{Two}
 
--- a row, in the version that is written
+-- a row's text, in the version that is written
 abbrev pub row_text : Row → Bytes
 row_text r = compact_text (row_value Two r)
 

@@ -31,10 +31,11 @@ field_tokens name d = Token.key name ∷ tokens_of d
 abbrev pub four_tokens : Bytes → Bytes → Data → Data → List Token
 four_tokens table key dot value = tokens_of (four table key dot value)
 
--- the fields of the sender and of the kind, and the last fields
+-- the fields of the sender and of the kind
 abbrev pub sender_tokens : Bytes → Bytes → List Token
 sender_tokens from kind = field_tokens (codes "from") (string from) ++ field_tokens (codes "kind") (string kind)
 
+-- the last fields, and the end of the object
 abbrev pub last_tokens : Bytes → List Token
 last_tokens to = field_tokens (codes "to") (string to) ++ field_tokens (codes "v") (version_value Two) ++ end_object ∷ []
 

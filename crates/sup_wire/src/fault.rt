@@ -10,21 +10,23 @@ use sup_tables::RowsFault;
 use thiserror::Error;
 
 /// Why a text is no message or image. Where more than one reason holds, the answer is the first of these: `NotJson`;
-/// `NotMessage` for a value without a version; `BadVersion`; `NotMessage` for a form; `NotCanonical`. `OutOfMemory` may
+/// `NotMessage` for a value without a number of a version; `BadVersion`; `NotMessage` for a form; `NotCanonical`. `OutOfMemory` may
 /// stand in place of any answer.
 #[derive(Clone, Copy, Debug, PartialEq, Eq, Error)]
 pub enum WireFault {
     /// The text is no JSON value.
     #[error("no JSON text")]
     NotJson,
-    /// The value has no number as its version, or is none of the forms of its version: a field is missing, too many, of
-    /// another form or out of its range, the kind is none that the call reads, or sender and receiver are one.
+    /// The value has no whole number from 0 to 2^64 - 1 as its version, or is none of the forms of its version: a field is
+    /// missing, too many, of another form or out of its range, the kind is none that the call reads, or sender and receiver
+    /// are one.
     #[error("no message")]
     NotMessage,
-    /// The version is a number, and none that is read.
+    /// The version is such a number, and none that is read.
     #[error("another version")]
     BadVersion,
-    /// Every field has its form, but rows or cloud break their order, the cloud's distance or the cover of the context.
+    /// Every field has its form, but rows or cloud are out of order, a dot of the cloud is less than two past its node's
+    /// entry in the vector, or the context lacks a row's dot.
     #[error("rows or cloud are not canonical")]
     NotCanonical,
     /// A growth was refused.

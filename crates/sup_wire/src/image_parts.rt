@@ -28,7 +28,7 @@ pub fn image_front(alloc: Global, heading: &Heading<'_>) -> Result<Vec<u8>, Allo
     Ok(text)
 }
 
-/// The text of an image, with what stands behind its rows. An `Err` where a growth was refused.
+/// What was put together, closed, with what stands behind an image's rows. An `Err` where a growth was refused.
 pub fn closed_image(made: ArrayBuilding) -> Result<ArrayText, AllocError>
     ensures { IfOk result (λ t. t ≡ closed_shown made.front made.items) }
 {

@@ -1,4 +1,4 @@
-//! Writing a JSON text, a token at a time.
+//! Writing a JSON text: a message a token at a time, an image by its parts.
 pub(crate) mod context;
 pub(crate) mod fields;
 pub(crate) mod fronts;

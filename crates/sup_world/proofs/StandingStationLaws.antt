@@ -147,7 +147,7 @@ late-either : (s : Station State) (x y : Result (StationMove State) Refusal) →
 late-either s x y h lack true = (late-checked s x y h lack true).0
 late-either s x y h lack false = (late-checked s x y h lack false).1
 
--- an event at a running node may want memory where it's refused for a number at most
+-- where nothing but a spent number refuses an event at a running node, want of memory may stand in place of its answer
 module _ (g : Weigher) (n : Station State) (now : ℕ) (mail : Option (Mail State)) (saves : Bool) (t : IsTables n.node.known) where
   late-event : (event : Event) → ((r : Refusal) → stepped g n event now mail true ≡ Err r → r ≡ CountSpent) → is_late (stepped g n event now mail saves) ≡ true
   late-event event lack = at saves

@@ -19,7 +19,7 @@ use Rattle.sup_world.specs.SeenNodes.{SeenNode}
 abbrev pub seen_at : List SeenNode → Bytes → Option SeenNode
 seen_at sites name = find (λ s. is_named name s.name) sites
 
--- whether a save holds, where it is told to or not
+-- whether a save holds: where it is told to, or where its keeper can count no failure more
 abbrev pub holds : Bool → ℕ → Bool
 holds saves failures = saves || not (nat_lt failures most)
 

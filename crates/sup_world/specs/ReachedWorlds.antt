@@ -45,7 +45,7 @@ pub record ReachedByRun (g : Weigher) (config : Config) (names : List Bytes) (is
 abbrev pub IsReachedNew : Weigher → Config → List Bytes → List SeenNode → Type 0
 IsReachedNew g config names sites = (is_message : Bytes → Bool) → ReachedByRun g config names is_message [] [] sites
 
--- what steps led to, these lead on from
+-- where steps from a new world led to these nodes, they do with these steps behind them, as long as all can be counted
 abbrev pub LeadsOn : Weigher → List SeenNode → List Step → List (Result Answer Refusal) → List SeenNode → Type 0
 LeadsOn g sites steps answers after =
     (config : Config) (names : List Bytes) (is_message : Bytes → Bool) (before : List Step) (told : List (Result Answer Refusal))

@@ -29,7 +29,7 @@ NodesStay = (w : RealWorld State) (step : Step) (name : Bytes) → is_named name
 abbrev pub MessagesStay : Type 0
 MessagesStay = (w : RealWorld State) (step : Step) (from : Bytes) (k : ℕ) (mail : Mail State) → mail_sent w from k ≡ Some mail → mail_sent (after_step w step) from k ≡ Some mail
 
--- the same nodes, this one as it was, and of each message that was sent no one is gone
+-- the same nodes, this one as it was, and each message that was sent is still there
 pub record IsFurther (name : Bytes) (w v : RealWorld State) : Type 0 where
   pub weigher : v.weigher ≡ w.weigher
   pub codec : v.codec ≡ w.codec
@@ -56,7 +56,7 @@ EntriesStay =
     (w v : RealWorld State) (step : Step) → WasSent w step → IsFurther (real_comes_to w step) w v
     → (real_answer_of (real_step by_tables v step) ≡ real_answer_of (real_step by_tables w step)) × (post_of (after_step v step) (real_comes_to w step) ≡ post_of (after_step w step) (real_comes_to w step))
 
--- a message comes as its text is read, whoever sent it and as which of its messages
+-- messages whose texts are read alike come alike, whole or cut short by as much
 abbrev pub TextsArrive : Type 0
 TextsArrive =
     (g : Weigher) (s : Station State) (a b : Mail State) (drop : ℕ) (saves : Bool) → as_read a ≡ as_read b → arrives by_tables g s a drop saves ≡ arrives by_tables g s b drop saves

@@ -22,7 +22,7 @@ pub record SiteStands (s : SeenNode) (post : StationPost State) : Type 0 where
   pub station : StationStands s.kept_station post.station
   pub letters : AllZip IsLetter post.sent s.letters
 
--- nodes of different names
+-- nodes of different names, which stand for those of this world of the definitions, with its weigher
 pub record ShowsReal (weigher : Weigher) (sites : List SeenNode) (real : RealWorld State) : Type 0 where
   pub weigher_is : real.weigher ≡ weigher
   pub sites_stand : AllZip SiteStands sites real.posts

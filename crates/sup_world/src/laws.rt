@@ -13,12 +13,12 @@ pub fn other_steps_go_further()
     ensures { OthersGoFurther }
 {}
 
-/// A message comes as its text is read.
+/// Messages whose texts are read alike come alike.
 pub fn a_message_is_its_text()
     ensures { TextsArrive }
 {}
 
-/// What a node answers to an act, to bytes that are no message or to a message that was sent, it answers after any further
+/// What a node answers to an act, to bytes that nobody sent or to a message that was sent, it answers after any further
 /// steps of other nodes, too, and becomes the same.
 pub fn an_entry_can_wait()
     ensures { EntriesStay }

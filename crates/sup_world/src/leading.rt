@@ -1,7 +1,8 @@
 //! What steps from a new world lead to.
 ghost use Rattle.sup_world.specs.ReachedWorlds.{RunsLeadOn};
 
-/// What steps from a new world led to is a run of the model, and the headline holds of it: so it is after each step more.
+/// Where steps from a new world are a run of the model and the headline holds of what they led to, it is so with these steps
+/// behind them, 2^64 - 1 in all at most.
 pub fn steps_lead_on()
     ensures { RunsLeadOn }
 {}

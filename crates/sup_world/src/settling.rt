@@ -29,13 +29,14 @@ pub(crate) enum Way {
 
 impl<W: Weigh> World<W> {
     /// Has the running nodes exchange all that they know, in the order of their names: each of the others ships to the first,
-    /// then the first to each of the others; each message comes and is acknowledged at once. No save fails, and a ship to a
-    /// node that knows all is passed over. Then each of them has absorbed all that any of them had (definition "settle"). What
-    /// is told is that of these steps, which are the world's own, and so lead on as any steps do.
+    /// then the first to each of the others; each message comes and is acknowledged at once. No save fails, and a ship that is
+    /// up to date is passed over. Then each of them has absorbed all that any of them had. What is told is that of these steps,
+    /// which are the world's own, and so lead on as any steps do.
     ///
     /// # Errors
     ///
-    /// As the first step that is refused; its steps so far stay made. `OutOfMemory`.
+    /// As the first step that is refused, but for a ship that is passed over; `OutOfMemory` too where there is none for the
+    /// names or to note an answer. The steps so far stay made.
     pub fn settle(&mut self) -> Result<Settled, Refusal>
         ensures follows { (model : Model) → StandsFor W.weight_of (sites_of self.old) model
             → SettlesTo W.weight_of model result (sites_of self.new) }
@@ -91,7 +92,7 @@ impl<W: Weigh> World<W> {
         Ok(())
     }
 
-    // One ships to the other, if that doesn't know all: the number of the message.
+    // One ships to the other, unless that is up to date: the number of the message.
     fn ship(
         &mut self,
         from: &NodeName,
@@ -175,7 +176,7 @@ impl<W: Weigh> World<W> {
     }
 }
 
-// A ship to a node that knows all is passed over.
+// A ship that is up to date is passed over.
 fn passed_over(refusal: Refusal) -> Result<Option<u64>, Refusal>
     ensures passed { IfOk result (λ number. (number ≡ None) × (refusal ≡ Refusal.UpToDate)) }
     ensures refused { IfErr result (λ r. (r ≡ refusal) × (r ≢ Refusal.UpToDate)) }

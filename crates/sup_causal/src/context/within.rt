@@ -47,7 +47,7 @@ pub(super) fn cloud_within(dots: &[Dot], other: &CausalContext) -> bool
     true
 }
 
-// Whether the entries and so many dots beside them are at most so many dots together.
+// Whether the dots of the runs, with as many more as `cloud` says, are at most as many as `most` says.
 pub(super) fn is_at_most(vector: &[(NodeName, u64)], cloud: usize, most: usize) -> bool
     ensures { IsTrue result ↔ (total_of vector.now + cloud ≤ most) }
 {

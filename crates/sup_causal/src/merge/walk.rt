@@ -49,7 +49,8 @@ impl<'a, K: Plain, V> Iterator for KeyByKey<'a, K, V> {
     }
 }
 
-/// The lesser key of the first entries of two lists, with the values that stand under it there.
+/// The lesser key of the first entries of two lists, with the values that stand under it there. None where both lists
+/// are at their end.
 pub fn lesser_key<'a, K: Plain, V>(
     left: Option<(&'a K, &'a V)>,
     right: Option<(&'a K, &'a V)>,

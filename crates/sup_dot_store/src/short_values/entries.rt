@@ -44,7 +44,7 @@ impl<'a, V> Entries<'a, V> {
         Some((&entry.0, &entry.1))
     }
 
-    // Goes past the next one, where its value is told.
+    // Goes past the next one where `told` is its value; None leaves it the next.
     pub(crate) fn go_past(&mut self, told: Option<&'a V>)
         ensures { self.new ≡ past_told (option_copied told.entry) self.old }
     {

@@ -95,7 +95,7 @@ impl Replica {
         replica
     }
 
-    // It has taken in what it was opened for, but for the count.
+    // It has taken in what it was opened for. Its count and its newest own operation are still the old ones.
     pub(crate) fn with_intake(self, intake: OpenIntake) -> Replica
         requires tables { (old : State) × (new : State) × TablesBecome intake self.known old new }
         requires given { (kept_with self.supervisor intake).given ≤ MOST }

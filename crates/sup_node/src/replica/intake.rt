@@ -14,7 +14,7 @@ use sup_replica::Refusal;
 use sup_tables::Tables;
 
 impl Replica {
-    // How a delta is taken in, and what is told then, without those that leave.
+    // How a delta is taken in, and the effects of that. Those that leave are let go first.
     pub(super) fn intake<W: Weigh>(
         &self,
         leaving: &Leaving,
@@ -54,8 +54,8 @@ impl Replica {
         }
     }
 
-    // By what the delta touches. There is none where it changes much, where other members are open with it, or all children
-    // leave.
+    // By what the delta touches. There is none where it changes much, where other members are open with it, or where a child
+    // leaves that it doesn't touch, or all do.
     fn touched_intake<W: Weigh>(
         &self,
         leaving: &Leaving,

@@ -17,7 +17,7 @@ use sup_specs::MAX;
 use sup_tables::Tables;
 
 impl Replica {
-    // Makes an own operation ready, without those that leave.
+    // Makes an own operation ready. Those that leave are let go first.
     pub(super) fn issue<W: Weigh>(
         &self,
         reply: Reply,
@@ -51,7 +51,7 @@ impl Replica {
         self.learn(None, Reply::Absorbed, &Leaving::Nobody, delta, weigher)
     }
 
-    // Makes a delta ready to be known, and what is wanted with it to be kept, without those that leave.
+    // Makes ready to know a delta, to let go those that leave, and then to keep what is wanted with it.
     fn learn<W: Weigh>(
         &self,
         own: Option<Tables>,

@@ -84,7 +84,7 @@ fn is_listed(ids: &[ChildId], id: &ChildId) -> bool
     false
 }
 
-// The child whose run has ended.
+// The one child that leaves; none where nobody does, or all do.
 pub(super) fn ended(leaving: &Leaving) -> Option<&ChildId>
     ensures { option_copied result ≡ ended_of leaving.now }
 {

@@ -22,7 +22,7 @@ fn note_of(name: &str, value: &Value) -> Option<(NodeName, u64)>
     Some((node, counter))
 }
 
-// The entries of a vector, one for each member.
+// The entries of a vector, one for each field of the object.
 fn each_note(alloc: Global, object: &Map<String, Value>) -> Result<Vec<(NodeName, u64)>, WireFault>
     ensures { ReadGivesBy (λ v. v.items) result (notes_in (members_view object.now.entries)) }
 {

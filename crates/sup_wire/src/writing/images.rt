@@ -46,7 +46,7 @@ pub(crate) fn text_by(
     Ok(text)
 }
 
-// What stands behind the rows too.
+// Closed, with what stands behind the rows.
 pub(crate) fn closed(made: ArrayBuilding) -> Result<ArrayText, AllocError>
     ensures { IfOk result (λ t. t ≡ closed_shown made.front made.items) }
 {

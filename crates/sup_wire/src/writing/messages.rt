@@ -23,7 +23,7 @@ fn sender_fields(out: &mut Writer, from: &NodeName, kind: &str) -> Result<(), Al
     text_field(out, "kind", kind)
 }
 
-// The last fields, of the receiver and of the version.
+// The last fields, of the receiver and of the version, and the end of the object.
 fn last_fields(out: &mut Writer, to: &NodeName) -> Result<(), AllocError>
     ensures name { OnOk result (IsName to.now) }
     ensures adds { OnOk result (AddsTokens out.old out.new (last_tokens to.now)) }

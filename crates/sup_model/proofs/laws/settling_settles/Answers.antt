@@ -1,4 +1,4 @@
--- The code's world beside the model's.
+-- Settling of the model's world.
 use Rattle.sup_model.proofs.FollowLaws.{settling_settles}
 use Rattle.sup_model.proofs.laws.settling_settles.Goals as goal
 
