@@ -16,9 +16,9 @@ use sup_plan::{Histories, Plan, is_plan};
 use sup_posts::RunFault;
 use sup_run_ends::{finish, make_drives, open_posts};
 
-/// Runs a plan: each of its nodes is driven by the plan's commands, over links by its scripts, in threads of their own. What nodes have
-/// done with children is told the runner, and the checkpoint stands by each command. Gives what happened at each node, of whose history
-/// [`MAX_BOUND`] entries is the bound.
+/// Runs a plan: each of its nodes is driven by the plan's commands, over links by its scripts, in threads of their own. What is to
+/// be done with nodes' children is told the runner, and the checkpoint stands by each command. Gives what happened at each node, of whose
+/// history [`MAX_BOUND`] entries is the bound.
 ///
 /// # Errors
 ///
@@ -43,6 +43,7 @@ pub fn run<
     ensures good { IsPlan plan.now → result ≢ Err BadPlan }
     ensures run { IfOk result (λ histories. IsRunOf W.weight_of (N.did runner.now) plan.now histories) }
     ensures stood { IfOk result (λ histories. All (HasStoodBy (stood_by C.was_before C.was_answered checkpoint.now) plan.now) histories) }
+    ensures bound { IfOk result (λ histories. All (λ h. length h.entries.items ≤ MAX_BOUND) histories) }
 {
     run_bounded(rt, alloc, plan, MAX_BOUND, runner, checkpoint, weigher)
 }

@@ -1,5 +1,5 @@
 //! What a station is asked.
-ghost use Rattle.std.specs.Prelude.{◌≡◌, ◌≢◌, ◌<◌, ◌≤◌, ◌+◌, true, Some, None, IsErr, IfErr, IfOk, OnOk, OnErr};
+ghost use Rattle.std.specs.Prelude.{◌≡◌, ◌≢◌, ◌<◌, ◌≤◌, ◌+◌, true, false, Some, None, IsErr, IfErr, IfOk, OnOk, OnErr};
 ghost use Rattle.std.specs.Option.{option_map, option_copied};
 ghost use Rattle.sup_node.specs.Contents.{station_of};
 ghost use Rattle.sup_replica.specs.declared.event.Act.TheVariants.{Restart};
@@ -27,7 +27,8 @@ impl<K: Keeper, W: Weigh> Station<K, W> {
     ///
     /// # Errors
     ///
-    /// `KeepFailed` where the save fails; `OutOfMemory`. The keeper comes back, with the bytes that it kept.
+    /// `KeepFailed` where the save fails; `OutOfMemory`. The keeper comes back, with the bytes that it kept; one that was sound
+    /// or readable still is.
     pub fn new(
         alloc: Global,
         name: NodeName,
@@ -46,6 +47,8 @@ impl<K: Keeper, W: Weigh> Station<K, W> {
         ensures sound { IfErr result (λ r. K.sound keeper ≡ true → r.reason ≢ KeepFailed) }
         ensures stays_sound { IfOk result (λ s. K.sound keeper ≡ true → K.sound (keeper_of s) ≡ true) }
         ensures stays_readable { IfOk result (λ s. K.readable keeper ≡ true → K.readable (keeper_of s) ≡ true) }
+        ensures still_sound { IfErr result (λ r. K.sound keeper ≡ true → K.sound r.keeper ≡ true) }
+        ensures still_readable { IfErr result (λ r. K.readable keeper ≡ true → K.readable r.keeper ≡ true) }
     {
         let mut keeper = keeper;
         match open(alloc, name, config, &mut keeper) {
@@ -130,12 +133,13 @@ impl<K: Keeper, W: Weigh> Station<K, W> {
         }
     }
 
-    /// Saves the image that was made ready, if the act changes it, and then carries the act out. All memory is taken before
-    /// the save.
+    /// Saves the image that was made ready, if the act changes it, and then carries the act out. What can be refused is
+    /// refused before the save; an act that saves nothing leaves the keeper as it is.
     ///
     /// # Errors
     ///
-    /// `KeepFailed` where the save fails; `OutOfMemory`. The station is unchanged then.
+    /// `KeepFailed` where the save fails; `OutOfMemory`, but not of a stop. The station is unchanged then, but for the
+    /// keeper's count of failures.
     pub fn commit(&mut self, prepared: Prepared) -> Result<Done, Refusal>
         requires { IsReadyFor W.weight_of (kept_station_of K.kept self.old) prepared }
         ensures answer { CommitsPrepared (kept_station_of K.kept self.old) prepared result (kept_station_of K.kept self.new) }
@@ -144,6 +148,7 @@ impl<K: Keeper, W: Weigh> Station<K, W> {
         ensures never_falls { K.failures (keeper_of self.old) ≤ K.failures (keeper_of self.new) }
         ensures by_one { K.failures (keeper_of self.new) ≤ K.failures (keeper_of self.old) + 1 }
         ensures uncounted { OnOk result (K.failures (keeper_of self.new) ≡ K.failures (keeper_of self.old)) }
+        ensures idle { is_saved prepared ≡ false → keeper_of self.new ≡ keeper_of self.old }
         ensures failing { K.failing (keeper_of self.old) ≡ true → is_saved prepared ≡ true → IsErr result }
         ensures sound { K.sound (keeper_of self.old) ≡ true → result ≢ Err KeepFailed }
         ensures stays_sound { K.sound (keeper_of self.old) ≡ true → K.sound (keeper_of self.new) ≡ true }
