@@ -21,7 +21,7 @@ use Rattle.sup_answering.specs.BegunNodes.{BeginsNode, IsImageFault, IsNoBegin, 
 use Rattle.sup_answering.specs.declared.begin.BeginFault.{BeginFault}
 use Rattle.sup_answering.specs.declared.begin.BeginFault.TheVariants.{BadImage, OthersImage, Refused, NoMemory}
 
--- a restart's node before it knows what it keeps
+-- what a restart from this image comes to, before its last two checks
 abbrev again : Weigher → Config → Image → ActOutcome State
 again g c image = keeps by_tables g (booted (stopped_by c image).node) (Boot (image.boot + 1)) None
 

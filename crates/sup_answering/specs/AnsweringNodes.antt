@@ -38,7 +38,8 @@ pub record AnsweringNode : Type 0 where
 abbrev pub known : Bytes → KeptStation → List Bytes → ℕ → Bool → AnsweringNode
 known name still peers failures lost = record { name = name; kept_station = still; peers = peers; failures = failures; lost = lost }
 
--- the node of this name with this station, where this is what its keeper keeps, how often that has failed and whether it has lost it
+-- the node of this name with this station and these peers, where this is what its keeper keeps, how often that has failed and whether it
+-- is lost
 abbrev pub node_at : {K W Z : Type 0} {g : _} {h : _} → (K → Bytes) → (K → ℕ) → (K → Bool) → Bytes → Code K W g h → Vec Bytes Z → AnsweringNode
 node_at kept failures lost name station peers = known name (kept_station_of kept station) peers.items (failures (keeper_of station)) (lost (keeper_of station))
 
@@ -62,7 +63,7 @@ members_of at (Some s) = members_text s.node.known.rows
 abbrev pub IsInOrder : List Bytes → List Bytes → Type 0
 IsInOrder names ordered = IsPermutation names ordered × IsSorted text_cmp ordered
 
--- what is told of the node, with each peer that has acknowledged something
+-- what is told of the node, with the peers whose acknowledgements it has heard, by name
 abbrev pub IsInspectedBy : Weigher → AnsweringNode → List ℕ → Type 0
 IsInspectedBy weigher s text = (peers : List Bytes) × IsInOrder s.peers peers × ((said : List ℕ) × IsInspected weigher s.name s.kept_station.node peers said × (text ≡ ended_text said))
 
@@ -86,7 +87,8 @@ AnswersAsked weigher s (Some Members) text t = (t ≡ s) × (text ≡ ended_text
 AnswersAsked weigher s (Some Image) text t = (t ≡ s) × (text ≡ ended_text (ended_text s.kept_station.kept))
 AnswersAsked weigher s (Some (Where sought)) text t = (t ≡ s) × (text ≡ ended_text (where_text weigher s.name (shown_by s.kept_station) sought))
 
--- Memory for the answer was refused: an event may be done, and the image is kept then too; nothing else is done.
+-- Memory was refused, for the answer or to note who acknowledged. The event's step is made, with its save, and its end isn't told; nothing
+-- else is done.
 abbrev pub LacksDone : Weigher → AnsweringNode → Event → ℕ → AnsweringNode → Type 0
 LacksDone weigher s event now t =
     (end : Result Done Refusal) × AnswersAct weigher s.kept_station (Of event) now end t.kept_station

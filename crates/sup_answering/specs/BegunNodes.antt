@@ -32,7 +32,7 @@ abbrev pub BeginsNode : Weigher → Bool → Bytes → Config → Bytes → Kept
 BeginsNode weigher true name config kept after text = OpensStation name config after × (text ≡ told_text (Ok first_done))
 BeginsNode weigher false name config kept after text = (done : Done) × AnswersAct weigher (stopped name config kept) Restart 0 (Ok done) after × (text ≡ told_text (Ok done))
 
--- the same of a station, where this is what its keeper keeps and what the one that it was given kept
+-- the same of a station and of the keeper that it was given, where this is what a keeper keeps
 abbrev pub BeginsStation : {K W : Type 0} {g : _} {h : _} → (K → Bytes) → Weigher → Bool → Bytes → Config → K → Code K W g h → List ℕ → Type 0
 BeginsStation kept weigher is_new name config keeper station text = BeginsNode weigher is_new name config (kept keeper) (kept_station_of kept station) text
 
@@ -41,7 +41,7 @@ abbrev pub IsOthersImage : Bytes → Bytes → Type 0
 IsOthersImage name bytes = (image : Image) × IsImageReadAs bytes (Some image) × (image.node ≢ name)
 
 -- Why a node doesn't begin, by what was kept. One that is new doesn't where its image can't be kept; another where what is kept is no image
--- of it, or its restart is refused for something else.
+-- of it, or its restart is refused for something else. Memory may be refused to either.
 abbrev pub IsNoBegin : Weigher → Bool → Bytes → Config → Bytes → BeginFault → Type 0
 IsNoBegin weigher true name config kept (BadImage fault) = ⊥
 IsNoBegin weigher true name config kept OthersImage = ⊥
@@ -60,7 +60,7 @@ LeavesKept weigher is_new name config kept (Refused refusal) left = left ≡ kep
 LeavesKept weigher is_new name config kept NoMemory left =
     (left ≡ kept) ⊎ ((begun : KeptStation) × (text : List ℕ) × BeginsNode weigher is_new name config kept begun text × (left ≡ begun.kept))
 
--- which fault bytes have as an image; or they are read as one
+-- which fault bytes have as an image; or they are read as one; or memory was refused
 abbrev pub IsImageFault : Bytes → BeginFault → Type 0
 IsImageFault bytes (BadImage fault) = IsFault SaysImage bytes (text_fault fault)
 IsImageFault bytes OthersImage = (image : Image) × IsImageReadAs bytes (Some image)

@@ -28,10 +28,10 @@ pub enum BeginFault {
     /// What is kept is an image of another node.
     #[error("the image of another node")]
     OthersImage,
-    /// The image can't be kept, or has no next boot; or memory was refused.
+    /// The image can't be kept or read, or has no next boot; or memory was refused.
     #[error("the node can't begin")]
     Refused(Refusal),
-    /// Memory was refused to the first answer, or to why an image is none.
+    /// Memory was refused to the first answer, or to find out why what is kept is no image of the node.
     #[error("out of memory")]
     NoMemory,
 }
@@ -60,11 +60,13 @@ pub struct Unbegun<K: ImageKeeper, W: Weigh + Drop> {
     pub station: Station<K, W>,
 }
 
-/// A node of this name: one that was just made, whose image is saved, or its next boot from what the keeper keeps.
+/// A node of this name: if `is_new` one that was just made, whose image is saved, whatever the keeper keeps; or else its next boot
+/// from what the keeper keeps.
 ///
 /// # Errors
 ///
 /// As [`BeginFault`] tells. The keeper keeps what it kept then, unless memory was refused to the first answer of a node that had begun.
+/// Its count of failures has risen where the refusal is `KeepFailed`.
 pub fn begin<K: ImageKeeper, W: Weigh + Drop>(
     alloc: Global,
     name: NodeName,

@@ -32,11 +32,11 @@ pub struct Filter<K: ImageKeeper, W: Weigh + Drop> {
 }
 
 impl<K: ImageKeeper, W: Weigh + Drop> Filter<K, W> {
-    /// Does what is asked for, and gives its answer, which an empty line ends.
+    /// Does what is asked for, and gives its answer, which an empty line ends: `bad line` where nothing is asked for.
     ///
     /// # Errors
     ///
-    /// Where memory for the text was refused. What is asked for may be done then, and nothing else is.
+    /// Where memory was refused, for the text or to note who acknowledged. What is asked for may be done then, and nothing else is.
     pub fn answer_asked(&mut self, asked: Option<Asked>) -> Result<Vec<u8>, AllocError>
         ensures answers { IfOk result (λ text. AnswersAsked W.weight_of (node_at K.kept K.failures K.lost self.old.name self.old.station self.old.peers) asked text.items
             (node_at K.kept K.failures K.lost self.new.name self.new.station self.new.peers)) }

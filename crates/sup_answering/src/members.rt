@@ -1,9 +1,7 @@
 //! The lines of the members alone.
 
 ghost use Rattle.std.specs.Prelude.{◌≡◌, IfOk, string_bytes};
-ghost use Rattle.sup_node.specs.Contents.{station_of};
 ghost use Rattle.sup_node_text.specs.Inspected.{node_at};
-ghost use Rattle.sup_node_text.specs.Shown.{down_text};
 ghost use Rattle.sup_answering.specs.AnsweringNodes.{members_of, members_text};
 
 use std::alloc::{AllocError, Global};

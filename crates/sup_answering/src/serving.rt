@@ -15,7 +15,7 @@ use sup_talk::{Host, LINE_LIMIT, TalkEnd, TalkFault, talk};
 ///
 /// # Errors
 ///
-/// As [`talk`] tells.
+/// As [`talk`] tells. It is `TalkFault::Device`, too, where not all of the first answer could be told, and then no line is heard.
 pub fn serve<K: ImageKeeper, W: Weigh + Drop, H: Host>(
     alloc: Global,
     filter: &mut Filter<K, W>,

@@ -1,5 +1,6 @@
--- What a line asks of the one node that hears it: the lines of scripts, without the node's name (this project's line protocol).
-use Rattle.std.specs.Prelude.{ℕ, Bool, true, false, List, [], ◌∷◌, ◌++◌, ◌==◌, nat_lt, length, codes, Option, Some, None, option_and_then, if◌then◌else◌}
+-- What a line asks of the one node that hears it: the lines of scripts that bring one node an event or a question, without its name, and
+-- two more (this project's line protocol).
+use Rattle.std.specs.Prelude.{ℕ, Bool, true, false, List, ◌∷◌, ◌++◌, ◌==◌, nat_lt, length, codes, Option, Some, None, option_and_then, if◌then◌else◌}
 use Rattle.std.specs.List.{before_first, after_first, position_or_len}
 use Rattle.std.specs.Str.{bytes_eq}
 use Rattle.sup_specs.specs.Values.{Bytes}
@@ -22,7 +23,7 @@ named name said =
     then before_first (λ byte. byte == 32) said ++ (32 ∷ (name ++ (32 ∷ after_first (λ byte. byte == 32) said)))
     else said ++ (32 ∷ name)
 
--- what a step of the node asks of it: an event that is saved
+-- what a step of the node asks of it: an event, if no save is told to fail
 abbrev pub asked_by_act : ℕ → Bool → Act → Option Asked
 asked_by_act now false act = None
 asked_by_act now true (Of event) = Some (Does event now)
@@ -44,7 +45,7 @@ asked_by (line.Image node) = Some Image
 asked_by (line.Where node name) = Some (Where name)
 asked_by (line.Message from k) = None
 
--- deliver TEXT, all that stands behind the space; members; or a script's line that names no node
+-- deliver TEXT, all that stands behind the space; members; or a script's line without its node's name
 abbrev pub asked_in : Bytes → Option (List ℕ) → List ℕ → Option Asked
 asked_in name (Some text) said = Some (Does (Deliver text) 0)
 asked_in name None said = if bytes_eq said (codes "members") then Some Members else option_and_then asked_by (line_of (named name said))

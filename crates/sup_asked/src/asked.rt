@@ -100,7 +100,7 @@ fn asked_by_step(step: Step) -> Option<Asked>
     }
 }
 
-// An event that is saved.
+// An event, if no save is told to fail.
 fn asked_by_act(act: Act, now: u64, saves: bool) -> Option<Asked>
     ensures { result ≡ asked_by_act now saves act }
 {

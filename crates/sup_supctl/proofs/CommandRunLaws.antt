@@ -1,5 +1,5 @@
 -- What the commands that wait for nobody do is what a run does, and so is what a cluster does.
-use Rattle.std.proofs.Common.{◌≡◌, ℕ, List, [], Option, Some, None, Result, Ok, Err, refl, sym, subst, ◌∙◌, arith}
+use Rattle.std.proofs.Common.{◌≡◌, ℕ, List, [], Option, Some, None, Err, refl, sym, subst, ◌∙◌, arith}
 use Rattle.std.specs.Io.KnownBytes.{Consumes, Keeps}
 use Rattle.std.proofs.lemmas.Option.{none-some}
 use Rattle.clap.specs.Words.{Text}
@@ -16,7 +16,7 @@ use Rattle.sup_jobs.specs.Ends.{KnownBytes, TakesAtMost}
 use Rattle.sup_clustering.specs.ClusterRuns.{RunsCluster}
 use Rattle.sup_cluster_texts.specs.declared.fault.ClusterFault.TheVariants.{Job}
 use Rattle.sup_program.specs.PerformedRequests.{PerformsRequest, WantsMemory}
-use Rattle.sup_program.specs.Runs.{EndsWith, RunsWords}
+use Rattle.sup_program.specs.Runs.{RunsWords}
 use Rattle.sup_supctl.specs.Runs.{PerformsAll, RunsAll}
 
 none_taken : (input left : KnownBytes) → Keeps input left → Consumes input left []

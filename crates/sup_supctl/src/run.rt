@@ -18,9 +18,9 @@ use sup_placement::{FlatWeigh, Sha256Weigh};
 use sup_program::run::{Options, Ran, run_plain};
 
 /// Runs the program, and answers its exit status: 0, or 1 where the input is bad, 2 where the words are refused, 3 where the device or
-/// memory ended it, or a history or a link of a cluster, and 4 where a cluster isn't certified. The words are those after the program's
-/// name. Faults of the error writer are passed over. Threads are made only where the words ask for a cluster, and only there may it wait
-/// for one.
+/// memory ended it, or a full history or a closed link of a cluster, and 4 where a cluster isn't certified. The words are those after
+/// the program's name. Faults of the error writer are passed over. In code, though by no clause, threads are made only where the words
+/// ask for a cluster, and only there may it wait for one.
 pub fn run<T: Threads + Wait + Sync, S: AsStr, R: Read, W: Write, E: Write>(
     rt: &T,
     alloc: Global,

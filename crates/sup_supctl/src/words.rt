@@ -14,11 +14,11 @@ use std::thread::Threads;
 use sup_jobs::{Ended, put_all};
 use sup_program::run::{USAGE, want_of_memory};
 
-/// The words after the program's name, in their order.
+/// The words after the program's name, in their order: so it is in code, and no clause says it.
 ///
 /// # Errors
 ///
-/// Where a word is no UTF-8, or memory was refused (`ErrorKind::OutOfMemory`).
+/// Where a word, or the program's name, is no UTF-8 (`ErrorKind::InvalidData`), or memory was refused (`ErrorKind::OutOfMemory`).
 pub fn words_of<R: Env + AllocGlobal>(rt: &R) -> io::Result<Vec<String>> {
     let words = env::args(rt)?.skip(1).collect(rt.alloc())?;
     Ok(words)

@@ -42,7 +42,8 @@ fault_told OthersImage = record { status = 1; line = codes "bad image OtherNode\
 fault_told (Refused refusal) = refusal_told refusal
 fault_told NoMemory = record { status = 3; line = fault_text OutOfMemory }
 
--- of one that did: the host says no more; or the node doesn't know what outlives it, the host is gone, or memory is
+-- of one that did: the host says no more; or the node doesn't know what outlives it, as many lines were answered as are counted, the
+-- host is gone, or memory was refused
 abbrev pub end_told : Result TalkEnd TalkFault → Told
 end_told (Ok HeardOut) = record { status = 0; line = [] }
 end_told (Ok Over) = record { status = 3; line = fault_text Device }
@@ -50,7 +51,7 @@ end_told (Ok Spent) = record { status = 3; line = fault_text Device }
 end_told (Err Broken) = record { status = 3; line = fault_text Device }
 end_told (Err Wanting) = record { status = 3; line = fault_text OutOfMemory }
 
--- the run has this status, and the error writer was told its line
+-- the run has this status, and the error writer has got its line, or where it failed a front of that and not all
 abbrev pub IsToldAs : Told → Option (List ℕ) → Option (List ℕ) → Ended → Type 0
 IsToldAs told before written ended = (ended.status ≡ told.status) × Tells ended.told before written told.line
 
@@ -60,7 +61,7 @@ pub record KeeperSeen : Type 0 where
   pub failures : ℕ  -- how often it has failed
   pub lost : Bool  -- what outlives it may be other bytes
 
--- the keeper, where this is what it keeps, how often it has failed and whether it has lost that
+-- the keeper, where this is what it keeps, how often it has failed and whether it is lost
 abbrev pub seen_of : {K : Type 0} → (K → Bytes) → (K → ℕ) → (K → Bool) → K → KeeperSeen
 seen_of kept failures lost keeper = record { kept = kept keeper; failures = failures keeper; lost = lost keeper }
 

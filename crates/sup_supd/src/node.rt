@@ -20,9 +20,11 @@ use sup_specs::NodeName;
 use sup_station::Station;
 use sup_talk::{Host, LINE_LIMIT, TalkEnd, TalkFault};
 
-/// Runs a node of this name with what its keeper keeps, which is new if nothing is, until its host says no more or a fault ends it. Tells the
-/// error writer why, and answers that with the exit status: 0, or 1 where what is kept is no image for this node, and 3 where the device,
-/// the keeper or memory ended it. The keeper is left as the node had it at its end, and keeps what it kept where the node didn't begin.
+/// Runs a node of this name until its host says no more or a fault ends it: if `is_new` one that was just made, whatever its keeper
+/// keeps, or else its next boot from that. Tells the error writer why, and answers that with the exit status: 0, or 1 where what is kept
+/// is no image for this node, or one without a next boot, and 3 where the device, the keeper or memory ended it, or `u64::MAX` lines
+/// were answered. The keeper is left as the node had it at its end. Where the node didn't begin, it keeps what it kept, or, if memory
+/// was refused to the first answer, what was saved by then.
 pub fn run_node<K: ImageKeeper, H: Host, E: Write>(
     alloc: Global,
     name: NodeName,

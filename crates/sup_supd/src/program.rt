@@ -36,9 +36,9 @@ impl From<io::Error> for Unserved {
     }
 }
 
-/// Runs the node that the program's words set, until its host says no more, and answers the exit status: 0, or 1 where what is kept is no
-/// image for this node, `USAGE` where the words are refused, and 3 where the streams, the file or memory ended it, or another process
-/// serves the image.
+/// Runs the node that the program's words set, until its host says no more, and answers the exit status: 0, or 1 where what is kept is
+/// no image for this node, or one without a next boot, `USAGE` where the words are refused, and 3 where the streams, the file or memory
+/// ended it, or another process serves the image.
 pub fn run(rt: &HostRuntime) -> u8 {
     match serve_words(rt) {
         Ok(status) => status,

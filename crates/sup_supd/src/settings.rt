@@ -20,7 +20,8 @@ pub struct Settings<'a> {
     pub config: Config,
 }
 
-/// What these words set: the node's name, and options in any order. None where they aren't such words.
+/// What these words set: the node's name, and then options in any order, each with its value and at most once, `--image` among them.
+/// None where they aren't such words.
 pub fn read_settings<'a>(words: &[&'a str]) -> Option<Settings<'a>>
     ensures some { IfSome result (λ s. settings_of (texts words.now) ≡ Some (set_of s)) }
     ensures none { IfNone result (settings_of (texts words.now) ≡ None) }

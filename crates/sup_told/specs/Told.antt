@@ -1,4 +1,5 @@
--- What a node tells its host (this project's output format): one line; then what is to be done, each with all that the host needs, and the node's letter with its text; then an empty line.
+-- What a node tells its host (this project's output format). Of an act's end it is one line; then what is to be done, a start with its
+-- specification, and the node's letter with its text; then an empty line.
 use Rattle.std.specs.Prelude.{ℕ, List, [], ◌∷◌, ◌++◌, codes, Option, Some, None, Result, Ok, Err}
 use Rattle.std.specs.List.{flat_map}
 use Rattle.sup_local_sup.specs.declared.effect.Effect.{Effect}

@@ -100,7 +100,7 @@ fn orders_text(alloc: Global, effects: &[Effect]) -> Result<String, AllocError>
     Ok(text)
 }
 
-// What is to be done, with all that it takes.
+// The line of what is to be done, of a start with its specification.
 #[derive(Clone, Copy)]
 struct OrderText<'a>(&'a Effect);
 

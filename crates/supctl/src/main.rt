@@ -1,4 +1,4 @@
-//! The program `supctl`: scripts of a supervisor cluster, run on standard input.
+//! The program `supctl`: scripts over a cluster of supervisor nodes, runs of it by threads, placement, and stored images.
 #![tactic(auto)]
 
 ghost use Rattle.std.specs.Process.{exit_status};
@@ -15,7 +15,7 @@ fn main(rt: HostRuntime) -> ExitCode {
     run_started(&rt, &mut rt.stdin(), &mut rt.stdout(), &mut rt.stderr())
 }
 
-// Runs the program with the words that it was started with, and ends with the run's status.
+// Runs the program with the words that it was started with, or tells why they can't be had, and ends with that status.
 fn run_started<T: Env + AllocGlobal + Threads + Wait + Sync, R: Read, W: Write, E: Write>(
     rt: &T,
     reader: &mut R,
