@@ -1,5 +1,5 @@
 -- The nodes of a script that was read: 2 to 5, and each has a name of its own.
-use Rattle.std.proofs.Common.{◌≡◌, ℕ, ◌≤◌, suc, Bool, true, false, ◌&&◌, not, nat_le, List, [], ◌∷◌, length, Option, Some, None, refl, sym, ap, ◌∙◌, subst, codes, arith}
+use Rattle.std.proofs.Common.{◌≡◌, ℕ, ◌≤◌, suc, true, ◌&&◌, not, nat_le, List, [], ◌∷◌, length, Some, sym, ap, ◌∙◌, subst, codes, arith}
 use Rattle.std.specs.List.{list_any, IsDistinct}
 use Rattle.std.specs.Str.{bytes_eq}
 use Rattle.std.specs.Cmp.Lexicographic.{nat_list_eq_equiv}
@@ -7,7 +7,7 @@ use Rattle.std.proofs.lemmas.Bool.Decides.{nat_tests}
 use Rattle.std.proofs.lemmas.Option.{none-some, same_Some, option_and_then_some}
 use Rattle.std.proofs.lemmas.Map.Keys.{IsDistinct-cons}
 use Rattle.std.proofs.lemmas.Bool.{and_parts, not-true}
-use Rattle.sup_lines.specs.Words.{Word, Name, ◌>>=◌}
+use Rattle.sup_lines.specs.Words.{Word, Name}
 use Rattle.sup_lines.specs.Values.{node_name_of}
 use Rattle.sup_lines.specs.Opening.{are_distinct, distinct_names_of, if_distinct, names_of, nodes_within}
 use Rattle.sup_lines.specs.Script.{is_plain, words_of, opening_within}

@@ -1,17 +1,15 @@
 -- The plan of a script that was read can be run.
-use Rattle.std.proofs.Common.{◌≡◌, ℕ, Bool, true, false, ◌&&◌, All, List, [], ◌∷◌, ◌++◌, map, Option, Some, None, Result, Ok, Err, refl, sym, ap, ap₂, ◌∙◌, subst}
+use Rattle.std.proofs.Common.{◌≡◌, ℕ, true, ◌&&◌, List, [], ◌∷◌, ◌++◌, map, Option, Some, None, Result, Ok, Err, refl, sym, ap, ap₂, subst}
 use Rattle.std.specs.List.{AllPass, IsDistinct, list_any}
-use Rattle.std.specs.Str.{bytes_eq}
 use Rattle.std.specs.Cmp.Lexicographic.{nat_list_eq_equiv}
 use Rattle.std.proofs.lemmas.Option.{none-some, same_Some, option_and_then_some}
 use Rattle.std.proofs.lemmas.List.Elements.{All-nil, All-cons, All-head, All-push, All-tail}
 use Rattle.sup_specs.specs.Values.{Bytes}
 use Rattle.sup_replica.specs.Configs.{Config}
-use Rattle.sup_plan.specs.declared.plan.Command.{Command}
 use Rattle.sup_plan.specs.declared.plan.Plan.{Plan}
 use Rattle.sup_plan.specs.declared.plan.Route.{Route}
 use Rattle.sup_plan.specs.Plans as plans
-use Rattle.sup_plan.specs.Plans.{IsPlan, may_tell, is_same_link}
+use Rattle.sup_plan.specs.Plans.{IsPlan, may_tell}
 use Rattle.sup_lines.specs.Words.{Name, ◌>>=◌}
 use Rattle.sup_lines.specs.Script.{numbered_lines}
 use Rattle.sup_cluster_lines.specs.Nodes.{opening_of}

@@ -7,7 +7,7 @@ ghost use Rattle.sup_drawing.specs.Drawn.{DrawsScript, nothing_noted};
 ghost use Rattle.sup_world.specs.WorldNames.{IsFaultOf};
 
 use crate::play::play_lines;
-use std::alloc::{AllocError, Global};
+use std::alloc::Global;
 use sup_lines::{Line, NumberedLine};
 use sup_picture::{Log, picture_of};
 use sup_placement::Weigh;
@@ -17,11 +17,11 @@ use sup_svg::svg_of;
 use sup_world::{World, WorldFault};
 
 /// The SVG text of the picture of these lines, played from a new world of these nodes, each with this setting. The captions are the
-/// lines' texts.
+/// lines' texts, in the order of the lines; a line behind them has none.
 ///
 /// # Errors
 ///
-/// `BadNames` unless there are 1 to 16 names that differ; `OutOfMemory`.
+/// `BadNames` unless there are 1 to 16 names that differ; `OutOfMemory` where there are, and memory was refused.
 pub fn draw_lines<G: Weigh + Copy + Drop>(
     alloc: Global,
     weigher: &G,

@@ -27,7 +27,7 @@ way_whole reply = way.Learned
 abbrev pub way_done : ℕ → Reply → Way
 way_done drop reply = if drop == 0 then way_whole reply else way.Cut
 
--- what became of a message that was refused where it belongs
+-- what became of a message that was refused, though no node told that it was for another
 abbrev pub way_in_vain : ℕ → Way
 way_in_vain drop = if drop == 0 then way.Refused else way.Cut
 
@@ -60,7 +60,7 @@ came_at row message None way = []
 came_at row message (Some at) None = []
 came_at row message (Some at) (Some way) = Came message at way row ∷ []
 
--- A delivery's message came and was refused. Nothing where there is no such message or node, or where no node is named and it left in a settling.
+-- A delivery's message came and was refused. Nothing where it was refused since there is no such message or node, or where no node is named and it left in no row.
 abbrev pub came_refused : List Post → ℕ → Step → Refusal → List Post
 came_refused posts row (AtNode node act now saves) refusal = []
 came_refused posts row (Deliver from k at drop now saves) refusal = came_at row (message_of from k) (receiver posts (message_of from k) at) (way_refused drop refusal)

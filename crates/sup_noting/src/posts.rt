@@ -1,6 +1,6 @@
 //! What a step tells of messages.
 
-ghost use Rattle.std.specs.Prelude.{◌≡◌, ◌++◌, None, Some, OnOk, option_map};
+ghost use Rattle.std.specs.Prelude.{◌≡◌, ◌++◌, OnOk};
 ghost use Rattle.sup_noting.specs.Messages.{came_done, came_refused, left_by, place_of, receiver, way_done, way_in_vain, way_refused, way_whole};
 
 use std::alloc::AllocError;
@@ -56,8 +56,8 @@ pub fn add_left(
     Ok(())
 }
 
-/// Adds that a delivery's message came and was refused; nothing where there is no such message or node, or where no node is named and it
-/// left in a settling.
+/// Adds that a delivery's message came and was refused; nothing where it was refused since there is no such message or node, or where no
+/// node is named and it left in no row.
 pub fn add_refused(
     posts: &mut Vec<Post>,
     step: &Step,
@@ -185,7 +185,7 @@ fn way_refused(drop: u64, refusal: Refusal) -> Option<Way>
     }
 }
 
-// What became of a message that was refused where it belongs.
+// What became of a message that was refused, though no node told that it was for another.
 fn way_in_vain(drop: u64) -> Way
     ensures { result ≡ way_in_vain drop }
 {

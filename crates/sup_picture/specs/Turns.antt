@@ -73,7 +73,7 @@ gap_at change (Ended run) later = []
 gap_at change Down later = gap_of change later ∷ []
 gap_at change Up later = []
 
--- a gap for each node that stops, to the first later change by which it runs again
+-- a gap for each time that a node stops, to the first later change by which it runs again
 abbrev pub gaps_of : List Change → List Gap
 gaps_of [] = []
 gaps_of (change ∷ later) = gap_at change change.turn later ++ gaps_of later

@@ -1,4 +1,4 @@
-//! The arrows of messages: one for each that came, and one for each that was lost.
+//! The arrows of messages: one for each time that one came, and one for each that was lost.
 
 ghost use Rattle.std.specs.Prelude.{◌≡◌, find, IfOk};
 ghost use Rattle.std.specs.Option.{option_copied};
@@ -23,7 +23,7 @@ pub enum End {
 #[derive(Clone, Copy)]
 pub struct Arrow {
     pub message: Message,
-    /// The row in which it left; none where it left while the nodes settled.
+    /// The row in which it left; none where the log has no such row, as of one that left while the nodes settled.
     pub left: Option<u64>,
     /// Where it came, or the receiver of a lost one.
     pub to: NodeName,
@@ -44,7 +44,7 @@ pub fn arrows_of(alloc: Global, posts: &[Post]) -> Result<Vec<Arrow>, AllocError
         .collect(alloc)
 }
 
-/// The receiver of a message that left.
+/// The receiver of a message, by the first post of the log that tells that it left; none where none does.
 pub fn receiver_of(posts: &[Post], message: &Message) -> Option<NodeName>
     ensures { result ≡ receiver_of posts.now message.now }
 {

@@ -17,7 +17,7 @@ pub struct Bar {
     pub k: u64,
     /// The row in which it began.
     pub began: u64,
-    /// The row in which it ended, or its node did; none where it still runs.
+    /// The row of the first later change that ends it or stops its node; none where there is none.
     pub ended: Option<u64>,
 }
 

@@ -8,7 +8,7 @@ use crate::bars::Bar;
 use std::alloc::{AllocError, Global};
 use sup_specs::{ChildId, Plain};
 
-/// The children that have bars, each once, in the order in which they first begin.
+/// The children that have bars, each once, in the order of their first bars.
 ///
 /// # Errors
 ///

@@ -35,16 +35,16 @@ impl Caption {
     }
 }
 
-/// Where a row's mark stands, and whether it tells of a refusal.
+/// Where a row's mark stands, and, at a node, whether it tells of a refusal.
 #[derive(Clone, Copy)]
 pub enum Mark {
     /// No step is made in this row.
     Nowhere,
-    /// The nodes exchange all that they know.
+    /// The nodes exchange all that they know, or are cut short in that.
     Everywhere,
     /// A node did something.
     Done(NodeName),
-    /// A node refused something.
+    /// A step at this node was refused, or a delivery of a message of it whose receiver isn't known.
     Refused(NodeName),
 }
 

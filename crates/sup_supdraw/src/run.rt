@@ -20,8 +20,8 @@ pub const USAGE: u8 = 2;
 
 /// Runs the program, which takes no words, and answers its exit status: 0, or 1 where the input is bad, `USAGE` where there are words or
 /// they are no text, and 3 where the device or memory ended it, or memory for the words was refused. Members are weighed by SHA-256, and
-/// the nodes have the default settings. Where it is refused for its words nothing is read or written. Faults of the error writer are
-/// passed over.
+/// the nodes have the default settings. Where the words end it, or memory for them, nothing is read or written. A fault, or the usage, is
+/// told to the error writer, whose own faults are passed over.
 pub fn run_with<R: Read, W: Write, E: Write>(
     alloc: Global,
     words: io::Result<Vec<String>>,
@@ -87,7 +87,7 @@ fn draw_plain<R: Read, W: Write, E: Write>(
     )
 }
 
-// Words that are no text are refused as words that there are. Want of memory is told as such.
+// Words that are no text are refused as any words are. Want of memory is told as such.
 fn without_words<E: Write>(error: &io::Error, errors: &mut E) -> Ended
     ensures usage { error_kind error.now ≢ ErrorKind.OutOfMemory
         → TellsUsage (E.contents errors.old) (E.contents errors.new) result }

@@ -120,7 +120,7 @@ lost_x from to = if nat_lt from to then from + 90 else from - 90
 abbrev pub lost_text : Arrow → ℕ → ℕ → List ℕ
 lost_text arrow from to = path_text (codes "lost") from (start_y arrow.left 0) (lost_x from to) (start_y arrow.left 0 + 20) arrow.message
 
--- an arrow from its message's sender to the node where it ends
+-- an arrow from its message's sender to the node where it came or, of a lost one, towards its receiver
 abbrev pub ended_text : Arrow → ℕ → ℕ → End → List ℕ
 ended_text arrow from to (Came row way) = came_text arrow from to row way
 ended_text arrow from to Lost = lost_text arrow from to

@@ -10,7 +10,7 @@ use std::alloc::{AllocError, Global};
 use sup_picture::Bar;
 use sup_specs::{ChildId, NodeName};
 
-/// The bars of the children at these nodes, of which the last ends in this row.
+/// The bars of the children at these nodes; one that doesn't end lasts to this row.
 pub fn bars_text(
     alloc: Global,
     grid: &Grid,

@@ -107,7 +107,7 @@ fn find_child(children: &[ChildId], child: &ChildId) -> Option<usize>
     children.iter().position(|other| *child == *other)
 }
 
-/// The height of a row.
+/// How far below the top a row stands; those behind number 1,000,000 stand where that one does.
 pub fn y_of(row: u64) -> u64
     ensures y { result ≡ y_of row }
     ensures low { 70 ≤ result }

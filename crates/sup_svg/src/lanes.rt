@@ -44,7 +44,7 @@ fn lane_text(
     )
 }
 
-/// The gaps of the nodes, of which the last lasts to this row.
+/// The gaps of the nodes; one that doesn't end lasts to this row.
 pub fn gaps_text(
     alloc: Global,
     grid: &Grid,

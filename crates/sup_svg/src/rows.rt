@@ -98,7 +98,7 @@ fn band_text(
     Ok(text)
 }
 
-// The band of a row, as wide as the picture.
+// The band of a row, from the margin to the right end of a picture of this width.
 fn stripe_text(alloc: Global, width: u64, row: &Row) -> Result<String, AllocError>
     ensures { IfOk result (λ s. string_bytes s ≡ stripe_text width row.now) }
 {
