@@ -1,15 +1,18 @@
 -- A talk of states is one of what a contract sees of them.
 use Rattle.std.proofs.Common.{ℕ, Bool, List, [], ◌∷◌, Result, Ok, Err, ap, inl, inr}
 use Rattle.sup_talk.specs.Hosts.{Seen}
-use Rattle.sup_talk.specs.Talking.{Answers, Turn, Follows, IsCut, EndsSo, TalksFor}
+use Rattle.sup_talk.specs.Talking.{Answers, Lacks, Turn, Follows, IsCut, EndsSo, TalksFor}
 use Rattle.sup_talk.specs.declared.talking.TalkEnd.{TalkEnd}
 use Rattle.sup_talk.specs.declared.talking.TalkEnd.TheVariants.{Ended, Over, Spent}
 use Rattle.sup_talk.specs.declared.talking.TalkFault.{TalkFault}
 use Rattle.sup_talk.specs.declared.talking.TalkFault.TheVariants.{Device, OutOfMemory}
 
-module _ {S K : Type 0} (seen : S → K) (answers : Answers K) (over : K → Bool) (most : ℕ) where
+module _ {S K : Type 0} (seen : S → K) (answers : Answers K) (lacks : Lacks K) (over : K → Bool) (most : ℕ) where
   abbrev by : Answers S
   by a heard text b = answers (seen a) heard text (seen b)
+
+  abbrev without : Lacks S
+  without a heard b = lacks (seen a) heard (seen b)
 
   abbrev ends : S → Bool
   ends a = over (seen a)
@@ -18,19 +21,19 @@ module _ {S K : Type 0} (seen : S → K) (answers : Answers K) (over : K → Boo
   follows s t [] e = ap seen e
   follows s t (turn ∷ turns) h = (h.0, seen h.1, h.2, follows h.1 t turns h.3)
 
-  cut : (s t : S) (a b : Seen) (fault : TalkFault) → IsCut by most s t a b fault → IsCut answers most (seen s) (seen t) a b fault
+  cut : (s t : S) (a b : Seen) (fault : TalkFault) → IsCut by without most s t a b fault → IsCut answers lacks most (seen s) (seen t) a b fault
   cut s t a b Device (inl h) = inl (ap seen h.0, h.1, h.2)
   cut s t a b Device (inr h) = inr h
   cut s t a b OutOfMemory (inl h) = inl (ap seen h.0, h.1)
   cut s t a b OutOfMemory (inr h) = inr h
 
-  ended : (s t : S) (a b : Seen) (count : ℕ) (end : Result TalkEnd TalkFault) → EndsSo by ends most s t a b count end → EndsSo answers over most (seen s) (seen t) a b count end
+  ended : (s t : S) (a b : Seen) (count : ℕ) (end : Result TalkEnd TalkFault) → EndsSo by without ends most s t a b count end → EndsSo answers lacks over most (seen s) (seen t) a b count end
   ended s t a b count (Ok Ended) h = (ap seen h.0, h.1, h.2)
   ended s t a b count (Ok Over) h = (ap seen h.0, h.1, h.2)
   ended s t a b count (Ok Spent) h = (ap seen h.0, h.1, h.2)
   ended s t a b count (Err fault) h = (h.0, cut s t a b fault h.1)
 
-  pub talks-seen : (s t : S) (a b : Seen) (end : Result TalkEnd TalkFault) → TalksFor by ends most s t a b end → TalksFor answers over most (seen s) (seen t) a b end
+  pub talks-seen : (s t : S) (a b : Seen) (end : Result TalkEnd TalkFault) → TalksFor by without ends most s t a b end → TalksFor answers lacks over most (seen s) (seen t) a b end
   talks-seen s t a b end h = (
     h.0,
     seen h.1,
@@ -40,6 +43,6 @@ module _ {S K : Type 0} (seen : S → K) (answers : Answers K) (over : K → Boo
   )
 
 -- the same, with the states first
-pub talks-as : {S K : Type 0} (s t : S) (seen : S → K) (answers : Answers K) (over : K → Bool) (most : ℕ) (a b : Seen) (end : Result TalkEnd TalkFault)
-    → TalksFor {S = S} (λ x heard text y. answers (seen x) heard text (seen y)) (λ x. over (seen x)) most s t a b end → TalksFor {S = K} answers over most (seen s) (seen t) a b end
-talks-as s t seen answers over most a b end h = talks-seen seen answers over most s t a b end h
+pub talks-as : {S K : Type 0} (s t : S) (seen : S → K) (answers : Answers K) (lacks : Lacks K) (over : K → Bool) (most : ℕ) (a b : Seen) (end : Result TalkEnd TalkFault)
+    → TalksFor {S = S} (λ x heard text y. answers (seen x) heard text (seen y)) (λ x heard y. lacks (seen x) heard (seen y)) (λ x. over (seen x)) most s t a b end → TalksFor {S = K} answers lacks over most (seen s) (seen t) a b end
+talks-as s t seen answers lacks over most a b end h = talks-seen seen answers lacks over most s t a b end h

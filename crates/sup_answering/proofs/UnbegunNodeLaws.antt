@@ -1,5 +1,5 @@
 -- Why a node doesn't begin, and what is kept after it.
-use Rattle.std.proofs.Common.{◌≡◌, ◌≢◌, ◌+◌, Bool, true, false, List, ℕ, Option, Some, None, Result, Ok, Err, IfOk, IfErr, ap, sym, subst, inl, inr}
+use Rattle.std.proofs.Common.{◌≡◌, ◌≢◌, ◌<◌, ◌≤◌, ◌+◌, ◌∙◌, Bool, true, false, List, ℕ, Option, Some, None, Result, Ok, Err, IfOk, IfErr, ap, sym, subst, refl, inl, inr}
 use Rattle.sup_specs.specs.Values.{Bytes}
 use Rattle.sup_tables.specs.States.{State}
 use Rattle.sup_placement.specs.Place.{Weigher}
@@ -7,7 +7,8 @@ use Rattle.sup_wire.specs.declared.image.Image.{Image}
 use Rattle.sup_replica.specs.Configs.{Config}
 use Rattle.sup_replica.specs.declared.done.Reply.TheVariants.{Boot}
 use Rattle.sup_replica.specs.declared.refusal.Refusal.{Refusal}
-use Rattle.sup_replica.specs.declared.refusal.Refusal.TheVariants.{BadMessage, CountSpent}
+use Rattle.sup_replica.specs.declared.refusal.Refusal.TheVariants.{BadMessage, CountSpent, KeepFailed}
+use Rattle.sup_replica.specs.declared.event.Act.TheVariants.{Restart}
 use Rattle.sup_replica.specs.Checks.{refused_if, then_do}
 use Rattle.sup_replica.specs.Nodes.{ActOutcome}
 use Rattle.sup_replica.specs.Steps.{passes_greatest}
@@ -16,10 +17,12 @@ use Rattle.sup_replica.specs.ByTables.{by_tables}
 use Rattle.sup_replica.specs.Stations.{StationMove}
 use Rattle.sup_node.specs.NodeSteps.{restart_of, stopped_by}
 use Rattle.sup_node.specs.Texts.{IsImageReadAs}
-use Rattle.sup_station.specs.KeptStations.{KeptStation, IsForeign, IsOthers, RefusesRestart}
-use Rattle.sup_answering.specs.BegunNodes.{BeginsNode, IsImageFault, IsNoBegin, IsOthersImage, LeavesKept}
+use Rattle.sup_station.specs.KeptStations.{KeptStation, IsForeign, IsOthers, RefusesAct, RefusesRestart}
+use Rattle.sup_answering.specs.AnsweringNodes.{RisesWhere}
+use Rattle.sup_answering.specs.BegunNodes.{BeginsNode, IsImageFault, IsNoBegin, IsOthersImage, IsUnkept, LeavesKept, stopped}
 use Rattle.sup_answering.specs.declared.begin.BeginFault.{BeginFault}
 use Rattle.sup_answering.specs.declared.begin.BeginFault.TheVariants.{BadImage, OthersImage, Refused, NoMemory}
+use Rattle.sup_answering.proofs.CountLaws.{rises_where}
 
 -- what a restart from this image comes to, before its last two checks
 abbrev again : Weigher → Config → Image → ActOutcome State
@@ -61,16 +64,24 @@ unrefused bytes OthersImage r is = λ e. cc
 unrefused bytes (Refused refusal) r is = λ e. is
 unrefused bytes NoMemory r is = λ e. cc
 
+-- a refusal is no want of memory for the first answer
+pub unlacking : (fault : BeginFault) (r : Refusal) → fault ≡ Refused r → fault ≢ NoMemory
+unlacking fault r e = λ f. cc
+
 no_refusal : (fault : BeginFault) (r : Refusal) → fault ≡ NoMemory → fault ≢ Refused r
 no_refusal fault r e = λ f. cc
 
+kept_none : (fault : BeginFault) (refusal : Refusal) → (refusal ≢ BadMessage → fault ≡ Refused refusal) → refusal ≡ KeepFailed → IsUnkept fault
+kept_none fault refusal refused e = let other : refusal ≢ BadMessage = λ f. cc in refused other ∙ ap (λ (r : Refusal). Refused r) e
+
 module _ (g : Weigher) (is_new : Bool) (name : Bytes) (config : Config) (kept : Bytes) where
   -- what is kept is the old
-  pub leaves_old : (fault : BeginFault) (left : Bytes) → left ≡ kept → LeavesKept g is_new name config kept fault left
-  leaves_old (BadImage fault) left e = e
-  leaves_old OthersImage left e = e
-  leaves_old (Refused refusal) left e = e
-  leaves_old NoMemory left e = inl e
+  pub leaves_old : (fault : BeginFault) (left : Bytes) → left ≡ kept → (fault ≡ NoMemory → (is_new ≡ false) × RefusesAct g (stopped name config kept) None Restart 0 BadMessage)
+      → LeavesKept g is_new name config kept fault left
+  leaves_old (BadImage fault) left e why = e
+  leaves_old OthersImage left e why = e
+  leaves_old (Refused refusal) left e why = e
+  leaves_old NoMemory left e why = let w = why refl in inl (w.0, w.1, e)
 
   wants_memory : (is : Bool) (fault : BeginFault) → fault ≡ NoMemory → IsNoBegin g is name config kept fault
   wants_memory true fault e = subst (λ (f : BeginFault). IsNoBegin g true name config kept f) (sym e) tt
@@ -98,7 +109,15 @@ module _ (g : Weigher) (is_new : Bool) (name : Bytes) (config : Config) (kept : 
   leaves_begun fault_of station_of shown station text (Err u) begins e same =
       subst (λ (f : BeginFault). LeavesKept g is_new name config kept f (shown (station_of u)).kept) (sym e) (inr (shown station, text, begins, ap (λ s. (shown s).kept) same))
 
--- it is no refusal
-pub unfailed : {B U : Type 0} (P : U → Type 0) (fault_of : U → BeginFault) (r : Refusal) (result : Result B U) → IfErr result (λ u. fault_of u ≡ NoMemory) → IfErr result (λ u. fault_of u ≡ Refused r → P u)
-unfailed P fault_of r (Ok b) e = tt
-unfailed P fault_of r (Err u) e = λ f. absurd (no_refusal (fault_of u) r e f)
+-- nor is it counted
+pub uncounted : {B U S : Type 0} (fault_of : U → BeginFault) (station_of : U → S) (count_of : S → ℕ) (before : ℕ) (station : S) (result : Result B U)
+    → count_of station ≡ before → IfErr result (λ u. fault_of u ≡ NoMemory) → IfErr result (λ u. station_of u ≡ station)
+    → IfErr result (λ u. RisesWhere (IsUnkept (fault_of u)) before (count_of (station_of u)))
+uncounted fault_of station_of count_of before station (Ok b) same e at = tt
+uncounted fault_of station_of count_of before station (Err u) same e at = ((λ f. absurd (no_refusal (fault_of u) KeepFailed e f)), (λ _. ap count_of at ∙ same))
+
+-- a fault that is a refusal, or none that is counted, is counted as that refusal is
+pub counted : (fault : BeginFault) (refusal : Refusal) (before after : ℕ) → ((r : Refusal) → fault ≡ Refused r → r ≡ refusal) → (refusal ≢ BadMessage → fault ≡ Refused refusal)
+    → (refusal ≡ KeepFailed → before < after) → (before < after → refusal ≡ KeepFailed) → before ≤ after → after ≤ before + 1 → RisesWhere (IsUnkept fault) before after
+counted fault refusal before after same refused rose told never_falls by_one =
+    rises_where (IsUnkept fault) before after (λ is. rose (sym (same KeepFailed is))) (λ more. kept_none fault refusal refused (told more)) never_falls by_one

@@ -1,5 +1,5 @@
 -- What a node answers to a line (this project's line protocol).
-use Rattle.std.specs.Prelude.{◌≡◌, ◌≢◌, ◌⊎◌, ℕ, ◌+◌, Bool, List, Option, Some, None, Result, Err}
+use Rattle.std.specs.Prelude.{◌≡◌, ◌⊎◌, ℕ, ◌+◌, Bool, List, Option, Some, None, Result, Err}
 use Rattle.std.specs.declared.vec.Vec.{Vec}
 use Rattle.std.specs.Option.{option_map}
 use Rattle.std.specs.List.{flat_map}
@@ -67,9 +67,13 @@ IsInOrder names ordered = IsPermutation names ordered × IsSorted text_cmp order
 abbrev pub IsInspectedBy : Weigher → AnsweringNode → List ℕ → Type 0
 IsInspectedBy weigher s text = (peers : List Bytes) × IsInOrder s.peers peers × ((said : List ℕ) × IsInspected weigher s.name s.kept_station.node peers said × (text ≡ ended_text said))
 
+-- a count rises, by one, exactly where this holds
+abbrev pub RisesWhere : Type 0 → ℕ → ℕ → Type 0
+RisesWhere P before after = (P → after ≡ before + 1) × (¬ P → after ≡ before)
+
 -- the count of the keeper's failures rises, by one, exactly where the end is that the image could not be kept
 abbrev pub IsCounted : Result Done Refusal → ℕ → ℕ → Type 0
-IsCounted end before after = (end ≡ Err KeepFailed → after ≡ before + 1) × (end ≢ Err KeepFailed → after ≡ before)
+IsCounted end before after = RisesWhere (end ≡ Err KeepFailed) before after
 
 -- An event's end is told, and the image is kept before that: the station's step says so.
 abbrev pub IsDone : Weigher → AnsweringNode → Event → ℕ → List ℕ → AnsweringNode → Type 0
@@ -112,3 +116,7 @@ asked_by name (Some line) = asked_of name line
 -- the answer to a line that was heard, or to one that was too long
 abbrev pub AnswersLine : Weigher → AnsweringNode → Option (List ℕ) → List ℕ → AnsweringNode → Type 0
 AnswersLine weigher s heard text t = AnswersAsked weigher s (asked_by s.name heard) text t
+
+-- Memory was refused at such a line: to what was asked; or to find out what is asked, and nothing is done.
+abbrev pub LacksLine : Weigher → AnsweringNode → Option (List ℕ) → AnsweringNode → Type 0
+LacksLine weigher s heard t = (t ≡ s) ⊎ LacksAsked weigher s (asked_by s.name heard) t

@@ -10,7 +10,7 @@ use Rattle.sup_replica.specs.Configs.{Config}
 use Rattle.sup_replica.specs.declared.event.Act.TheVariants.{Restart}
 use Rattle.sup_replica.specs.declared.done.Done.{Done}
 use Rattle.sup_replica.specs.declared.done.Reply.TheVariants.{Boot}
-use Rattle.sup_replica.specs.declared.refusal.Refusal.TheVariants.{BadMessage}
+use Rattle.sup_replica.specs.declared.refusal.Refusal.TheVariants.{BadMessage, KeepFailed}
 use Rattle.sup_node.specs.Texts.{IsImageReadAs}
 use Rattle.sup_station.specs.declared.station.Station.{Station as Code}
 use Rattle.sup_station.specs.KeptStations.{KeptStation, kept_station_of, AnswersAct, RefusesAct}
@@ -52,13 +52,23 @@ IsNoBegin weigher false name config kept OthersImage = IsOthersImage name kept
 IsNoBegin weigher false name config kept (Refused refusal) = (refusal ≢ BadMessage) × RefusesAct weigher (stopped name config kept) None Restart 0 refusal
 IsNoBegin weigher false name config kept NoMemory = Unit {0}
 
--- What is kept after it: the old; or, where memory was refused to the first answer of a node that had begun, what that kept.
+-- Memory was refused, and this is kept: to find out why what is kept is no image of the node, which leaves that; or to the first answer of
+-- a node that had begun, which leaves what that kept.
+abbrev pub LacksFirst : Weigher → Bool → Bytes → Config → Bytes → Bytes → Type 0
+LacksFirst weigher is_new name config kept left =
+    ((is_new ≡ false) × RefusesAct weigher (stopped name config kept) None Restart 0 BadMessage × (left ≡ kept))
+    ⊎ ((begun : KeptStation) × (text : List ℕ) × BeginsNode weigher is_new name config kept begun text × (left ≡ begun.kept))
+
+-- What is kept after it: the old, but where memory was refused.
 abbrev pub LeavesKept : Weigher → Bool → Bytes → Config → Bytes → BeginFault → Bytes → Type 0
 LeavesKept weigher is_new name config kept (BadImage fault) left = left ≡ kept
 LeavesKept weigher is_new name config kept OthersImage left = left ≡ kept
 LeavesKept weigher is_new name config kept (Refused refusal) left = left ≡ kept
-LeavesKept weigher is_new name config kept NoMemory left =
-    (left ≡ kept) ⊎ ((begun : KeptStation) × (text : List ℕ) × BeginsNode weigher is_new name config kept begun text × (left ≡ begun.kept))
+LeavesKept weigher is_new name config kept NoMemory left = LacksFirst weigher is_new name config kept left
+
+-- the image could not be kept or read
+abbrev pub IsUnkept : BeginFault → Type 0
+IsUnkept fault = fault ≡ Refused KeepFailed
 
 -- which fault bytes have as an image; or they are read as one; or memory was refused
 abbrev pub IsImageFault : Bytes → BeginFault → Type 0

@@ -6,12 +6,12 @@ use Rattle.sup_talk.specs.Talking.{TalksFor}
 use Rattle.sup_talk.specs.declared.talking.TalkEnd.{TalkEnd}
 use Rattle.sup_talk.specs.declared.talking.TalkFault.{TalkFault}
 use Rattle.sup_talk.specs.declared.talking.TalkFault.TheVariants.{Device}
-use Rattle.sup_answering.specs.AnsweringNodes.{AnsweringNode, AnswersLine}
+use Rattle.sup_answering.specs.AnsweringNodes.{AnsweringNode, AnswersLine, LacksLine}
 
--- lines are heard and answered one after another, each by the node's answer, as long as it knows what outlives it
+-- lines are heard and answered one after another, each by the node's answer, as long as it knows what outlives it and has memory
 abbrev pub TalksWith : Weigher → ℕ → AnsweringNode → AnsweringNode → Seen → Seen → Result TalkEnd TalkFault → Type 0
 TalksWith weigher most s t before after end =
-    TalksFor {S = AnsweringNode} (λ a heard text b. AnswersLine weigher a heard text b) (λ k. k.lost) most s t before after end
+    TalksFor {S = AnsweringNode} (λ a heard text b. AnswersLine weigher a heard text b) (λ a heard b. LacksLine weigher a heard b) (λ k. k.lost) most s t before after end
 
 -- The first answer is told, and then the talk goes on; or not all of it could be told, and no line is heard.
 abbrev pub ServesHost : Weigher → ℕ → AnsweringNode → AnsweringNode → List ℕ → Seen → Seen → Result TalkEnd TalkFault → Type 0

@@ -1,9 +1,11 @@
 //! How a node begins.
 
-ghost use Rattle.std.specs.Prelude.{◌≡◌, ◌<◌, [], true, false, Ok, IfOk, IfErr};
+ghost use Rattle.std.specs.Prelude.{◌≡◌, ◌≢◌, [], true, false, Ok, IfOk, IfErr};
+ghost use Rattle.sup_replica.specs.declared.refusal.Refusal.TheVariants.{BadMessage};
 ghost use Rattle.sup_station.specs.KeptStations.{RefusesRestart, keeper_of, kept_station_of};
 ghost use Rattle.sup_told.specs.Told.{told_text};
-ghost use Rattle.sup_answering.specs.BegunNodes.{BeginsStation, IsImageFault, IsNoBegin, LeavesKept};
+ghost use Rattle.sup_answering.specs.AnsweringNodes.{RisesWhere};
+ghost use Rattle.sup_answering.specs.BegunNodes.{BeginsStation, IsImageFault, IsNoBegin, IsUnkept, LeavesKept};
 
 use crate::filter::Filter;
 use std::alloc::{AllocError, Global};
@@ -66,7 +68,7 @@ pub struct Unbegun<K: ImageKeeper, W: Weigh + Drop> {
 /// # Errors
 ///
 /// As [`BeginFault`] tells. The keeper keeps what it kept then, unless memory was refused to the first answer of a node that had begun.
-/// Its count of failures has risen where the refusal is `KeepFailed`.
+/// Its count of failures has risen, by one, where the refusal is `KeepFailed`, and only there.
 pub fn begin<K: ImageKeeper, W: Weigh + Drop>(
     alloc: Global,
     name: NodeName,
@@ -81,7 +83,7 @@ pub fn begin<K: ImageKeeper, W: Weigh + Drop>(
     ensures uncounted { IfOk result (λ b. K.failures (keeper_of b.filter.station) ≡ K.failures keeper) }
     ensures fault { IfErr result (λ u. IsNoBegin W.weight_of is_new name config (K.kept keeper) u.fault) }
     ensures leaves { IfErr result (λ u. LeavesKept W.weight_of is_new name config (K.kept keeper) u.fault (K.kept (keeper_of u.station))) }
-    ensures rose { IfErr result (λ u. u.fault ≡ BeginFault.Refused Refusal.KeepFailed → K.failures keeper < K.failures (keeper_of u.station)) }
+    ensures counted { IfErr result (λ u. RisesWhere (IsUnkept u.fault) (K.failures keeper) (K.failures (keeper_of u.station))) }
 {
     if is_new {
         open(alloc, name, config, keeper, weigher)
@@ -104,7 +106,7 @@ fn open<K: ImageKeeper, W: Weigh + Drop>(
     ensures uncounted { IfOk result (λ b. K.failures (keeper_of b.filter.station) ≡ K.failures keeper) }
     ensures fault { IfErr result (λ u. IsNoBegin W.weight_of true name config (K.kept keeper) u.fault) }
     ensures leaves { IfErr result (λ u. LeavesKept W.weight_of true name config (K.kept keeper) u.fault (K.kept (keeper_of u.station))) }
-    ensures rose { IfErr result (λ u. u.fault ≡ BeginFault.Refused Refusal.KeepFailed → K.failures keeper < K.failures (keeper_of u.station)) }
+    ensures counted { IfErr result (λ u. RisesWhere (IsUnkept u.fault) (K.failures keeper) (K.failures (keeper_of u.station))) }
 {
     let station = match Station::new(alloc, name, config, keeper) {
         Ok(station) => station,
@@ -149,7 +151,7 @@ fn go_on<K: ImageKeeper, W: Weigh + Drop>(
     ensures uncounted { IfOk result (λ b. K.failures (keeper_of b.filter.station) ≡ K.failures keeper) }
     ensures fault { IfErr result (λ u. IsNoBegin W.weight_of false name config (K.kept keeper) u.fault) }
     ensures leaves { IfErr result (λ u. LeavesKept W.weight_of false name config (K.kept keeper) u.fault (K.kept (keeper_of u.station))) }
-    ensures rose { IfErr result (λ u. u.fault ≡ BeginFault.Refused Refusal.KeepFailed → K.failures keeper < K.failures (keeper_of u.station)) }
+    ensures counted { IfErr result (λ u. RisesWhere (IsUnkept u.fault) (K.failures keeper) (K.failures (keeper_of u.station))) }
 {
     let mut station = Station::stopped(alloc, name, config, keeper);
     match station.step(Act::Restart, 0, &weigher) {
@@ -203,6 +205,8 @@ fn restart_fault<K: ImageKeeper, W: Weigh + Drop>(
     requires { RefusesRestart W.weight_of (kept_station_of K.kept station.now) refusal }
     ensures fault { let s = kept_station_of K.kept station.now in IsNoBegin W.weight_of false s.name s.config s.kept result }
     ensures same { (r : Refusal) → result ≡ BeginFault.Refused r → r ≡ refusal }
+    ensures refused { refusal ≢ BadMessage → result ≡ BeginFault.Refused refusal }
+    ensures wants { result ≡ BeginFault.NoMemory → refusal ≡ BadMessage }
 {
     match refusal {
         Refusal::BadMessage => image_fault(alloc, station.keeper().stored()),

@@ -164,11 +164,14 @@ impl<K: ImageKeeper, W: Weigh + Drop> Filter<K, W> {
 
 impl<K: ImageKeeper, W: Weigh + Drop> Answerer for Filter<K, W> {
     ghost use Rattle.sup_station.specs.KeptStations.{keeper_of, kept_station_of};
-    ghost use Rattle.sup_answering.specs.AnsweringNodes.{AnswersLine, known};
+    ghost use Rattle.sup_answering.specs.AnsweringNodes.{AnswersLine, LacksLine, known};
 
     ghost over = { λ f. K.lost (keeper_of f.station) };
 
     ghost answers = { λ s heard text t. AnswersLine W.weight_of (known s.name (kept_station_of K.kept s.station) s.peers.items (K.failures (keeper_of s.station)) (K.lost (keeper_of s.station))) heard text
+        (known t.name (kept_station_of K.kept t.station) t.peers.items (K.failures (keeper_of t.station)) (K.lost (keeper_of t.station))) };
+
+    ghost lacks = { λ s heard t. LacksLine W.weight_of (known s.name (kept_station_of K.kept s.station) s.peers.items (K.failures (keeper_of s.station)) (K.lost (keeper_of s.station))) heard
         (known t.name (kept_station_of K.kept t.station) t.peers.items (K.failures (keeper_of t.station)) (K.lost (keeper_of t.station))) };
 
     fn answer(&mut self, line: Option<&[u8]>) -> Result<Vec<u8>, AllocError> {

@@ -1,5 +1,5 @@
 -- How a node's run ends, and what it leaves.
-use Rattle.std.specs.Prelude.{◌≡◌, ◌<◌, ◌⊎◌, ℕ, Bool, true, false, List, [], ◌++◌, codes, Option, Some, None, Result, Ok, Err}
+use Rattle.std.specs.Prelude.{◌≡◌, ◌⊎◌, ℕ, Bool, true, false, List, [], ◌++◌, codes, Option, Some, None, Result, Ok, Err}
 use Rattle.sup_specs.specs.Values.{Bytes}
 use Rattle.sup_placement.specs.Place.{Weigher}
 use Rattle.sup_jobs.specs.Faults.{image_fault_name, fault_text}
@@ -8,7 +8,7 @@ use Rattle.sup_jobs.specs.declared.fault.Ended.{Ended}
 use Rattle.sup_jobs.specs.Tells.{Tells}
 use Rattle.sup_replica.specs.Configs.{Config}
 use Rattle.sup_replica.specs.declared.refusal.Refusal.{Refusal}
-use Rattle.sup_replica.specs.declared.refusal.Refusal.TheVariants.{CountSpent, KeepFailed, OutOfMemory as NoRoom}
+use Rattle.sup_replica.specs.declared.refusal.Refusal.TheVariants.{CountSpent, OutOfMemory as NoRoom}
 use Rattle.sup_disk.specs.Crashes.{What}
 use Rattle.sup_disk.specs.Copies.{Filed, kept_of}
 use Rattle.sup_station.specs.KeptStations.{keeper_of}
@@ -17,8 +17,8 @@ use Rattle.sup_talk.specs.declared.talking.TalkEnd.{TalkEnd}
 use Rattle.sup_talk.specs.declared.talking.TalkEnd.TheVariants.{Ended as HeardOut, Over, Spent}
 use Rattle.sup_talk.specs.declared.talking.TalkFault.{TalkFault}
 use Rattle.sup_talk.specs.declared.talking.TalkFault.TheVariants.{Device as Broken, OutOfMemory as Wanting}
-use Rattle.sup_answering.specs.AnsweringNodes.{AnsweringNode}
-use Rattle.sup_answering.specs.BegunNodes.{BeginsNode, IsNoBegin, LeavesKept}
+use Rattle.sup_answering.specs.AnsweringNodes.{AnsweringNode, RisesWhere}
+use Rattle.sup_answering.specs.BegunNodes.{BeginsNode, IsNoBegin, IsUnkept, LeavesKept}
 use Rattle.sup_answering.specs.ServedHosts.{ServesHost}
 use Rattle.sup_answering.specs.declared.begin.BeginFault.{BeginFault}
 use Rattle.sup_answering.specs.declared.begin.BeginFault.TheVariants.{BadImage, OthersImage, Refused, NoMemory}
@@ -82,7 +82,7 @@ left_keeper (Flat station) = keeper_of station
 pub record StaysUnbegun (weigher : Weigher) (is_new : Bool) (name : Bytes) (config : Config) (keeper left : KeeperSeen) (fault : BeginFault) : Type 0 where
   pub why : IsNoBegin weigher is_new name config keeper.kept fault
   pub leaves : LeavesKept weigher is_new name config keeper.kept fault left.kept
-  pub rose : fault ≡ Refused KeepFailed → keeper.failures < left.failures
+  pub counted : RisesWhere (IsUnkept fault) keeper.failures left.failures
 
 -- the node began, and served its host until this end; and its keeper is left as it was then
 pub record ServedUntil (weigher : Weigher) (most : ℕ) (is_new : Bool) (name : Bytes) (config : Config) (keeper left : KeeperSeen) (before after : Seen) (end : Result TalkEnd TalkFault) : Type 0 where

@@ -100,6 +100,8 @@ impl Answerer for Echo {
 
     ghost answers = { λ _ _ _ _. Unit {0} };
 
+    ghost lacks = { λ _ _ _. Unit {0} };
+
     fn answer(&mut self, line: Option<&[u8]>) -> Result<Vec<u8>, AllocError> {
         match line {
             Some(line) => {

@@ -5,7 +5,7 @@ use Rattle.std.proofs.KnownBytes.{Consumes-trans, Appends-trans, Consumes-nil, A
 use Rattle.std.proofs.lemmas.Grind.{flat_map-append}
 use Rattle.std.proofs.lemmas.List.Elements.{All-append, All-cons, All-nil}
 use Rattle.sup_talk.specs.Hosts.{Seen, Event, Heard, Told, Passes, Exchanges}
-use Rattle.sup_talk.specs.Talking.{Answers, Turn, Follows, Talks, IsHeard, HearsLine, Replies, Rounds, taken_by, said_by, events_of}
+use Rattle.sup_talk.specs.Talking.{Answers, Lacks, Turn, Follows, Talks, IsHeard, HearsLine, Replies, Rounds, taken_by, said_by, events_of}
 
 pub Passes-trans : (a b c : Option (List Event)) (es fs : List Event) → Passes a b es → Passes b c fs → Passes a c (es ++ fs)
 Passes-trans None b c es fs p q = tt
@@ -67,23 +67,23 @@ one-more : (turns : List Turn) (turn : Turn) → length (turns ++ (turn ∷ []))
 one-more turns turn = length-append turns (turn ∷ [])
 
 -- with one round more that was a turn
-pub Talks-round : {S : Type 0} (answers : Answers S) (over : S → Bool) (most : ℕ) (s t u : S) (a b c : Seen) (count : ℕ) (go : Bool)
+pub Talks-round : {S : Type 0} (answers : Answers S) (lacks : Lacks S) (over : S → Bool) (most : ℕ) (s t u : S) (a b c : Seen) (count : ℕ) (go : Bool)
     → ((turns : List Turn) × Talks answers over most s t a b turns × (length turns ≡ count))
-    → over t ≡ false → go ≡ true → Rounds answers most t u b c (Ok go)
+    → over t ≡ false → go ≡ true → Rounds answers lacks most t u b c (Ok go)
     → ((turns : List Turn) × Talks answers over most s u a c turns × (length turns ≡ count + 1))
-Talks-round answers over most s t u a b c count go before on is round =
-    let turn = subst (λ g. Rounds answers most t u b c (Ok g)) is round in (
+Talks-round answers lacks over most s t u a b c count go before on is round =
+    let turn = subst (λ g. Rounds answers lacks most t u b c (Ok g)) is round in (
       before.0 ++ (turn.0 ∷ []),
       Talks-more answers over most s t u a b c before.0 turn.0 before.1 on turn.1 turn.2 turn.3,
       one-more before.0 turn.0 ∙ ap (λ n. n + 1) before.2,
     )
 
 -- a line that was heard, and its answer that was told, are a turn
-pub turn-of : {S : Type 0} (answers : Answers S) (most : ℕ) (s t : S) (a b c : Seen) (got : Option (Vec ℕ)) (text : Vec ℕ) (said : List ℕ)
-    → Replies answers most s t a b (Ok got) → got ≡ Some text → said ≡ text.items → Exchanges b c [] said (Told said ∷ [])
-    → Rounds answers most s t a c (Ok true)
-turn-of answers most s t a b c got text said replies is same told =
-    let heard = subst (λ g. Replies answers most s t a b (Ok g)) is replies in
+pub turn-of : {S : Type 0} (answers : Answers S) (lacks : Lacks S) (most : ℕ) (s t : S) (a b c : Seen) (got : Option (Vec ℕ)) (text : Vec ℕ) (said : List ℕ)
+    → Replies answers lacks most s t a b (Ok got) → got ≡ Some text → said ≡ text.items → Exchanges b c [] said (Told said ∷ [])
+    → Rounds answers lacks most s t a c (Ok true)
+turn-of answers lacks most s t a b c got text said replies is same told =
+    let heard = subst (λ g. Replies answers lacks most s t a b (Ok g)) is replies in
     let line = heard.1 in (
       record { taken = line.0; heard = heard.0; said = text.items },
       line.1,

@@ -14,6 +14,10 @@ use Rattle.sup_talk.specs.declared.talking.TalkFault.TheVariants.{Device, OutOfM
 abbrev pub Answers : Type 0 → Type 1
 Answers S = S → Option (List ℕ) → List ℕ → S → Type 0
 
+-- where an answerer in the first state is refused memory at such a line, it may be in the second
+abbrev pub Lacks : Type 0 → Type 1
+Lacks S = S → Option (List ℕ) → S → Type 0
+
 -- A line that was taken from the host, what was heard of it, and what was told.
 pub record Turn : Type 0 where
   pub taken : List ℕ
@@ -64,38 +68,38 @@ BreaksAt answers most s t before after =
     ((s ≡ t) × IsUnheard before after × (after.is_broken ≡ true))
     ⊎ ((heard : Option (List ℕ)) × (said : List ℕ) × (mid : Seen) × HearsLine most heard before mid × answers s heard said t × IsToldShort mid after said)
 
--- memory was refused to a line, and the answerer is as it was; or to an answer, and what the line asked for may be done
-abbrev pub LacksAt : {S : Type 0} → ℕ → S → S → Seen → Seen → Type 0
-LacksAt most s t before after = ((s ≡ t) × IsUnheard before after) ⊎ ((heard : Option (List ℕ)) × HearsLine most heard before after)
+-- memory was refused to a line, and the answerer is as it was; or to the answer of a line that was heard
+abbrev pub LacksAt : {S : Type 0} → Lacks S → ℕ → S → S → Seen → Seen → Type 0
+LacksAt lacks most s t before after = ((s ≡ t) × IsUnheard before after) ⊎ ((heard : Option (List ℕ)) × HearsLine most heard before after × lacks s heard t)
 
-abbrev pub IsCut : {S : Type 0} → Answers S → ℕ → S → S → Seen → Seen → TalkFault → Type 0
-IsCut answers most s t before after Device = BreaksAt answers most s t before after
-IsCut answers most s t before after OutOfMemory = LacksAt most s t before after
+abbrev pub IsCut : {S : Type 0} → Answers S → Lacks S → ℕ → S → S → Seen → Seen → TalkFault → Type 0
+IsCut answers lacks most s t before after Device = BreaksAt answers most s t before after
+IsCut answers lacks most s t before after OutOfMemory = LacksAt lacks most s t before after
 
 -- how a line is heard, and its answer found: there was one; the host says no more; or a fault
-abbrev pub Replies : {S : Type 0} → Answers S → ℕ → S → S → Seen → Seen → Result (Option (Vec ℕ)) TalkFault → Type 0
-Replies answers most s t before after (Ok (Some text)) = (heard : Option (List ℕ)) × HearsLine most heard before after × answers s heard text.items t
-Replies answers most s t before after (Ok None) = (s ≡ t) × IsHeardOut before after
-Replies answers most s t before after (Err Device) = (s ≡ t) × IsUnheard before after × (after.is_broken ≡ true)
-Replies answers most s t before after (Err OutOfMemory) = LacksAt most s t before after
+abbrev pub Replies : {S : Type 0} → Answers S → Lacks S → ℕ → S → S → Seen → Seen → Result (Option (Vec ℕ)) TalkFault → Type 0
+Replies answers lacks most s t before after (Ok (Some text)) = (heard : Option (List ℕ)) × HearsLine most heard before after × answers s heard text.items t
+Replies answers lacks most s t before after (Ok None) = (s ≡ t) × IsHeardOut before after
+Replies answers lacks most s t before after (Err Device) = (s ≡ t) × IsUnheard before after × (after.is_broken ≡ true)
+Replies answers lacks most s t before after (Err OutOfMemory) = LacksAt lacks most s t before after
 
 -- How a round ends: with a turn; with the end of what the host says; or with a fault.
-abbrev pub Rounds : {S : Type 0} → Answers S → ℕ → S → S → Seen → Seen → Result Bool TalkFault → Type 0
-Rounds answers most s t before after (Ok true) = (turn : Turn) × IsHeard most turn.taken turn.heard × answers s turn.heard turn.said t × Exchanges before after turn.taken turn.said (Heard turn.heard ∷ Told turn.said ∷ [])
-Rounds answers most s t before after (Ok false) = (s ≡ t) × IsHeardOut before after
-Rounds answers most s t before after (Err fault) = IsCut answers most s t before after fault
+abbrev pub Rounds : {S : Type 0} → Answers S → Lacks S → ℕ → S → S → Seen → Seen → Result Bool TalkFault → Type 0
+Rounds answers lacks most s t before after (Ok true) = (turn : Turn) × IsHeard most turn.taken turn.heard × answers s turn.heard turn.said t × Exchanges before after turn.taken turn.said (Heard turn.heard ∷ Told turn.said ∷ [])
+Rounds answers lacks most s t before after (Ok false) = (s ≡ t) × IsHeardOut before after
+Rounds answers lacks most s t before after (Err fault) = IsCut answers lacks most s t before after fault
 
 -- How a talk ends behind so many turns: the host says no more; or the answerer is over; or there were as many as can be counted; or in
 -- the midst of a turn, by a fault.
-abbrev pub EndsSo : {S : Type 0} → Answers S → (S → Bool) → ℕ → S → S → Seen → Seen → ℕ → Result TalkEnd TalkFault → Type 0
-EndsSo answers over most s t before after count (Ok Ended) = (s ≡ t) × (over s ≡ false) × IsHeardOut before after
-EndsSo answers over most s t before after count (Ok Over) = (s ≡ t) × (over s ≡ true) × (before ≡ after)
-EndsSo answers over most s t before after count (Ok Spent) = (s ≡ t) × (before ≡ after) × (count ≡ 18446744073709551615)
-EndsSo answers over most s t before after count (Err fault) = (over s ≡ false) × IsCut answers most s t before after fault
+abbrev pub EndsSo : {S : Type 0} → Answers S → Lacks S → (S → Bool) → ℕ → S → S → Seen → Seen → ℕ → Result TalkEnd TalkFault → Type 0
+EndsSo answers lacks over most s t before after count (Ok Ended) = (s ≡ t) × (over s ≡ false) × IsHeardOut before after
+EndsSo answers lacks over most s t before after count (Ok Over) = (s ≡ t) × (over s ≡ true) × (before ≡ after)
+EndsSo answers lacks over most s t before after count (Ok Spent) = (s ≡ t) × (before ≡ after) × (count ≡ 18446744073709551615)
+EndsSo answers lacks over most s t before after count (Err fault) = (over s ≡ false) × IsCut answers lacks most s t before after fault
 
 -- How a talk goes: some turns, and then its end.
-abbrev pub TalksFor : {S : Type 0} → Answers S → (S → Bool) → ℕ → S → S → Seen → Seen → Result TalkEnd TalkFault → Type 0
-TalksFor {S} answers over most s t before after end =
+abbrev pub TalksFor : {S : Type 0} → Answers S → Lacks S → (S → Bool) → ℕ → S → S → Seen → Seen → Result TalkEnd TalkFault → Type 0
+TalksFor {S} answers lacks over most s t before after end =
     (turns : List Turn) × (last : S) × (mid : Seen)
     × Talks answers over most s last before mid turns
-    × EndsSo answers over most last t mid after (length turns) end
+    × EndsSo answers lacks over most last t mid after (length turns) end

@@ -1,6 +1,6 @@
 //! A talk: each line of a host is answered before the next is heard.
 
-ghost use Rattle.std.specs.Prelude.{◌≡◌, ℕ, Bool, List, Option, IfOk, option_map};
+ghost use Rattle.std.specs.Prelude.{◌≡◌, ℕ, Bool, List, Option, IfOk, OnErr, option_map};
 ghost use Rattle.sup_talk.specs.Talking.{Replies, Rounds, TalksFor};
 
 use crate::host::Host;
@@ -39,13 +39,17 @@ pub trait Answerer {
     // It was in the first state, heard this line, or that there was one too long, said this text, and is in the second.
     ghost answers: { Self → Option (List ℕ) → List ℕ → Self → Type 0 };
 
+    // It was in the first state, heard this line, or that there was one too long, was refused memory at that, and is in the second.
+    ghost lacks: { Self → Option (List ℕ) → Self → Type 0 };
+
     /// Answers a line, or, where there is none, a line that was too long.
     ///
     /// # Errors
     ///
-    /// Where memory for the text was refused. What the line asks for may be done then.
+    /// Where memory was refused. What the line asks for may be done then, as `lacks` says.
     fn answer(&mut self, line: Option<&[u8]>) -> Result<Vec<u8>, AllocError>
-        ensures { IfOk result (λ text. answers self.old (option_map (λ l. l.now) line.entry) text.items self.new) };
+        ensures answers { IfOk result (λ text. answers self.old (option_map (λ l. l.now) line.entry) text.items self.new) }
+        ensures lacks { OnErr result (lacks self.old (option_map (λ l. l.now) line.entry) self.new) };
 
     /// Whether it has given its last answer.
     fn is_over(&self) -> bool
@@ -58,13 +62,13 @@ pub trait Answerer {
 /// # Errors
 ///
 /// - `TalkFault::Device` where the host can't be heard or told any more.
-/// - `TalkFault::OutOfMemory`. What the last line asks for may be done then, and its answer isn't told.
+/// - `TalkFault::OutOfMemory`. What the last line asks for may be done then, as the answerer's `lacks` says, and its answer isn't told.
 pub fn talk<T: Answerer, H: Host>(
     alloc: Global,
     answerer: &mut T,
     host: &mut H,
 ) -> Result<TalkEnd, TalkFault>
-    ensures { TalksFor T.answers T.over LINE_LIMIT answerer.old answerer.new (H.seen host.old) (H.seen host.new) result }
+    ensures { TalksFor T.answers T.lacks T.over LINE_LIMIT answerer.old answerer.new (H.seen host.old) (H.seen host.new) result }
 {
     let mut lines: u64 = 0;
     while lines < u64::MAX {
@@ -85,7 +89,7 @@ fn talk_once<T: Answerer, H: Host>(
     answerer: &mut T,
     host: &mut H,
 ) -> Result<bool, TalkFault>
-    ensures { Rounds T.answers LINE_LIMIT answerer.old answerer.new (H.seen host.old) (H.seen host.new) result }
+    ensures { Rounds T.answers T.lacks LINE_LIMIT answerer.old answerer.new (H.seen host.old) (H.seen host.new) result }
 {
     let Some(text) = reply(alloc, answerer, host)? else {
         return Ok(false);
@@ -102,7 +106,7 @@ fn reply<T: Answerer, H: Host>(
     answerer: &mut T,
     host: &mut H,
 ) -> Result<Option<Vec<u8>>, TalkFault>
-    ensures { Replies T.answers LINE_LIMIT answerer.old answerer.new (H.seen host.old) (H.seen host.new) result }
+    ensures { Replies T.answers T.lacks LINE_LIMIT answerer.old answerer.new (H.seen host.old) (H.seen host.new) result }
 {
     match host.hear(alloc) {
         Ok(Taken::Line(line)) => match answerer.answer(Some(line.as_slice())) {

@@ -1,9 +1,11 @@
-use Rattle.std.proofs.Common.{◌<◌, ◌∙◌, false, Ok, refl, ap, sym, subst}
+use Rattle.std.proofs.Common.{◌∙◌, false, Ok, refl, ap, sym, subst}
 use Rattle.sup_replica.specs.declared.event.Act.TheVariants.{Restart}
-use Rattle.sup_replica.specs.declared.refusal.Refusal.TheVariants.{KeepFailed}
+use Rattle.sup_replica.specs.declared.refusal.Refusal.{Refusal}
+use Rattle.sup_replica.specs.declared.refusal.Refusal.TheVariants.{BadMessage}
 use Rattle.sup_station.specs.KeptStations.{AnswersAct, KeptStation, RefusesAct, RefusesRestart, keeper_of, kept_station_of}
-use Rattle.sup_answering.specs.BegunNodes.{IsNoBegin}
-use Rattle.sup_answering.proofs.UnbegunNodeLaws.{begins_with, leaves_begun, leaves_old, unanswered, unfailed}
+use Rattle.sup_answering.specs.AnsweringNodes.{RisesWhere}
+use Rattle.sup_answering.specs.BegunNodes.{IsNoBegin, IsUnkept}
+use Rattle.sup_answering.proofs.UnbegunNodeLaws.{begins_with, counted, leaves_begun, leaves_old, unanswered, uncounted}
 use Rattle.sup_answering.proofs.begin.go_on.Goals as goal
 
 pub restart_fault-fault-requires : goal.restart_fault-fault-requires
@@ -21,6 +23,15 @@ pub returns-in-Err-clause-leaves : goal.returns-in-Err-clause-leaves
 returns-in-Err-clause-leaves g c =
     leaves_old g.W.Weigh.weight_of false c.args.name c.args.config (g.K.Keeper.kept c.args.keeper) c.restart_fault-fault.result _
     (ap (λ (s : KeptStation). s.kept) (c.in-Err.ensures.goes.0 ∙ c.stopped-station.ensures.still))
+    (λ e. (refl, subst (λ (s : KeptStation). RefusesAct g.W.Weigh.weight_of s s.node Restart 0 BadMessage) c.stopped-station.ensures.still
+        (subst (λ (r : Refusal). RefusesAct g.W.Weigh.weight_of _ _ Restart 0 r) (c.restart_fault-fault.ensures.wants e) c.in-Err.ensures.goes.1)))
+
+pub returns-in-Err-clause-counted : goal.returns-in-Err-clause-counted
+returns-in-Err-clause-counted g c =
+    let failures = g.K.Keeper.failures in let step = c.in-Err.ensures in
+    subst (λ k. RisesWhere (IsUnkept c.restart_fault-fault.result) (failures k) (failures (keeper_of c.step.new.self))) c.stopped-station.ensures.keeper
+    (counted c.restart_fault-fault.result c.in-Err.refusal _ _ c.restart_fault-fault.ensures.same c.restart_fault-fault.ensures.refused
+    (λ e. step.failed (cc)) (λ more. let f = step.told more in cc) step.never_falls step.by_one)
 
 pub returns-in-Ok-clause-begins : goal.returns-in-Ok-clause-begins
 returns-in-Ok-clause-begins g c =
@@ -38,6 +49,7 @@ returns-in-Ok-clause-leaves g c =
     leaves_begun g.W.Weigh.weight_of false c.args.name c.args.config (g.K.Keeper.kept c.args.keeper) (λ u. u.fault) (λ u. u.station) (λ s. kept_station_of g.K.Keeper.kept s)
     c.step.new.self _ c.begun_with.result (c.in-Ok.done, begins, refl) c.begun_with.ensures.fault c.begun_with.ensures.left
 
-pub returns-in-Ok-clause-rose : goal.returns-in-Ok-clause-rose
-returns-in-Ok-clause-rose g c =
-    unfailed (λ u. g.K.Keeper.failures c.args.keeper < g.K.Keeper.failures (keeper_of u.station)) (λ u. u.fault) KeepFailed c.begun_with.result c.begun_with.ensures.fault
+pub returns-in-Ok-clause-counted : goal.returns-in-Ok-clause-counted
+returns-in-Ok-clause-counted g c =
+    uncounted (λ u. u.fault) (λ u. u.station) (λ x. g.K.Keeper.failures (keeper_of x)) (g.K.Keeper.failures c.args.keeper) c.step.new.self c.begun_with.result
+    (c.in-Ok.ensures.uncounted ∙ ap g.K.Keeper.failures c.stopped-station.ensures.keeper) c.begun_with.ensures.fault c.begun_with.ensures.left

@@ -25,7 +25,7 @@ returns-in-Ok g c =
 pub returns-in-Err : goal.returns-in-Err
 returns-in-Err g c = inl (
   c.in-Err.unbegun.fault,
-  record { why = c.in-Err.ensures.fault; leaves = c.in-Err.ensures.leaves; rose = c.in-Err.ensures.rose },
+  record { why = c.in-Err.ensures.fault; leaves = c.in-Err.ensures.leaves; counted = c.in-Err.ensures.counted },
   refl,
   c.refuse-ended.ensures,
 )

@@ -4,7 +4,7 @@ use Rattle.sup_replica.specs.declared.event.Act.TheVariants.{Event as Of}
 use Rattle.sup_station.specs.KeptStations.{AnswersAct, KeptStation, keeper_of, kept_station_of}
 use Rattle.sup_answering.specs.Heard.{HearsPeers}
 use Rattle.sup_answering.specs.AnsweringNodes.{IsCounted, known}
-use Rattle.sup_answering.proofs.CountLaws.{counted}
+use Rattle.sup_answering.proofs.CountLaws.{rises_where}
 use Rattle.sup_answering.proofs.ToldTextLaws.{done-told, done-untold}
 use Rattle.sup_answering.proofs.filter.Filter.answer_event.Goals as goal
 
@@ -19,7 +19,7 @@ returns-clause-done g c =
     (subst (λ (k : KeptStation). AnswersAct g.W.Weigh.weight_of (kept_station_of kept s.station) (Of c.args.event) c.args.now c.step-end.result k)
     (ap (λ x. kept_station_of kept x) (sym c.hear.ensures.station)) step.goes)
     (subst (λ (n : ℕ). IsCounted c.step-end.result (failures (keeper_of s.station)) n) (ap (λ x. failures (keeper_of x)) (sym c.hear.ensures.station))
-    (counted c.step-end.result _ _ step.rose step.told step.never_falls step.by_one))
+    (rises_where _ _ _ step.rose step.told step.never_falls step.by_one))
     (subst (λ (peers : List Bytes). HearsPeers (Of c.args.event) c.step-end.result peers t.peers.items) step.peers c.in_ok-hear.ensures.hears)
     (c.hear.ensures.name ∙ step.name) c.told_text.ensures
 
@@ -34,7 +34,7 @@ returns-clause-lacks g c =
     (subst (λ (k : KeptStation). AnswersAct g.W.Weigh.weight_of (kept_station_of kept s.station) (Of c.args.event) c.args.now c.step-end.result k)
     (ap (λ x. kept_station_of kept x) (sym c.hear.ensures.station)) step.goes)
     (subst (λ (n : ℕ). IsCounted c.step-end.result (failures (keeper_of s.station)) n) (ap (λ x. failures (keeper_of x)) (sym c.hear.ensures.station))
-    (counted c.step-end.result _ _ step.rose step.told step.never_falls step.by_one))
+    (rises_where _ _ _ step.rose step.told step.never_falls step.by_one))
     (inr (subst (λ (peers : List Bytes). HearsPeers (Of c.args.event) c.step-end.result peers t.peers.items) step.peers c.in_ok-hear.ensures.hears))
     (c.hear.ensures.name ∙ step.name)
 
@@ -49,6 +49,6 @@ returns-in_err-hear-clause-lacks g c =
     (subst (λ (k : KeptStation). AnswersAct g.W.Weigh.weight_of (kept_station_of kept s.station) (Of c.args.event) c.args.now c.step-end.result k)
     (ap (λ x. kept_station_of kept x) (sym c.hear.ensures.station)) step.goes)
     (subst (λ (n : ℕ). IsCounted c.step-end.result (failures (keeper_of s.station)) n) (ap (λ x. failures (keeper_of x)) (sym c.hear.ensures.station))
-    (counted c.step-end.result _ _ step.rose step.told step.never_falls step.by_one))
+    (rises_where _ _ _ step.rose step.told step.never_falls step.by_one))
     (inl (c.in_err-hear.ensures.refused ∙ step.peers))
     (c.hear.ensures.name ∙ step.name)
