@@ -77,7 +77,7 @@ pub(crate) fn drained(rt: &(impl Abort + AllocGlobal), name: &str) -> Vec<Entry>
     closed(rt, at, pass)
 }
 
-/// The history of a node to which bytes come that are no message.
+/// The history of a node to which bytes come that are no message, and which joins then.
 pub(crate) fn disturbed(rt: &(impl Abort + AllocGlobal), name: &str) -> Vec<Entry> {
     let (at, mut pass) = gate(rt, name);
     match at.try_call(&mut pass, comes(rt, b"noise"), 0, &FlatWeigh) {

@@ -47,7 +47,7 @@ const STARTS: u64 = 25;
 
 const PUSHES: u64 = 36;
 
-// What b acknowledges is lost, so that a's history has room for all its commands.
+// Nothing comes to a, so that its history has room for all its commands: a push is not acknowledged, and what b put would be lost.
 fn many_messages(rt: &(impl Abort + AllocGlobal)) -> Plan {
     let lost = [Verdict::Lose; 16];
     let mut plan = linked(rt, plan(rt, &["a", "b"]), "b", "a", &lost);

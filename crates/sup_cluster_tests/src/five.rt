@@ -7,8 +7,8 @@ use sup_placement::FlatWeigh;
 use sup_plan::Plan;
 use sup_replica::Act;
 
-// The node joins and starts a child, stops and comes back, and is drained then. It ships to the next one before each of these and behind
-// them, over a link that loses the first message and doubles the second.
+// The node joins and starts a child, stops and comes back, and is drained then. It ships to the next one behind each of these three, over
+// a link that loses the first message and doubles the second.
 fn with_member(
     rt: &(impl Abort + AllocGlobal),
     plan: Plan,

@@ -8,7 +8,7 @@ use sup_placement::FlatWeigh;
 use sup_plan::Plan;
 use sup_specs::NodeName;
 
-// Whether b's first command was answered, and whether b was told to start a child.
+// Whether b's first command was answered, and whether the runner was told to start a child at b.
 #[derive(Drop)]
 struct Lamps {
     joined: AtomicBool,

@@ -14,9 +14,9 @@ abbrev pub kept_of : What → Bytes
 kept_of None = []
 kept_of (Some bytes) = bytes
 
--- what a contract sees of a keeper over such a disk
+-- what a contract sees of a keeper over a disk
 pub record Filed (D : Type 0) : Type 0 where
   pub disk : D
-  pub copy : What  -- what the file has
+  pub copy : What  -- what is kept: what the file has, unless the keeper is lost
   pub failures : ℕ
   pub lost : Bool  -- the file may have other bytes than the copy

@@ -22,24 +22,41 @@ pub trait Disk: Drop {
     // The file has these bytes, as long as the system runs.
     ghost named: { Self → Bytes → Type 0 };
 
-    /// Writes the file beside.
+    /// Writes the file beside. However it ends, nothing is possible for the file that was not before.
+    ///
+    /// # Errors
+    ///
+    /// Where it could not be written, or memory was refused.
     fn write_beside(&mut self, bytes: &[u8]) -> io::Result<()>
         ensures file { NoMore (may_have self.old) (may_have self.new) }
         ensures written { OnOk result (written self.new bytes.now) };
 
-    /// Flushes the file beside.
+    /// Flushes the file beside. However it ends, nothing is possible for the file that was not before.
+    ///
+    /// # Errors
+    ///
+    /// Where it could not be flushed.
     fn flush_beside(&mut self, bytes: &[u8]) -> io::Result<()>
         requires { written self.old bytes.now }
         ensures file { NoMore (may_have self.old) (may_have self.new) }
         ensures flushed { OnOk result (flushed self.new bytes.now) };
 
-    /// Gives the file beside the file's name.
+    /// Gives the file beside the file's name. However it ends, the file has these bytes where the power goes, or what it could have had
+    /// before.
+    ///
+    /// # Errors
+    ///
+    /// Where it isn't known to be done: it may be, or not.
     fn rename(&mut self, bytes: &[u8]) -> io::Result<()>
         requires { flushed self.old bytes.now }
         ensures file { OrThese (may_have self.old) (may_have self.new) bytes.now }
         ensures named { OnOk result (named self.new bytes.now) };
 
-    /// Flushes the names of the folder.
+    /// Flushes the names of the folder, so that the file has these bytes and nothing else where the power goes.
+    ///
+    /// # Errors
+    ///
+    /// Where they could not be flushed, or memory was refused. Nothing is possible for the file then that was not before.
     fn flush_folder(&mut self, bytes: &[u8]) -> io::Result<()>
         requires { named self.old bytes.now }
         ensures file { NoMore (may_have self.old) (may_have self.new) }
@@ -47,6 +64,10 @@ pub trait Disk: Drop {
 
     /// What the file has, none where it isn't there. It is flushed with the names of the folder, so that it has nothing else where the
     /// power goes, and nothing that it could not have had before.
+    ///
+    /// # Errors
+    ///
+    /// Where the file could not be read or flushed, or memory was refused.
     fn read(&mut self, alloc: Global) -> io::Result<Option<Vec<u8>>>
         ensures file { NoMore (may_have self.old) (may_have self.new) }
         ensures only { IfOk result (λ bytes. OnlyThis (may_have self.new) (copied bytes)) };

@@ -13,7 +13,7 @@ use std::io;
 use std::marker::Model;
 use sup_keeper::{KeepFault, Keeper};
 
-/// A keeper that shows what it keeps, and may come not to know it.
+/// A keeper that shows what it keeps, and tells whether other bytes may outlive it.
 pub trait ImageKeeper: Keeper {
     // What outlives it may be other bytes than those that it keeps.
     ghost lost: { Self → Bool };
@@ -27,11 +27,12 @@ pub trait ImageKeeper: Keeper {
         ensures { result.now ≡ Self.kept self.now };
 }
 
-/// Keeps bytes in a file, and a copy of them. As long as it isn't lost, a loss of power leaves the copy and nothing else.
+/// Keeps bytes in a file, and a copy of them. As long as it isn't lost, a loss of power leaves the copy and nothing else; once it is, each
+/// save is refused.
 #[derive(Drop)]
 pub struct DiskKeeper<D: Disk> {
     disk: D,
-    // What the file has; none where there is no file yet.
+    // What is kept: what the file has, unless the keeper is lost; none where there is no file yet.
     copy: Option<Vec<u8>>,
     failures: u64,
     // The file may have other bytes than the copy.
@@ -53,7 +54,7 @@ impl<D: Disk> DiskKeeper<D> {
     ///
     /// # Errors
     ///
-    /// Where the file can't be read or flushed.
+    /// Where the file can't be read or flushed, or memory is refused.
     pub fn open(alloc: Global, disk: D) -> io::Result<DiskKeeper<D>>
         ensures sound { IfOk result (λ k. k.lost ≡ false) }
         ensures failures { IfOk result (λ k. k.failures ≡ 0) }

@@ -1,4 +1,4 @@
-//! A lock beside a file.
+//! A lock beside a file, of which contracts claim nothing.
 
 use std::alloc::{AllocError, Global};
 use std::fs::{File, TryLockError};

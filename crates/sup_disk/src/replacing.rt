@@ -18,12 +18,14 @@ pub enum ReplaceFault {
     Unsure,
 }
 
-/// Puts these bytes in place of what the file has. A loss of power at any moment leaves the one or the other.
+/// Puts these bytes in place of what the file has. However it ends, a loss of power leaves what it would have left before, or these bytes;
+/// where no fault is told, these alone.
 ///
 /// # Errors
 ///
 /// - `ReplaceFault::Kept` where the new bytes could not be written beside it and flushed.
-/// - `ReplaceFault::Unsure` where they could not be given its name, or the folder could not be flushed.
+/// - `ReplaceFault::Unsure` where they could not be given its name, or the folder could not be flushed. No clause keeps it from being told
+///   in place of `Kept`.
 pub fn replace_on<D: Disk>(disk: &mut D, bytes: &[u8]) -> Result<(), ReplaceFault>
     ensures only { OnOk result (OnlyThese (D.may_have disk.new) bytes.now) }
     ensures kept { result ≡ Err Kept → NoMore (D.may_have disk.old) (D.may_have disk.new) }

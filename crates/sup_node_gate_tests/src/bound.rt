@@ -1,5 +1,5 @@
-//! A gate whose history is full: a vector of the formats. A call that is refused for memory is made once more; it has entered
-//! nothing. `bench/refused_stories.sh` runs it with each growth refused in turn.
+//! A gate whose history is full. A call that is refused for memory is made once more; it has entered nothing.
+//! `bench/refused_stories.sh` runs it with each growth refused in turn.
 ghost use Rattle.std.specs.Prelude.{◌≡◌};
 ghost use Rattle.sup_node_gate.specs.Gates.{IsOf};
 ghost use Rattle.sup_node_gate.specs.InMemory.{failures_by, sound_by};

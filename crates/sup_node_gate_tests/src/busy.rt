@@ -1,4 +1,4 @@
-//! A gate whose turn is held while its keeper waits: a vector of the formats.
+//! A gate whose turn is held while its keeper waits.
 ghost use Rattle.std.specs.Prelude.{◌≡◌};
 ghost use Rattle.sup_node_gate.specs.Gates.{IsOf};
 ghost use Rattle.sup_node_gate.specs.InMemory.{failures_by, sound_by};

@@ -7,7 +7,7 @@ use std::sync::Wait;
 use sup_keeper::MemKeeper;
 use sup_scarce::Scarce;
 
-// Whether a call of the story was refused where the keeper's call `k + 1` lacks memory. The history is the same in any case.
+// Whether the keeper came to its call `k + 1`, which lacks memory. The history is the same in any case.
 fn tells_over_scarcity(rt: &(impl Abort + AllocGlobal + Wait), k: u64) -> bool {
     let keeper = Scarce::new(MemKeeper::new(rt.alloc()), k);
     let (at, pass) = gate(rt, station(rt, "a", keeper));

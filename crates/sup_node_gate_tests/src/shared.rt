@@ -50,7 +50,8 @@ fn works<K: Keeper>(
     pass
 }
 
-// The history, where the acts of each of these names stand in it once and in its order; and it replays from a new station.
+// Expects that the acts of each of these names, and no others, stand in the history once and in their order, and that it replays from a
+// new station.
 fn judges(rt: &(impl Abort + AllocGlobal), history: &[Entry], names: &[&str]) {
     for of in names {
         assert!(rt; in_order(history, of) == Some(CALLS));

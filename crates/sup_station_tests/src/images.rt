@@ -1,5 +1,4 @@
 //! Rows of a station that goes on from an image that is given: of spent counters, of full tables, of another node, or none.
-//! Vectors of the formats, as far as contexts that list their dots allow.
 use crate::many_children::full;
 use crate::stage::{plays, plays_from};
 use sup_replica::Config;

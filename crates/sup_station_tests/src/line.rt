@@ -5,7 +5,7 @@ use sup_local_sup::Incarnation;
 use sup_replica::{Act, Event};
 use sup_specs::ExitReason;
 
-/// A verb, the node where it happens, and up to two words more.
+/// A verb, a node, and up to two words more. The node is the one where it happens, of `deliver` the sender.
 #[derive(Clone, Copy)]
 pub(crate) struct Line<'a> {
     pub(crate) verb: &'a str,
@@ -28,7 +28,7 @@ impl<'a> Line<'a> {
         }
     }
 
-    /// The act of a line that brings no message; none where memory was refused.
+    /// The act of a line that brings no message which a station sent; none where memory was refused.
     pub(crate) fn act(&self, rt: &(impl Abort + AllocGlobal)) -> Option<Act> {
         match self.verb {
             "stop" => Some(Act::Stop),

@@ -9,7 +9,7 @@ use crate::stage::{plays, plays_over_failure};
 use std::process::Abort;
 use sup_replica::Config;
 
-// Of the acts of the first row those save: two starts, an absorbed delivery, a restart.
+// Of the acts of the first row these save: two starts, an absorbed delivery, a restart.
 #[test]
 fn each_save_of_an_interval_after_a_restart_fails_in_turn(rt: HostRuntime) {
     let mut failed = 0usize;
@@ -84,7 +84,7 @@ fn each_later_save_behind_a_failed_one_fails_in_turn(rt: HostRuntime) {
     assert!(rt; failures == 1);
 }
 
-// `bench/refused_stories.sh` runs these two and the rows with each growth refused in turn.
+// `bench/refused_stories.sh` runs these two, and four tests of `rows`, with each growth refused in turn.
 #[test]
 fn an_interval_after_a_restart_is_sent_over_a_refused_growth(rt: HostRuntime) {
     plays(&rt, Config::default(), INTERVAL, INTERVAL_TOLD);

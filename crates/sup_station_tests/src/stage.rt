@@ -1,5 +1,5 @@
 //! Two stations, a and b, with what they sent: the lines of a row, played one after another. Where memory is refused a call
-//! is made once more. The calls promise nothing, and end the test where one of a station's fails.
+//! is made once more. A test ends where memory is refused twice, or what is told isn't what is wanted.
 use crate::given::{called, message, name};
 use crate::line::Line;
 use crate::told::{answered, line_of, put};
@@ -17,7 +17,7 @@ pub(crate) struct Stage {
     sent_by_a: Vec<Letter>,
     sent_by_b: Vec<Letter>,
     told: String,
-    // The saves of which act are told to fail, from 1, and how many acts there were.
+    // Which act's save is told to fail, from 1, or 0 for none; and how many acts there were.
     failing: usize,
     acts: usize,
     // How many acts were refused since their save failed, and made once more.
@@ -44,7 +44,7 @@ pub(crate) fn plays_over_failure(
     stage.failed
 }
 
-/// The same where one of the two stations is stopped and its keeper has this image.
+/// As `plays` by the default settings, where one of the two stations is stopped and its keeper has this image.
 pub(crate) fn plays_from(
     rt: &(impl Abort + AllocGlobal),
     of: &str,

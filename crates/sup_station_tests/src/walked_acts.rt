@@ -45,7 +45,7 @@ fn of_mail(
     }
 }
 
-// What becomes of members, this node and two others.
+// What becomes of members, this node and the other one.
 fn of_members(rt: &(impl Abort + AllocGlobal), to: &str, number: u64) -> Option<Event> {
     match number % 8 {
         0 => Some(Event::Leave(name(rt, to))),

@@ -4,7 +4,7 @@ use std::process::Abort;
 use sup_disk::{DiskKeeper, FileLock, ImageKeeper, LockFault, MemDisk, Next, SystemDisk};
 use sup_keeper::{KeepFault, Keeper};
 
-// A keeper that keeps `one`, over a disk whose next save goes so.
+// A keeper that keeps `one`, over a disk whose saves go so.
 fn keeping_one(rt: &(impl Abort + AllocGlobal), next: Next) -> DiskKeeper<MemDisk> {
     let alloc = rt.alloc();
     let disk = MemDisk {
@@ -18,7 +18,7 @@ fn keeping_one(rt: &(impl Abort + AllocGlobal), next: Next) -> DiskKeeper<MemDis
     DiskKeeper::open(alloc, disk).expect(rt, "it opens")
 }
 
-// What a loss of power leaves, of names that were flushed or outran their flush.
+// What a loss of power leaves: what the disk has, or, where names outran their flush, what the running system has.
 fn left_by(rt: &(impl Abort + AllocGlobal), disk: &MemDisk, is_ahead: bool) -> Vec<u8> {
     let left = if is_ahead { &disk.shown } else { &disk.safe };
     match left {

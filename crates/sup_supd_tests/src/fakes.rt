@@ -1,5 +1,5 @@
-//! A reader that is interrupted at every other question, an answerer that says what it heard, a
-//! writer that takes so much and no more, and a host that writes down what happens.
+//! A reader that is interrupted at every other question, one of long lines, a writer that takes so
+//! much and no more, and an answerer that says what it heard.
 
 use std::alloc::{AllocError, Global};
 use std::io::{self, ErrorKind, Read, Write};
@@ -88,7 +88,8 @@ impl Write for Full {
     }
 }
 
-/// Says each line's length, or the line itself, and a mark. It is over behind the line `end`.
+/// Says the line, `much` for one of 100 bytes or more, `long` for one that was too long, and a mark
+/// behind it. It is over behind the line `end`.
 #[derive(Drop)]
 pub struct Echo {
     pub alloc: Global,

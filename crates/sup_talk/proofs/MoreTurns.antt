@@ -5,7 +5,7 @@ use Rattle.std.proofs.KnownBytes.{Consumes-trans, Appends-trans, Consumes-nil, A
 use Rattle.std.proofs.lemmas.Grind.{flat_map-append}
 use Rattle.std.proofs.lemmas.List.Elements.{All-append, All-cons, All-nil}
 use Rattle.sup_talk.specs.Hosts.{Seen, Event, Heard, Told, Passes, Exchanges}
-use Rattle.sup_talk.specs.Talking.{Answers, Lacks, Turn, Follows, Talks, IsHeard, HearsLine, Replies, Rounds, taken_by, said_by, events_of}
+use Rattle.sup_talk.specs.Talking.{Answers, Lacks, Turn, Follows, Talks, IsHeard, Replies, Rounds, taken_by, said_by, events_of}
 
 pub Passes-trans : (a b c : Option (List Event)) (es fs : List Event) → Passes a b es → Passes b c fs → Passes a c (es ++ fs)
 Passes-trans None b c es fs p q = tt

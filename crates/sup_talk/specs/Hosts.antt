@@ -7,17 +7,17 @@ use Rattle.sup_talk.specs.declared.line.Taken.TheVariants.{Line, TooLong, End}
 use Rattle.sup_talk.specs.declared.line.LineFault.{LineFault}
 use Rattle.sup_talk.specs.declared.line.LineFault.TheVariants.{Device, OutOfMemory}
 
--- what happens between a node and its host
+-- what happens between an answerer and its host
 pub data Event : Type 0 where
   Heard : Option (List ℕ) → Event  -- a line of the host, or that there was one too long
-  Told : List ℕ → Event  -- a text for the host
+  Told : List ℕ → Event  -- what the host was told: a text, or a front of one
 
 -- What is known of a host.
 pub record Seen : Type 0 where
   pub unread : Option (List ℕ)  -- what it says and was not heard yet
   pub written : Option (List ℕ)  -- what it was told
   pub past : Option (List Event)  -- what it was heard to say and was told, one after the other
-  pub is_broken : Bool  -- it can't be heard any more, or can't be told
+  pub is_broken : Bool  -- it can't be heard any more, or was told less than all of a text
 
 -- a known past goes on with these events
 abbrev pub Passes : Option (List Event) → Option (List Event) → List Event → Type 0

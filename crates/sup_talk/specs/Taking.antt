@@ -14,7 +14,7 @@ TakesByte (Ok (Some byte)) before after = Consumes before after (byte ∷ [])
 TakesByte (Ok None) before after = Keeps before after × IsAtEnd after
 TakesByte (Err fault) before after = Keeps before after
 
--- What was taken is a line with its line feed, of so many bytes at most; or a longer one; or all that was left, which has no line feed.
+-- What was taken is a line of so many bytes at most, and its line feed; or a longer one; or all that was left, which has no line feed.
 -- A fault took a front of a line.
 abbrev pub TakesLine : {E : Type 0} → ℕ → Result Taken E → Option (List ℕ) → Option (List ℕ) → Type 0
 TakesLine most (Ok (Line line)) before after = (length line.items ≤ most) × IsUnbroken line.items × Consumes before after (line.items ++ (10 ∷ []))

@@ -1,5 +1,5 @@
 -- A talk: lines are heard, and each is answered before the next is heard (this project).
-use Rattle.std.specs.Prelude.{◌≡◌, ◌≤◌, ◌<◌, ◌⊎◌, ℕ, List, [], ◌∷◌, ◌++◌, length, take, All, Option, None, Some, Result, Ok, Err, Bool, true, false}
+use Rattle.std.specs.Prelude.{◌≡◌, ◌≤◌, ◌<◌, ◌⊎◌, ℕ, List, [], ◌∷◌, ◌++◌, length, All, Option, None, Some, Result, Ok, Err, Bool, true, false}
 use Rattle.std.specs.Global.{Vec}
 use Rattle.std.specs.List.{flat_map}
 use Rattle.std.specs.Io.KnownBytes.{IsAtEnd}
@@ -40,11 +40,11 @@ taken_by turns = flat_map (λ turn. turn.taken) turns
 abbrev pub said_by : List Turn → List ℕ
 said_by turns = flat_map (λ turn. turn.said) turns
 
--- each line is heard, then told its answer, and then the next is heard
+-- each line is heard, then its answer is told, and then the next is heard
 abbrev pub events_of : List Turn → List Event
 events_of turns = flat_map (λ turn. Heard turn.heard ∷ Told turn.said ∷ []) turns
 
--- The lines of these turns were heard, and each was told its answer before the next was heard.
+-- The lines of these turns were heard, and the answer to each was told before the next was heard.
 pub record Talks {S : Type 0} (answers : Answers S) (over : S → Bool) (most : ℕ) (s t : S) (before after : Seen) (turns : List Turn) : Type 0 where
   pub follows : Follows answers over s turns t
   pub heard : All (λ turn. IsHeard most turn.taken turn.heard) turns

@@ -6,8 +6,8 @@ use crate::line::{LINE_LIMIT, LineFault, Taken};
 use std::alloc::Global;
 use sup_jobs::DeviceFault;
 
-/// Says lines, and is told answers. A contract sees what it has left to say, what it was told, and in which order that was, as far as an
-/// implementation tells it.
+/// Says lines, and is told answers. A contract sees what it has left to say, what it was told, and in which order it was heard and told, as
+/// far as an implementation tells it; and whether it is broken.
 pub trait Host {
     // What is known of it.
     ghost seen: { Self → Seen };

@@ -56,13 +56,15 @@ pub trait Answerer {
         ensures { result ≡ over self.now };
 }
 
-/// Answers each line of the host before the next is heard, until the host says no more or the answerer is over. A line that no line feed
-/// ended is none.
+/// Answers each line of the host before the next is heard, until the host says no more, the answerer is over, or `u64::MAX` lines were
+/// answered. A line that no line feed ended is none.
 ///
 /// # Errors
 ///
-/// - `TalkFault::Device` where the host can't be heard or told any more.
-/// - `TalkFault::OutOfMemory`. What the last line asks for may be done then, as the answerer's `lacks` says, and its answer isn't told.
+/// - `TalkFault::Device` where the host can't be heard or told any more. A front of a line may be gone then, or the last line is answered
+///   and the host was told a front of that answer, and not all.
+/// - `TalkFault::OutOfMemory`. A front of a line may be gone then, or what the last line asks for may be done, as the answerer's `lacks`
+///   says, and its answer isn't told.
 pub fn talk<T: Answerer, H: Host>(
     alloc: Global,
     answerer: &mut T,

@@ -55,7 +55,7 @@ MakesRounds weigher left_name right_name zero left right left' right' = (left' �
 MakesRounds weigher left_name right_name (suc n) left right left' right' = (before_left : KeptStation) × (before_right : KeptStation) × MakesRounds weigher left_name right_name n left right before_left before_right
     × MakesRound weigher left_name right_name before_left before_right left' right'
 
--- such rounds, until neither has anything to ship, or as many as there may be
+-- such rounds: fewer than there may be where it is told that neither has anything to ship, else as many
 pub record MakesExchange (weigher : Weigher) (left_name right_name : Bytes) (times : ℕ) (all : Bool) (left right left' right' : KeptStation) : Type 0 where
   pub rounds : ℕ
   pub made : MakesRounds weigher left_name right_name rounds left right left' right'

@@ -12,7 +12,7 @@ use sup_replica::{Act, Config, Refusal};
 use sup_specs::NodeName;
 use sup_station::Station;
 
-/// Keeps the last image in memory, and the one before it.
+/// Keeps the last image in memory, and the one before it, of which no clause speaks.
 #[derive(Drop)]
 pub struct TwoImages {
     pub last: Vec<u8>,
@@ -53,7 +53,7 @@ impl Keeper for TwoImages {
 ///
 /// # Errors
 ///
-/// As the first act that is refused.
+/// As the first act that is refused, or `OutOfMemory` where there is none for the station or for a copy of an act; `KeepFailed` never.
 pub fn keep<W: Weigh>(
     alloc: Global,
     name: NodeName,

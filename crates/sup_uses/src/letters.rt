@@ -9,12 +9,12 @@ use sup_replica::{Act, Event, Letter, Refusal};
 use sup_specs::NodeName;
 use sup_station::Station;
 
-/// Brings letters from either station to the other, until neither has anything that the other hasn't acknowledged, but no more than
-/// so many times. Whether it came to that.
+/// Brings letters from either station to the other, until a round finds that neither has anything that the other hasn't acknowledged, but
+/// by no more than so many rounds. Whether it came to such a round.
 ///
 /// # Errors
 ///
-/// As the first act that is refused.
+/// As the first act that is refused, but for a ship that has nothing to bring. A part may be done then.
 pub fn exchange<K: Keeper, W: Weigh>(
     left: &mut Station<K, W>,
     left_name: NodeName,

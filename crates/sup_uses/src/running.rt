@@ -14,7 +14,7 @@ use sup_plan::{Histories, Plan};
 use sup_posts::RunFault;
 use sup_specs::NodeName;
 
-/// Counts the children that nodes start, in place of starting them.
+/// Counts the starts that it is told, in place of making them. No clause speaks of the count.
 #[derive(Drop)]
 pub struct Starts {
     pub count: AtomicU64,
@@ -31,7 +31,7 @@ impl Runner for Starts {
     }
 }
 
-/// What happened at each node of a plan, and how many children were started.
+/// Runs a plan: what happened at each of its nodes, and how many starts the runner was told, of which no clause speaks.
 ///
 /// # Errors
 ///

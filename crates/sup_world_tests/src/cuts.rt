@@ -35,7 +35,7 @@ fn refusal(
     made(rt, world, &step).err()
 }
 
-// Of this message, which is there.
+// Expects that this message, which is there, is none without its last bytes, one to all.
 fn expect_no_cut(rt: &impl Abort, world: &mut World<FlatWeigh>, from: &str, k: u64) {
     let count = world.message(&name(rt, from), k).map(|bytes| bytes.len());
     let all = count.unwrap_or(0);

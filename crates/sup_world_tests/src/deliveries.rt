@@ -1,4 +1,4 @@
-//! Deliveries: which message comes, how much of it, and to whom.
+//! Deliveries of a message without its last bytes, however many they are said to be.
 use crate::given::name;
 use crate::made::made;
 use crate::stage::world_after;

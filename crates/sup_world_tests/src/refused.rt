@@ -1,5 +1,6 @@
-//! Stories that go on where a growth is refused: what is refused says so and changes nothing, and made once more it does
-//! what it should have done. `bench/refused_stories.sh` runs them with each growth refused in turn.
+//! Stories that go on where a growth is refused: what is refused says so and changes nothing, but that the first steps of a
+//! settling stand, and made once more it does what it should have done. `bench/refused_stories.sh` runs them with each growth
+//! refused in turn.
 use crate::given::{name, names, step, steps, world};
 use crate::made::{made, ran};
 use crate::runs::{MIXED, MIXED_TOLD};
@@ -120,7 +121,7 @@ fn unsettled(rt: &(impl Abort + AllocGlobal), names: &[NodeName]) -> World<FlatW
     world
 }
 
-// What settling tells. Where memory was refused the steps before stand, and it is begun anew.
+// Expects what settling tells. Where memory was refused the steps before stand, and it is begun anew.
 fn sure_settling(rt: &(impl Abort + AllocGlobal), world: &mut World<FlatWeigh>) {
     match world.settle() {
         Err(refusal) => {

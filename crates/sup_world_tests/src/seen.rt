@@ -9,7 +9,7 @@ use sup_specs::NodeName;
 use sup_test_texts::shown;
 use sup_world::World;
 
-/// What these nodes show and keep, what they hold for others, and each message that they sent.
+/// What these nodes show and keep, what they hold for others, and the first 19 messages that each of them sent.
 pub(crate) fn seen(
     rt: &(impl Abort + AllocGlobal),
     world: &World<FlatWeigh>,

@@ -1,4 +1,4 @@
-//! A world that plays the lines of a script, one after another. Where memory is refused a call is made once more.
+//! A world that plays the lines of a script, one after another. Where memory is refused a call is made once more, but for a settling.
 use crate::given::{script, world_of};
 use crate::made::made;
 use crate::told::{answered, put, settled};

@@ -1,4 +1,4 @@
-use Rattle.std.proofs.Common.{[], ◌∷◌, ◌++◌, arith, inl, inr, refl}
+use Rattle.std.proofs.Common.{[], ◌∷◌, ◌++◌, arith, inl, inr}
 use Rattle.std.proofs.lemmas.Grind.{common_steps}
 use Rattle.sup_talk.proofs.Longer.{unbroken-more, consumes-more, front-more}
 use Rattle.sup_talk.proofs.line.take_line.Goals as goal

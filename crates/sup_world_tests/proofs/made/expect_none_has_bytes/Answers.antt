@@ -1,5 +1,5 @@
 use Rattle.std.specs.Prelude.{◌≡◌, false, All}
-use Rattle.std.proofs.Common.{subst, rules}
+use Rattle.std.proofs.Common.{subst}
 use Rattle.std.proofs.lemmas.List.{take_all}
 use Rattle.std.proofs.lemmas.List.Elements.{All-more}
 use Rattle.sup_model.specs.declared.step.Step.{Step}
