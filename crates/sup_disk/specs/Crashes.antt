@@ -21,3 +21,7 @@ OnlyThese after bytes = (what : What) → after what → what ≡ Some bytes
 -- nothing but this is possible
 abbrev pub OnlyThis : (What → Type 0) → What → Type 0
 OnlyThis after this = (what : What) → after what → what ≡ this
+
+-- these bytes were beside the file at some disk, and flushed
+abbrev pub WereFlushed : {D : Type 0} → (D → Bytes → Type 0) → Bytes → Type 0
+WereFlushed {D} flushed bytes = (disk : D) × flushed disk bytes

@@ -1,9 +1,9 @@
 //! A keeper over a disk.
 
-ghost use Rattle.std.specs.Prelude.{◌≡◌, ◌≢◌, ◌↔◌, ◌+◌, Bool, true, false, Some, None, Err, IfOk, OnOk, OnErr, IsErr, IsTrue};
+ghost use Rattle.std.specs.Prelude.{◌≡◌, ◌≢◌, ◌⊎◌, ◌↔◌, ◌+◌, Bool, true, false, Some, None, Err, IfOk, OnOk, OnErr, IsErr, IsTrue};
 ghost use Rattle.std.proofs.Props.{props};
 ghost use Rattle.sup_keeper.specs.declared.keeper.KeepFault.TheVariants.{Failed};
-ghost use Rattle.sup_disk.specs.Crashes.{NoMore, OrThese, OnlyThis};
+ghost use Rattle.sup_disk.specs.Crashes.{NoMore, OrThese, OnlyThis, WereFlushed};
 ghost use Rattle.sup_disk.specs.Copies.{copied};
 
 use crate::disk::Disk;
@@ -127,6 +127,8 @@ impl<D: Disk> Keeper for DiskKeeper<D> {
         ensures failed { result ≡ Err Failed → self.new.failures ≡ self.old.failures + 1 }
         ensures uncounted { result ≢ Err Failed → self.new.failures ≡ self.old.failures }
         ensures lost { self.old.lost ≡ true → IsErr result }
+        // It is lost only where the bytes were flushed beside the file, and may be in its place.
+        ensures loses { self.new.lost ≡ true → (self.old.lost ≡ true) ⊎ WereFlushed D.flushed bytes.now }
         // A loss of power leaves what it would have left, or these bytes.
         ensures either { OrThese (D.may_have self.old.disk) (D.may_have self.new.disk) bytes.now }
     {
@@ -157,7 +159,11 @@ impl<D: Disk> Keeper for DiskKeeper<D> {
         }
     }
 
-    fn load(&mut self) -> Result<Vec<u8>, KeepFault> {
+    fn load(&mut self) -> Result<Vec<u8>, KeepFault>
+        ensures gives { IfOk result (λ bytes. bytes.items ≡ kept_of self.old.copy) }
+        ensures same { self.new ≡ self.old }
+        ensures refused { result ≢ Err Failed }
+    {
         let copy = match &self.copy {
             Some(bytes) => bytes.to_vec(self.alloc)?,
             None => Vec::new(self.alloc),

@@ -1,8 +1,8 @@
 //! A file is replaced.
 
 ghost use Rattle.std.specs.Prelude.{◌≡◌, OnOk};
-ghost use Rattle.sup_disk.specs.declared.replacing.ReplaceFault.TheVariants.{Kept};
-ghost use Rattle.sup_disk.specs.Crashes.{NoMore, OrThese, OnlyThese};
+ghost use Rattle.sup_disk.specs.declared.replacing.ReplaceFault.TheVariants.{Kept, Unsure};
+ghost use Rattle.sup_disk.specs.Crashes.{NoMore, OrThese, OnlyThese, WereFlushed};
 
 use crate::disk::Disk;
 use thiserror::Error;
@@ -24,11 +24,11 @@ pub enum ReplaceFault {
 /// # Errors
 ///
 /// - `ReplaceFault::Kept` where the new bytes could not be written beside it and flushed.
-/// - `ReplaceFault::Unsure` where they could not be given its name, or the folder could not be flushed. No clause keeps it from being told
-///   in place of `Kept`.
+/// - `ReplaceFault::Unsure` where they were, but could not be given its name, or the folder could not be flushed.
 pub fn replace_on<D: Disk>(disk: &mut D, bytes: &[u8]) -> Result<(), ReplaceFault>
     ensures only { OnOk result (OnlyThese (D.may_have disk.new) bytes.now) }
     ensures kept { result ≡ Err Kept → NoMore (D.may_have disk.old) (D.may_have disk.new) }
+    ensures unsure { result ≡ Err Unsure → WereFlushed D.flushed bytes.now }
     ensures either { OrThese (D.may_have disk.old) (D.may_have disk.new) bytes.now }
 {
     if disk.write_beside(bytes).is_err() {

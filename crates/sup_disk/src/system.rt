@@ -84,7 +84,11 @@ impl<R: Files + Drop> Disk for SystemDisk<R> {
     fn read(&mut self, alloc: Global) -> io::Result<Option<Vec<u8>>> {
         let mut file = match File::open(&self.rt, self.path.as_str()) {
             Ok(file) => file,
-            Err(error) if error.kind() == ErrorKind::NotFound => return Ok(None),
+            Err(error) if error.kind() == ErrorKind::NotFound => {
+                // A removal that was not flushed could come undone.
+                self.flush_names()?;
+                return Ok(None);
+            }
             Err(error) => return Err(error),
         };
         file.sync_all()?;
