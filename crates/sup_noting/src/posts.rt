@@ -56,15 +56,16 @@ pub fn add_left(
     Ok(())
 }
 
-/// Adds that a delivery's message came and was refused; nothing where it was refused since there is no such message or node, or where no
+/// Adds that a delivery's message came and was refused, by the posts that are known; nothing where it was refused since there is no such message or node, or where no
 /// node is named and it left in no row.
 pub fn add_refused(
+    known: &[Post],
     posts: &mut Vec<Post>,
     step: &Step,
     refusal: Refusal,
     row: u64,
 ) -> Result<(), AllocError>
-    ensures { OnOk result (posts.new.items ≡ posts.old.items ++ came_refused posts.old.items row step.now refusal) }
+    ensures { OnOk result (posts.new.items ≡ posts.old.items ++ came_refused known.now row step.now refusal) }
 {
     if let Step::Deliver {
         from,
@@ -81,7 +82,7 @@ pub fn add_refused(
         let Some(way) = way_refused(*drop, refusal) else {
             return Ok(());
         };
-        if let Some(at) = receiver(posts.as_slice(), &message, at) {
+        if let Some(at) = receiver(known, &message, at) {
             posts.push(Post::Came {
                 message,
                 at,

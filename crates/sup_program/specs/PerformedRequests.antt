@@ -13,7 +13,7 @@ use Rattle.sup_placing.specs.Placing.{Places}
 use Rattle.sup_inspecting.specs.InspectedImages.{InspectsImage}
 use Rattle.sup_program.specs.SimulatedScripts.{SimulatesScript}
 
--- Memory was refused before anything was read or written, and that was told.
+-- Memory was refused: the status and the error writer say so.
 abbrev pub WantsMemory : KnownBytes → KnownBytes → Ended → Type 0
 WantsMemory errors_before errors_written ended =
     (ended.status ≡ status_of OutOfMemory) × Tells ended.told errors_before errors_written (fault_text OutOfMemory)

@@ -1,2 +1,1 @@
 mod CommandRunLaws
-mod WordlessRunLaws

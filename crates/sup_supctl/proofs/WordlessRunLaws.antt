@@ -1,1 +1,0 @@
--- Runs whose words can't be had.
