@@ -17,7 +17,7 @@ fn is_bad<R: Threads + Wait + Sync + AllocGlobal>(rt: &R, plan: &Plan) -> bool {
 }
 
 #[test]
-fn too_few_or_too_many_nodes(rt: HostRuntime) {
+fn a_plan_has_two_to_five_nodes(rt: HostRuntime) {
     assert!(rt; is_bad(&rt, &plan(&rt, &[])));
     assert!(rt; is_bad(&rt, &plan(&rt, &["a"])));
     assert!(rt; is_bad(&rt, &plan(&rt, &["a", "b", "c", "d", "e", "f"])));
@@ -25,12 +25,12 @@ fn too_few_or_too_many_nodes(rt: HostRuntime) {
 }
 
 #[test]
-fn equal_names(rt: HostRuntime) {
+fn a_plan_names_no_node_twice(rt: HostRuntime) {
     assert!(rt; is_bad(&rt, &plan(&rt, &["a", "b", "a"])));
 }
 
 #[test]
-fn commands_that_no_node_is_told(rt: HostRuntime) {
+fn a_plan_tells_its_own_nodes_and_brings_no_bytes(rt: HostRuntime) {
     let two = || plan(&rt, &["a", "b"]);
     assert!(rt; is_bad(&rt, &told(&rt, two(), "c", join(&rt))));
     assert!(rt; is_bad(&rt, &told(&rt, two(), "a", deliver(&rt))));
@@ -39,7 +39,7 @@ fn commands_that_no_node_is_told(rt: HostRuntime) {
 }
 
 #[test]
-fn scripts_of_no_link(rt: HostRuntime) {
+fn a_script_is_of_a_link_between_two_of_the_nodes_and_has_no_second(rt: HostRuntime) {
     let two = || plan(&rt, &["a", "b"]);
     assert!(rt; is_bad(&rt, &linked(&rt, two(), "a", "a", &[Verdict::Lose])));
     assert!(rt; is_bad(&rt, &linked(&rt, two(), "c", "a", &[Verdict::Lose])));

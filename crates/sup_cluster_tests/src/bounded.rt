@@ -35,8 +35,18 @@ fn a_history_may_have_as_many_entries_as_its_bound(rt: HostRuntime) {
 #[test]
 fn a_bad_plan_is_refused_whatever_the_bound(rt: HostRuntime) {
     let plan = plan(&rt, &["a"]);
-    let ended = run_bounded(&rt, rt.alloc(), &plan, 1, &Quiet, &Quiet, &FlatWeigh);
-    assert!(rt; matches!(ended, Err(RunFault::BadPlan)));
+    let least = run_bounded(&rt, rt.alloc(), &plan, 1, &Quiet, &Quiet, &FlatWeigh);
+    assert!(rt; matches!(least, Err(RunFault::BadPlan)));
+    let most = run_bounded(
+        &rt,
+        rt.alloc(),
+        &plan,
+        1_000_000,
+        &Quiet,
+        &Quiet,
+        &FlatWeigh,
+    );
+    assert!(rt; matches!(most, Err(RunFault::BadPlan)));
 }
 
 // B's history has room for its own commands and fifteen deliveries. Behind the one that finds it full twenty messages more come from a: more

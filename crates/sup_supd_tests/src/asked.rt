@@ -11,7 +11,7 @@ fn asked(rt: &(impl Abort + AllocGlobal), line: &[u8]) -> Option<Asked> {
 }
 
 #[test]
-fn a_line_of_a_script_asks_without_its_node(rt: HostRuntime) {
+fn each_line_asks_for_what_its_verb_says(rt: HostRuntime) {
     assert!(rt; matches!(asked(&rt, b"show"), Some(Asked::Show)));
     assert!(rt; matches!(asked(&rt, b"inspect"), Some(Asked::Inspect)));
     assert!(rt; matches!(asked(&rt, b"image"), Some(Asked::Image)));

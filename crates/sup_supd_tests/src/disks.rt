@@ -58,7 +58,7 @@ fn a_save_that_failed_before_the_rename_keeps_the_old_bytes(rt: HostRuntime) {
 }
 
 #[test]
-fn a_save_that_failed_behind_it_loses_the_keeper_and_leaves_the_old_or_the_new_bytes(
+fn a_save_that_failed_at_the_rename_or_later_loses_the_keeper_and_leaves_the_old_or_the_new_bytes(
     rt: HostRuntime,
 ) {
     for next in [Next::RenameFails, Next::RenameIsUntold, Next::FolderFails] {

@@ -50,9 +50,7 @@ fn a_reader_that_fails_ends_the_talk_behind_the_last_answer(rt: HostRuntime) {
 }
 
 #[test]
-fn a_writer_that_fails_has_got_a_front_of_the_answer_and_no_line_is_heard_behind_it(
-    rt: HostRuntime,
-) {
+fn a_writer_that_fails_has_got_a_front_of_the_answer_and_is_told_nothing_more(rt: HostRuntime) {
     let bytes = b"one\ntwo\nthree\n".to_vec(rt.alloc()).expect(&rt, "room");
     let (text, end) = talked(&rt, bytes, false, 6);
     assert_eq!(rt; text.as_slice(), b"one!tw".as_slice());

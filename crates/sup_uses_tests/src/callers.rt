@@ -38,10 +38,13 @@ fn two_stations_that_exchange_letters_come_to_know_all(rt: HostRuntime) {
     let known = exchange(&mut left, a, &mut right, b, 8, &FlatWeigh);
     assert!(rt; matches!(known, Ok(true)));
     let web = child(&rt, "web");
-    let Some(node) = left.node() else {
-        panic!(rt; "the node is stopped")
-    };
-    assert!(rt; node.tables().child(&web).is_some());
+    for station in [&left, &right] {
+        let Some(node) = station.node() else {
+            panic!(rt; "the node is stopped")
+        };
+        assert!(rt; node.tables().child(&web).is_some());
+        assert!(rt; node.tables().member(&a).is_some());
+    }
 }
 
 #[test]

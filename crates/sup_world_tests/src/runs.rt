@@ -57,7 +57,7 @@ fn expect_same(rt: &(impl Abort + AllocGlobal), lines: &str, wanted: &str) {
 }
 
 #[test]
-fn a_repeated_delivery_is_one_run(rt: HostRuntime) {
+fn repeated_deliveries_run_as_single_steps_do(rt: HostRuntime) {
     expect_same(&rt, REPEATED, REPEATED_TOLD);
 }
 
