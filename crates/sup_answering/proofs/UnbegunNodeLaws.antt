@@ -57,6 +57,11 @@ bad_image g name config kept NoMemory foreign is = tt
 pub no_begin : (g : Weigher) (s : KeptStation) (bytes : Bytes) (fault : BeginFault) → RefusesRestart g s BadMessage → bytes ≡ s.kept → IsImageFault bytes fault → IsNoBegin g false s.name s.config s.kept fault
 no_begin g s bytes fault refuses same is = bad_image g s.name s.config s.kept fault (foreign_kept g s refuses) (subst (λ (b : Bytes). IsImageFault b fault) same is)
 
+-- a restart that is refused as a bad message, of a station as it was given
+pub refused_bad : (g : Weigher) (s given : KeptStation) (refusal : Refusal) → s ≡ given → RefusesAct g s s.node Restart 0 refusal → refusal ≡ BadMessage → RefusesAct g given given.node Restart 0 BadMessage
+refused_bad g s given refusal same refuses is =
+    subst (λ (r : Refusal). RefusesAct g given given.node Restart 0 r) is (subst (λ (k : KeptStation). RefusesAct g k k.node Restart 0 refusal) same refuses)
+
 -- a fault of an image is no refusal
 pub unrefused : (bytes : Bytes) (fault : BeginFault) (r : Refusal) → IsImageFault bytes fault → fault ≢ Refused r
 unrefused bytes (BadImage fault) r is = λ e. cc

@@ -1,11 +1,9 @@
 use Rattle.std.proofs.Common.{◌∙◌, false, Ok, refl, ap, sym, subst}
 use Rattle.sup_replica.specs.declared.event.Act.TheVariants.{Restart}
-use Rattle.sup_replica.specs.declared.refusal.Refusal.{Refusal}
-use Rattle.sup_replica.specs.declared.refusal.Refusal.TheVariants.{BadMessage}
 use Rattle.sup_station.specs.KeptStations.{AnswersAct, KeptStation, RefusesAct, RefusesRestart, keeper_of, kept_station_of}
 use Rattle.sup_answering.specs.AnsweringNodes.{RisesWhere}
 use Rattle.sup_answering.specs.BegunNodes.{IsNoBegin, IsUnkept}
-use Rattle.sup_answering.proofs.UnbegunNodeLaws.{begins_with, counted, leaves_begun, leaves_old, unanswered, uncounted}
+use Rattle.sup_answering.proofs.UnbegunNodeLaws.{begins_with, counted, leaves_begun, leaves_old, refused_bad, unanswered, uncounted}
 use Rattle.sup_answering.proofs.begin.go_on.Goals as goal
 
 pub restart_fault-fault-requires : goal.restart_fault-fault-requires
@@ -23,8 +21,7 @@ pub returns-in-Err-clause-leaves : goal.returns-in-Err-clause-leaves
 returns-in-Err-clause-leaves g c =
     leaves_old g.W.Weigh.weight_of false c.args.name c.args.config (g.K.Keeper.kept c.args.keeper) c.restart_fault-fault.result _
     (ap (λ (s : KeptStation). s.kept) (c.in-Err.ensures.goes.0 ∙ c.stopped-station.ensures.still))
-    (λ e. (refl, subst (λ (s : KeptStation). RefusesAct g.W.Weigh.weight_of s s.node Restart 0 BadMessage) c.stopped-station.ensures.still
-        (subst (λ (r : Refusal). RefusesAct g.W.Weigh.weight_of _ _ Restart 0 r) (c.restart_fault-fault.ensures.wants e) c.in-Err.ensures.goes.1)))
+    (λ e. (refl, refused_bad g.W.Weigh.weight_of _ _ c.in-Err.refusal c.stopped-station.ensures.still c.in-Err.ensures.goes.1 (c.restart_fault-fault.ensures.wants e)))
 
 pub returns-in-Err-clause-counted : goal.returns-in-Err-clause-counted
 returns-in-Err-clause-counted g c =
