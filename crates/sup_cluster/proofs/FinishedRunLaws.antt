@@ -15,6 +15,7 @@ use Rattle.sup_local_sup.specs.declared.effect.Effect.{Effect}
 use Rattle.sup_replica.specs.Configs.{Config}
 use Rattle.sup_station.specs.OpenedStations.{OpensStation, kept_by}
 use Rattle.sup_node_gate.specs.Gates.{opening_of, view_of}
+use Rattle.sup_node_gate.specs.Histories.{AllSaved}
 use Rattle.sup_node_gate.specs.Shares.{IsWhole}
 use Rattle.sup_node_gate.specs.Shuffles.{IsShuffleOf}
 use Rattle.sup_node_gate.specs.Views.{calls_of}
@@ -242,6 +243,10 @@ module _ {W : Type 0} {h : WeighGhosts W} (did : Bytes → Effect → Bool → T
             let p = zip_right (IsHistoryOf g) posts all i x f.histories e in
             let n = zip_right (IsSharedNodeOf plan.config bound) plan.nodes.items posts i p.0 ps p.1 in
             (opening_of kept_by failures_by sound_by p.0.gate, subst (λ name. OpensStation name plan.config (opening_of kept_by failures_by sound_by p.0.gate).kept_station) (sym (p.2.named ∙ n.2.named)) n.2.opens, p.2.replays));
+        saved = all_at (λ (k : History). AllSaved k.entries.items) all (λ i x e.
+            let p = zip_right (IsHistoryOf g) posts all i x f.histories e in
+            let n = zip_right (IsSharedNodeOf plan.config bound) plan.nodes.items posts i p.0 ps p.1 in
+            p.2.saves n.2.sound);
         drove = all_at (RanCommands plan all) all (drove_at g plan posts drives f.driven all ds given f.histories f.own f.others);
         made = rounds_at g plan posts drives f.driven all ds given f.histories f.own at_places whole f.made;
       }

@@ -7,7 +7,7 @@ use Rattle.sup_local_sup.specs.declared.effect.Effect.{Effect}
 use Rattle.sup_replica.specs.Configs.{Config}
 use Rattle.sup_station.specs.OpenedStations.{OpensStation}
 use Rattle.sup_node_gate.specs.declared.entry.Entry.{Entry}
-use Rattle.sup_node_gate.specs.Histories.{CountedStation, IsHistory, IsPrefix}
+use Rattle.sup_node_gate.specs.Histories.{AllSaved, CountedStation, IsHistory, IsPrefix}
 use Rattle.sup_node_gate.specs.Shuffles.{IsShuffleOf}
 use Rattle.sup_links.specs.Image.{image}
 use Rattle.sup_plan.specs.Calls.{call_of, asked, letters_to, deliveries}
@@ -58,11 +58,13 @@ pub record IsMadeOfRounds (did : Effect → Bool → Type 0) (plan : Plan) (othe
   pub came : AllZip (CameFrom did plan h) others received
   pub whole : IsShuffleOf (in_a_row own) (map in_a_row received) h.entries.items
 
--- the histories are of the plan's nodes in their order, and each is of a station that was just made and driven by the plan, and by nothing else; of each
--- node the runner did and answered what `did` says: it was told the effects of all answers, and just those children didn't start of which it said so
+-- the histories are of the plan's nodes in their order, and each is of a station that was just made and driven by the plan, and by nothing else, and no
+-- save failed; of each node the runner did and answered what `did` says: it was told the effects of all answers, and just those children didn't start of
+-- which it said so
 pub record IsRunOf (g : Weigher) (did : Bytes → Effect → Bool → Type 0) (plan : Plan) (all : List History) : Type 0 where
   pub nodes : map (λ h. h.node) all ≡ plan.nodes.items
   pub ran : All (HasRun g plan.config) all
+  pub saved : All (λ h. AllSaved h.entries.items) all
   pub drove : All (RanCommands plan all) all
   pub made : (before : List History) (h : History) (after : List History) → all ≡ before ++ h ∷ after → IsMadeOfRounds (did h.node) plan (before ++ after) h
 

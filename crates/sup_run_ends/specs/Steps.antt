@@ -6,9 +6,9 @@ use Rattle.sup_placement.specs.Place.{Weigher}
 use Rattle.sup_placement.specs.declared.weigh.Weigh.{Ghosts as WeighGhosts}
 use Rattle.sup_replica.specs.Configs.{Config}
 use Rattle.sup_station.specs.OpenedStations.{OpensStation, kept_by}
-use Rattle.sup_node_gate.specs.Gates.{IsOf, bound_of, view_of, opening_of}
+use Rattle.sup_node_gate.specs.Gates.{IsOf, OpensSound, bound_of, view_of, opening_of}
 use Rattle.sup_node_gate.specs.InMemory.{failures_by, sound_by}
-use Rattle.sup_node_gate.specs.Histories.{IsHistory, IsPrefix}
+use Rattle.sup_node_gate.specs.Histories.{AllSaved, IsHistory, IsPrefix}
 use Rattle.sup_links.specs.Ends.{script_of, room_of}
 use Rattle.sup_plan.specs.Parts.{commands_of, script_between}
 use Rattle.sup_plan.specs.declared.histories.History.{History}
@@ -59,10 +59,11 @@ module _ {W : Type 0} {h : WeighGhosts W} where
     pub of : All (λ d. (d.0 ≡ to) × IsSeatOf post d.1 × IsFresh d.1) cut
     pub ends : map (λ d. d.0) cut ≡ others_of at (to ∷ [])
 
-  -- a node's post before the run, whose history may have so many entries at most
+  -- a node's post before the run, whose history may have so many entries at most, and whose keeper is sound
   pub record IsSharedNodeOf (config : Config) (most : ℕ) (name : Bytes) (post : SharedNode W h) : Type 0 where
     pub named : post.name ≡ name
     pub opens : OpensStation name config (opening_of kept_by failures_by sound_by post.gate).kept_station
+    pub sound : OpensSound sound_by post.gate
     pub bound : bound_of post.gate ≡ most
 
   -- the link leads to the node at this place, by the plan's script
@@ -110,10 +111,11 @@ module _ {W : Type 0} {h : WeighGhosts W} where
     pub stands : slice_get all a.to ≡ Some history
     pub begins : BeginsWithSeen a.seat history
 
-  -- the history of a post's node, which has room for it
+  -- the history of a post's node, which has room for it; over a sound keeper no save failed
   pub record IsHistoryOf (g : Weigher) (post : SharedNode W h) (history : History) : Type 0 where
     pub named : history.node ≡ post.name
     pub replays : IsHistory g (opening_of kept_by failures_by sound_by post.gate) history.entries.items
+    pub saves : OpensSound sound_by post.gate → AllSaved history.entries.items
     pub within : length history.entries.items ≤ bound_of post.gate
 
   -- the second pass has seen what the first has
