@@ -17,7 +17,7 @@ use Rattle.sup_replica.specs.ByTables.{by_tables}
 use Rattle.sup_replica.specs.Stations.{StationMove}
 use Rattle.sup_node.specs.NodeSteps.{restart_of, stopped_by}
 use Rattle.sup_node.specs.Texts.{IsImageReadAs}
-use Rattle.sup_station.specs.KeptStations.{KeptStation, IsForeign, IsOthers, RefusesAct, RefusesRestart}
+use Rattle.sup_station.specs.KeptStations.{KeptStation, FailsToSave, IsForeign, IsOthers, RefusesAct, RefusesRestart}
 use Rattle.sup_answering.specs.AnsweringNodes.{RisesWhere}
 use Rattle.sup_answering.specs.BegunNodes.{BeginsNode, IsImageFault, IsNoBegin, IsOthersImage, IsUnkept, LeavesKept, stopped}
 use Rattle.sup_answering.specs.declared.begin.BeginFault.{BeginFault}
@@ -61,6 +61,10 @@ no_begin g s bytes fault refuses same is = bad_image g s.name s.config s.kept fa
 pub refused_bad : (g : Weigher) (s given : KeptStation) (refusal : Refusal) → s ≡ given → RefusesAct g s s.node Restart 0 refusal → refusal ≡ BadMessage → RefusesAct g given given.node Restart 0 BadMessage
 refused_bad g s given refusal same refuses is =
     subst (λ (r : Refusal). RefusesAct g given given.node Restart 0 r) is (subst (λ (k : KeptStation). RefusesAct g k k.node Restart 0 refusal) same refuses)
+
+-- a restart whose save fails, of a station as it was given
+pub fails_given : (g : Weigher) (s given : KeptStation) → s ≡ given → FailsToSave g s s.node Restart 0 → FailsToSave g given given.node Restart 0
+fails_given g s given same fails = subst (λ (k : KeptStation). FailsToSave g k k.node Restart 0) same fails
 
 -- a fault of an image is no refusal
 pub unrefused : (bytes : Bytes) (fault : BeginFault) (r : Refusal) → IsImageFault bytes fault → fault ≢ Refused r
@@ -126,3 +130,18 @@ pub counted : (fault : BeginFault) (refusal : Refusal) (before after : ℕ) → 
     → (refusal ≡ KeepFailed → before < after) → (before < after → refusal ≡ KeepFailed) → before ≤ after → after ≤ before + 1 → RisesWhere (IsUnkept fault) before after
 counted fault refusal before after same refused rose told never_falls by_one =
     rises_where (IsUnkept fault) before after (λ is. rose (sym (same KeepFailed is))) (λ more. kept_none fault refusal refused (told more)) never_falls by_one
+
+-- and its station is asked for nothing
+pub unstopped : {B U : Type 0} (P : U → Type 0) (fault_of : U → BeginFault) (result : Result B U) → IfErr result (λ u. fault_of u ≡ NoMemory) → IfErr result (λ u. fault_of u ≢ NoMemory → P u)
+unstopped P fault_of (Ok b) e = tt
+unstopped P fault_of (Err u) e = λ other. absurd (other e)
+
+-- nor does it come to a save
+pub unsaved : {B U : Type 0} (P R : Type 0) (fault_of : U → BeginFault) (result : Result B U) → IfErr result (λ u. fault_of u ≡ NoMemory) → IfErr result (λ u. R → IsUnkept (fault_of u) → P)
+unsaved P R fault_of (Ok b) e = tt
+unsaved P R fault_of (Err u) e = λ r f. absurd (no_refusal (fault_of u) KeepFailed e f)
+
+-- what holds of a fault holds where more is asked
+pub asked_first : {B U : Type 0} (P : U → Type 0) (Q : Type 0) (result : Result B U) → IfErr result P → IfErr result (λ u. Q → P u)
+asked_first P Q (Ok b) e = tt
+asked_first P Q (Err u) e = λ _. e

@@ -13,7 +13,7 @@ use Rattle.sup_replica.specs.declared.done.Reply.TheVariants.{Boot}
 use Rattle.sup_replica.specs.declared.refusal.Refusal.TheVariants.{BadMessage, KeepFailed}
 use Rattle.sup_node.specs.Texts.{IsImageReadAs}
 use Rattle.sup_station.specs.declared.station.Station.{Station as Code}
-use Rattle.sup_station.specs.KeptStations.{KeptStation, kept_station_of, AnswersAct, RefusesAct}
+use Rattle.sup_station.specs.KeptStations.{KeptStation, kept_station_of, AnswersAct, FailsToSave, RefusesAct}
 use Rattle.sup_station.specs.OpenedStations.{OpensStation, IsKeepRefusal}
 use Rattle.sup_told.specs.Told.{told_text}
 use Rattle.sup_answering.specs.declared.begin.BeginFault.{BeginFault}
@@ -69,6 +69,10 @@ LeavesKept weigher is_new name config kept NoMemory left = LacksFirst weigher is
 -- the image could not be kept or read
 abbrev pub IsUnkept : BeginFault → Type 0
 IsUnkept fault = fault ≡ Refused KeepFailed
+
+-- a boot comes to its save, and that fails
+abbrev pub FailsAtSave : Weigher → Bytes → Config → Bytes → Type 0
+FailsAtSave weigher name config kept = FailsToSave weigher (stopped name config kept) None Restart 0
 
 -- which fault bytes have as an image; or they are read as one; or memory was refused
 abbrev pub IsImageFault : Bytes → BeginFault → Type 0

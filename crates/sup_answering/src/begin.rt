@@ -5,7 +5,7 @@ ghost use Rattle.sup_replica.specs.declared.refusal.Refusal.TheVariants.{BadMess
 ghost use Rattle.sup_station.specs.KeptStations.{RefusesRestart, keeper_of, kept_station_of};
 ghost use Rattle.sup_told.specs.Told.{told_text};
 ghost use Rattle.sup_answering.specs.AnsweringNodes.{RisesWhere};
-ghost use Rattle.sup_answering.specs.BegunNodes.{BeginsStation, IsImageFault, IsNoBegin, IsUnkept, LeavesKept};
+ghost use Rattle.sup_answering.specs.BegunNodes.{BeginsStation, FailsAtSave, IsImageFault, IsNoBegin, IsUnkept, LeavesKept, stopped};
 
 use crate::filter::Filter;
 use std::alloc::{AllocError, Global};
@@ -68,7 +68,8 @@ pub struct Unbegun<K: ImageKeeper, W: Weigh + Drop> {
 /// # Errors
 ///
 /// As [`BeginFault`] tells. The keeper keeps what it kept then, unless memory was refused to the first answer of a node that had begun.
-/// Its count of failures has risen, by one, where the refusal is `KeepFailed`, and only there.
+/// Its count of failures has risen, by one, where the refusal is `KeepFailed`, and only there. Over a keeper that can be read, that is told
+/// of a next boot only where its save fails. Unless memory was refused, the station is one of this name and settings that was stopped.
 pub fn begin<K: ImageKeeper, W: Weigh + Drop>(
     alloc: Global,
     name: NodeName,
@@ -84,6 +85,8 @@ pub fn begin<K: ImageKeeper, W: Weigh + Drop>(
     ensures fault { IfErr result (λ u. IsNoBegin W.weight_of is_new name config (K.kept keeper) u.fault) }
     ensures leaves { IfErr result (λ u. LeavesKept W.weight_of is_new name config (K.kept keeper) u.fault (K.kept (keeper_of u.station))) }
     ensures counted { IfErr result (λ u. RisesWhere (IsUnkept u.fault) (K.failures keeper) (K.failures (keeper_of u.station))) }
+    ensures station { IfErr result (λ u. u.fault ≢ BeginFault.NoMemory → kept_station_of K.kept u.station ≡ stopped name config (K.kept keeper)) }
+    ensures order { IfErr result (λ u. is_new ≡ false → K.readable keeper ≡ true → IsUnkept u.fault → FailsAtSave W.weight_of name config (K.kept keeper)) }
 {
     if is_new {
         open(alloc, name, config, keeper, weigher)
@@ -107,6 +110,7 @@ fn open<K: ImageKeeper, W: Weigh + Drop>(
     ensures fault { IfErr result (λ u. IsNoBegin W.weight_of true name config (K.kept keeper) u.fault) }
     ensures leaves { IfErr result (λ u. LeavesKept W.weight_of true name config (K.kept keeper) u.fault (K.kept (keeper_of u.station))) }
     ensures counted { IfErr result (λ u. RisesWhere (IsUnkept u.fault) (K.failures keeper) (K.failures (keeper_of u.station))) }
+    ensures station { IfErr result (λ u. u.fault ≢ BeginFault.NoMemory → kept_station_of K.kept u.station ≡ stopped name config (K.kept keeper)) }
 {
     let station = match Station::new(alloc, name, config, keeper) {
         Ok(station) => station,
@@ -129,6 +133,7 @@ fn unopened<K: ImageKeeper, W: Weigh + Drop>(
 ) -> Unbegun<K, W>
     ensures fault { result.fault ≡ BeginFault.Refused refused.reason }
     ensures keeper { keeper_of result.station ≡ refused.keeper }
+    ensures station { kept_station_of K.kept result.station ≡ stopped name config (K.kept refused.keeper) }
 {
     let Refused { keeper, reason } = refused;
     Unbegun {
@@ -152,6 +157,8 @@ fn go_on<K: ImageKeeper, W: Weigh + Drop>(
     ensures fault { IfErr result (λ u. IsNoBegin W.weight_of false name config (K.kept keeper) u.fault) }
     ensures leaves { IfErr result (λ u. LeavesKept W.weight_of false name config (K.kept keeper) u.fault (K.kept (keeper_of u.station))) }
     ensures counted { IfErr result (λ u. RisesWhere (IsUnkept u.fault) (K.failures keeper) (K.failures (keeper_of u.station))) }
+    ensures station { IfErr result (λ u. u.fault ≢ BeginFault.NoMemory → kept_station_of K.kept u.station ≡ stopped name config (K.kept keeper)) }
+    ensures order { IfErr result (λ u. K.readable keeper ≡ true → IsUnkept u.fault → FailsAtSave W.weight_of name config (K.kept keeper)) }
 {
     let mut station = Station::stopped(alloc, name, config, keeper);
     match station.step(Act::Restart, 0, &weigher) {

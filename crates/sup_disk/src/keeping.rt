@@ -1,8 +1,8 @@
 //! A keeper over a disk.
 
-ghost use Rattle.std.specs.Prelude.{◌≡◌, ◌≢◌, ◌⊎◌, ◌↔◌, ◌+◌, Bool, true, false, Some, None, Err, IfOk, OnOk, OnErr, IsErr, IsTrue};
+ghost use Rattle.std.specs.Prelude.{◌≡◌, ◌≢◌, ◌⊎◌, ◌↔◌, ◌+◌, Bool, true, false, Some, None, Err, IfErr, IfOk, OnOk, OnErr, IsErr, IsTrue};
 ghost use Rattle.std.proofs.Props.{props};
-ghost use Rattle.sup_keeper.specs.declared.keeper.KeepFault.TheVariants.{Failed};
+ghost use Rattle.sup_keeper.specs.declared.keeper.KeepFault.TheVariants.{Failed, OutOfMemory};
 ghost use Rattle.sup_disk.specs.Crashes.{NoMore, OrThese, OnlyThis, WereFlushed};
 ghost use Rattle.sup_disk.specs.Copies.{copied};
 
@@ -41,6 +41,13 @@ pub struct DiskKeeper<D: Disk> {
     pub ghost agrees: { lost ≡ false → OnlyThis (D.may_have disk) (copied copy) } by { Prim.hlevel props },
 }
 
+/// A disk of which no keeper could be opened, and why.
+#[derive(Drop)]
+pub struct Unopened<D: Disk> {
+    pub error: io::Error,
+    pub disk: D,
+}
+
 impl<D: Disk> Model for DiskKeeper<D> {
     ghost use Rattle.sup_disk.specs.Copies.{Filed, copied};
 
@@ -54,23 +61,26 @@ impl<D: Disk> DiskKeeper<D> {
     ///
     /// # Errors
     ///
-    /// Where the file can't be read or flushed, or memory is refused.
-    pub fn open(alloc: Global, disk: D) -> io::Result<DiskKeeper<D>>
+    /// The disk, where the file can't be read or flushed, or memory is refused. Nothing is possible for the file then that was not before.
+    pub fn open(alloc: Global, disk: D) -> Result<DiskKeeper<D>, Unopened<D>>
         ensures sound { IfOk result (λ k. k.lost ≡ false) }
         ensures failures { IfOk result (λ k. k.failures ≡ 0) }
         // A loss of power leaves what is kept, and nothing that the file could not have had before.
         ensures file { IfOk result (λ k. NoMore (D.may_have disk) (D.may_have k.disk)) }
         ensures only { IfOk result (λ k. OnlyThis (D.may_have k.disk) k.copy) }
+        ensures left { IfErr result (λ u. NoMore (D.may_have disk) (D.may_have u.disk)) }
     {
         let mut disk = disk;
-        let copy = disk.read(alloc)?;
-        Ok(DiskKeeper {
-            disk,
-            copy,
-            failures: 0,
-            lost: false,
-            alloc,
-        })
+        match disk.read(alloc) {
+            Ok(copy) => Ok(DiskKeeper {
+                disk,
+                copy,
+                failures: 0,
+                lost: false,
+                alloc,
+            }),
+            Err(error) => Err(Unopened { error, disk }),
+        }
     }
 
     /// Whether there is no image yet.
@@ -126,7 +136,9 @@ impl<D: Disk> Keeper for DiskKeeper<D> {
         ensures refused { OnErr result (self.new.copy ≡ self.old.copy) }
         ensures failed { result ≡ Err Failed → self.new.failures ≡ self.old.failures + 1 }
         ensures uncounted { result ≢ Err Failed → self.new.failures ≡ self.old.failures }
+        ensures wants { result ≡ Err OutOfMemory → self.new ≡ self.old }
         ensures lost { self.old.lost ≡ true → IsErr result }
+        ensures idle { self.old.lost ≡ true → self.new.disk ≡ self.old.disk }
         // It is lost only where the bytes were flushed beside the file, and may be in its place.
         ensures loses { self.new.lost ≡ true → (self.old.lost ≡ true) ⊎ WereFlushed D.flushed bytes.now }
         // A loss of power leaves what it would have left, or these bytes.

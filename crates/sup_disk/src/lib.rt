@@ -9,7 +9,7 @@ pub mod replacing;
 pub mod system;
 
 pub use disk::Disk;
-pub use keeping::{DiskKeeper, ImageKeeper};
+pub use keeping::{DiskKeeper, ImageKeeper, Unopened};
 pub use lock::{FileLock, LockFault};
 pub use mem_disk::{MemDisk, Next};
 pub use replacing::{ReplaceFault, replace_on};

@@ -1,6 +1,6 @@
 //! A disk in memory, whose calls fail and whose power goes as it is told.
 
-ghost use Rattle.std.specs.Prelude.{◌≡◌, Some, None, IfOk, OnOk, OnErr, if◌then◌else◌};
+ghost use Rattle.std.specs.Prelude.{◌≡◌, false, Some, None, IfOk, OnOk, OnErr, if◌then◌else◌};
 ghost use Rattle.sup_disk.specs.Copies.{copied};
 
 use crate::disk::Disk;
@@ -40,6 +40,8 @@ impl MemDisk {
     pub fn new(alloc: Global) -> MemDisk
         ensures shown { copied result.shown ≡ None }
         ensures safe { copied result.safe ≡ None }
+        ensures beside { copied result.beside ≡ None }
+        ensures flushed { result.is_flushed ≡ false }
         ensures next { result.next ≡ Next.Holds }
     {
         MemDisk {
@@ -61,6 +63,8 @@ impl MemDisk {
         ensures shown { OnOk result (copied self.new.shown ≡ (if is_ahead then copied self.old.shown else copied self.old.safe)) }
         ensures safe { OnOk result (copied self.new.safe ≡ copied self.new.shown) }
         ensures beside { OnOk result (copied self.new.beside ≡ None) }
+        ensures flushed { OnOk result (self.new.is_flushed ≡ false) }
+        ensures next { OnOk result (self.new.next ≡ self.old.next) }
         ensures refused { OnErr result (self.new ≡ self.old) }
     {
         let shown = self.left_over(is_ahead)?;

@@ -85,9 +85,11 @@ impl<R: Files + Drop> Disk for SystemDisk<R> {
         let mut file = match File::open(&self.rt, self.path.as_str()) {
             Ok(file) => file,
             Err(error) if error.kind() == ErrorKind::NotFound => {
-                // A removal that was not flushed could come undone.
-                self.flush_names()?;
-                return Ok(None);
+                // A removal that was not flushed could come undone. Where there is no folder, there are no names to flush.
+                return match self.flush_names() {
+                    Err(error) if error.kind() != ErrorKind::NotFound => Err(error),
+                    _ => Ok(None),
+                };
             }
             Err(error) => return Err(error),
         };

@@ -1,5 +1,5 @@
 -- The picture of a script: its lines are played from a new world, and what the log has of them is drawn.
-use Rattle.std.specs.Prelude.{◌≡◌, ℕ, List, []}
+use Rattle.std.specs.Prelude.{◌≡◌, ℕ, List, [], All}
 use Rattle.sup_specs.specs.Values.{Bytes}
 use Rattle.sup_placement.specs.Place.{Weigher}
 use Rattle.sup_tables.specs.States.{State}
@@ -31,10 +31,11 @@ pub record IsPictureOf (names : List Bytes) (n : Noted) (picture : Picture) : Ty
   pub children : picture.children.items ≡ children_of (bars_of n.changes)
   pub gaps : picture.gaps.items ≡ gaps_of n.changes
 
--- a new world of these nodes; the lines, played from there; and the text of the picture of what was noted
+-- a new world of these nodes, of which no save has failed; the lines, played from there; and the text of the picture of what was noted
 pub record DrawsScript (weigher : Weigher) (config : Config) (names : List Bytes) (captions : Captions) (lines : List Line) (text : List ℕ) : Type 0 where
   pub sites : List SeenNode
   pub opens : (codec : MailCodec State) → ShowsReal weigher sites (real_new by_tables (setting_in weigher config) config.buffer codec names)
+  pub unfailed : All (λ s. s.failures ≡ 0) sites
   pub after : List SeenNode
   pub noted : Noted
   pub goes : LinesGo weigher captions sites nothing_noted lines after noted

@@ -18,7 +18,7 @@ use Rattle.sup_talk.specs.declared.talking.TalkEnd.TheVariants.{Ended as HeardOu
 use Rattle.sup_talk.specs.declared.talking.TalkFault.{TalkFault}
 use Rattle.sup_talk.specs.declared.talking.TalkFault.TheVariants.{Device as Broken, OutOfMemory as Wanting}
 use Rattle.sup_answering.specs.AnsweringNodes.{AnsweringNode, RisesWhere}
-use Rattle.sup_answering.specs.BegunNodes.{BeginsNode, IsNoBegin, IsUnkept, LeavesKept}
+use Rattle.sup_answering.specs.BegunNodes.{BeginsNode, FailsAtSave, IsNoBegin, IsUnkept, LeavesKept}
 use Rattle.sup_answering.specs.ServedHosts.{ServesHost}
 use Rattle.sup_answering.specs.declared.begin.BeginFault.{BeginFault}
 use Rattle.sup_answering.specs.declared.begin.BeginFault.TheVariants.{BadImage, OthersImage, Refused, NoMemory}
@@ -78,11 +78,12 @@ abbrev pub left_keeper : {K : Type 0} {g : _} → Left K g → K
 left_keeper (Sha256 station) = keeper_of station
 left_keeper (Flat station) = keeper_of station
 
--- the node didn't begin, and its keeper is left so
-pub record StaysUnbegun (weigher : Weigher) (is_new : Bool) (name : Bytes) (config : Config) (keeper left : KeeperSeen) (fault : BeginFault) : Type 0 where
+-- the node didn't begin, and its keeper, which can be read or may not be, is left so
+pub record StaysUnbegun (weigher : Weigher) (is_new readable : Bool) (name : Bytes) (config : Config) (keeper left : KeeperSeen) (fault : BeginFault) : Type 0 where
   pub why : IsNoBegin weigher is_new name config keeper.kept fault
   pub leaves : LeavesKept weigher is_new name config keeper.kept fault left.kept
   pub counted : RisesWhere (IsUnkept fault) keeper.failures left.failures
+  pub order : is_new ≡ false → readable ≡ true → IsUnkept fault → FailsAtSave weigher name config keeper.kept
 
 -- the node began, and served its host until this end; and its keeper is left as it was then
 pub record ServedUntil (weigher : Weigher) (most : ℕ) (is_new : Bool) (name : Bytes) (config : Config) (keeper left : KeeperSeen) (before after : Seen) (end : Result TalkEnd TalkFault) : Type 0 where
@@ -96,10 +97,10 @@ pub record ServedUntil (weigher : Weigher) (most : ℕ) (is_new : Bool) (name : 
   pub serves : ServesHost weigher most begun last first before after end
   pub leaves : keeper_in last ≡ left
 
--- How a node's run ends: it didn't begin, and its host was told nothing; or it served.
-abbrev pub RunsTo : Weigher → ℕ → Bool → Bytes → Config → KeeperSeen → KeeperSeen → Seen → Seen → Option (List ℕ) → Option (List ℕ) → Ended → Type 0
-RunsTo weigher most is_new name config keeper left before after errors_before errors_written ended =
-    ((fault : BeginFault) × StaysUnbegun weigher is_new name config keeper left fault × (after ≡ before) × IsToldAs (fault_told fault) errors_before errors_written ended)
+-- How a node's run ends, over a keeper that can be read or may not be: it didn't begin, and its host was told nothing; or it served.
+abbrev pub RunsTo : Weigher → ℕ → Bool → Bool → Bytes → Config → KeeperSeen → KeeperSeen → Seen → Seen → Option (List ℕ) → Option (List ℕ) → Ended → Type 0
+RunsTo weigher most is_new readable name config keeper left before after errors_before errors_written ended =
+    ((fault : BeginFault) × StaysUnbegun weigher is_new readable name config keeper left fault × (after ≡ before) × IsToldAs (fault_told fault) errors_before errors_written ended)
     ⊎ ((end : Result TalkEnd TalkFault) × ServedUntil weigher most is_new name config keeper left before after end × IsToldAs (end_told end) errors_before errors_written ended)
 
 -- there is no file yet

@@ -1,6 +1,6 @@
 //! A node's run, from what is kept and its host to its status.
 
-ghost use Rattle.std.specs.Prelude.{◌≡◌};
+ghost use Rattle.std.specs.Prelude.{◌≡◌, true};
 ghost use Rattle.sup_command_line.specs.Weighings.{weight_of};
 ghost use Rattle.sup_jobs.specs.Tells.{Tells};
 ghost use Rattle.sup_station.specs.KeptStations.{keeper_of};
@@ -35,7 +35,7 @@ pub fn run_node<K: ImageKeeper, H: Host, E: Write>(
     host: &mut H,
     errors: &mut E,
 ) -> (Ended, Left<K>)
-    ensures { RunsTo (weight_of weighing) LINE_LIMIT is_new name config (seen_of K.kept K.failures K.lost keeper)
+    ensures { RunsTo (weight_of weighing) LINE_LIMIT is_new (K.readable keeper) name config (seen_of K.kept K.failures K.lost keeper)
         (seen_of K.kept K.failures K.lost (left_keeper result.1)) (H.seen host.old) (H.seen host.new)
         (E.contents errors.old) (E.contents errors.new) result.0 }
 {
@@ -72,7 +72,7 @@ pub fn run_filed<D: Disk, H: Host, E: Write>(
     host: &mut H,
     errors: &mut E,
 ) -> (Ended, Left<DiskKeeper<D>>)
-    ensures { RunsTo (weight_of weighing) LINE_LIMIT (is_unfiled keeper.copy) name config (file_seen keeper) (file_seen (left_keeper result.1))
+    ensures { RunsTo (weight_of weighing) LINE_LIMIT (is_unfiled keeper.copy) true name config (file_seen keeper) (file_seen (left_keeper result.1))
         (H.seen host.old) (H.seen host.new) (E.contents errors.old) (E.contents errors.new) result.0 }
 {
     let is_new = keeper.is_new();
@@ -89,7 +89,7 @@ fn run_by<K: ImageKeeper, W: Weigh + Drop, H: Host, E: Write>(
     host: &mut H,
     errors: &mut E,
 ) -> (Ended, Station<K, W>)
-    ensures { RunsTo W.weight_of LINE_LIMIT is_new name config (seen_of K.kept K.failures K.lost keeper)
+    ensures { RunsTo W.weight_of LINE_LIMIT is_new (K.readable keeper) name config (seen_of K.kept K.failures K.lost keeper)
         (seen_of K.kept K.failures K.lost (keeper_of result.1)) (H.seen host.old) (H.seen host.new)
         (E.contents errors.old) (E.contents errors.new) result.0 }
 {

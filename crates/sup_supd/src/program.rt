@@ -5,7 +5,7 @@ use crate::settings::{Settings, read_settings};
 use std::alloc::Global;
 use std::env;
 use std::io::{self, BufReader, ErrorKind, Write};
-use sup_disk::{DiskKeeper, FileLock, LockFault, SystemDisk};
+use sup_disk::{DiskKeeper, FileLock, LockFault, SystemDisk, Unopened};
 use sup_jobs::{Fault, put_all, report};
 use sup_talk::Streams;
 
@@ -111,8 +111,13 @@ fn keeper_at(
         Ok(disk) => disk,
         Err(_) => return Err(Unserved::OutOfMemory),
     };
-    let keeper = DiskKeeper::open(alloc, disk)?;
-    Ok(keeper)
+    match DiskKeeper::open(alloc, disk) {
+        Ok(keeper) => Ok(keeper),
+        Err(unopened) => {
+            let Unopened { error, disk: _ } = unopened;
+            Err(Unserved::from(error))
+        }
+    }
 }
 
 // Tells why there is no node, and answers the exit status. Faults of the error writer are passed over.

@@ -1,8 +1,16 @@
 //! Stories of a keeper over a disk.
 
 use std::process::Abort;
-use sup_disk::{DiskKeeper, FileLock, ImageKeeper, LockFault, MemDisk, Next, SystemDisk};
+use sup_disk::{Disk, DiskKeeper, FileLock, ImageKeeper, LockFault, MemDisk, Next, SystemDisk};
 use sup_keeper::{KeepFault, Keeper};
+
+/// A keeper of what this disk has. It ends the test where none can be opened.
+pub(crate) fn opened<D: Disk>(rt: &(impl Abort + AllocGlobal), disk: D) -> DiskKeeper<D> {
+    match DiskKeeper::open(rt.alloc(), disk) {
+        Ok(keeper) => keeper,
+        Err(_) => panic!(rt; "it doesn't open"),
+    }
+}
 
 // A keeper that keeps `one`, over a disk whose saves go so.
 fn keeping_one(rt: &(impl Abort + AllocGlobal), next: Next) -> DiskKeeper<MemDisk> {
@@ -15,7 +23,7 @@ fn keeping_one(rt: &(impl Abort + AllocGlobal), next: Next) -> DiskKeeper<MemDis
         is_flushed: false,
         next,
     };
-    DiskKeeper::open(alloc, disk).expect(rt, "it opens")
+    opened(rt, disk)
 }
 
 // What a loss of power leaves: what the disk has, or, where names outran their flush, what the running system has.
@@ -103,7 +111,7 @@ fn what_was_saved_in_a_file_is_read_by_the_next_keeper_and_two_never_hold_its_lo
     for (old, text) in [("", "one"), ("one", "another"), ("another", "last")] {
         let handle = rt.clone().expect(&rt, "a handle");
         let disk = SystemDisk::at(alloc, handle, "kept.image").expect(&rt, "room");
-        let mut keeper = DiskKeeper::open(alloc, disk).expect(&rt, "it opens");
+        let mut keeper = opened(&rt, disk);
         assert_eq!(rt; keeper.is_new(), old.is_empty());
         assert_eq!(rt;
             keeper.load().expect(&rt, "bytes").as_slice(),
@@ -120,7 +128,7 @@ fn a_file_in_a_folder_that_is_not_there_keeps_nothing(rt: HostRuntime) {
     let alloc = rt.alloc();
     let handle = rt.clone().expect(&rt, "a handle");
     let disk = SystemDisk::at(alloc, handle, "nowhere/kept.image").expect(&rt, "room");
-    let mut keeper = DiskKeeper::open(alloc, disk).expect(&rt, "it opens");
+    let mut keeper = opened(&rt, disk);
     assert_eq!(rt; keeper.save(b"one"), Err(KeepFault::Failed));
     assert!(rt; keeper.is_new() && !keeper.is_lost());
 }

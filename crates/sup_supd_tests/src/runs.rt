@@ -1,5 +1,6 @@
 //! Stories of a node, from what is kept and the lines of its host to its status.
 
+use crate::disks::opened;
 use crate::later_disk::LaterDisk;
 use std::process::Abort;
 use sup_command_line::Weighing;
@@ -47,7 +48,7 @@ fn expect_on<D: Disk>(
     line: &[u8],
 ) -> Left<DiskKeeper<D>> {
     let alloc = rt.alloc();
-    let keeper = DiskKeeper::open(alloc, disk).expect(rt, "it opens");
+    let keeper = opened(rt, disk);
     let name = NodeName::parse("a").expect(rt, "a name");
     let config = Config::new(1, 5, 64).expect(rt, "settings");
     let mut host = Streams::new(lines, Vec::new(alloc));

@@ -12,6 +12,11 @@ use thiserror::Error;
 /// At most this many bytes are a line, its line feed aside.
 pub const LINE_LIMIT: usize = 67_108_864;
 
+/// That is 64 MiB.
+pub fn a_line_has_64_mib_at_most()
+    ensures { LINE_LIMIT ≡ 67108864 }
+{}
+
 /// What was taken.
 #[derive(Debug, Drop)]
 pub enum Taken {

@@ -1,6 +1,8 @@
 //! A run of a plan with a runner of the caller's.
-ghost use Rattle.std.specs.Prelude.{◌≡◌, true, IfOk};
+ghost use Rattle.std.specs.Prelude.{◌≡◌, ◌≢◌, true, Err, IfOk};
 ghost use Rattle.sup_placement.specs.Weights.{flat_weight};
+ghost use Rattle.sup_plan.specs.Plans.{IsPlan};
+ghost use Rattle.sup_posts.specs.declared.fault.RunFault.TheVariants.{BadPlan};
 ghost use Rattle.sup_cluster.specs.Runs.{IsRunOf};
 
 use std::alloc::Global;
@@ -41,7 +43,9 @@ pub fn run_counted<R: Threads + Wait + Sync>(
     alloc: Global,
     plan: &Plan,
 ) -> Result<(Histories, u64), RunFault>
-    ensures { IfOk result (λ r. IsRunOf flat_weight (λ node effect answer. answer ≡ true) plan.now r.0) }
+    ensures run { IfOk result (λ r. IsRunOf flat_weight (λ node effect answer. answer ≡ true) plan.now r.0) }
+    ensures bad { ¬ (IsPlan plan.now) → result ≡ Err BadPlan }
+    ensures good { IsPlan plan.now → result ≢ Err BadPlan }
 {
     let runner = Starts {
         count: AtomicU64::new(0),

@@ -2,9 +2,10 @@
 ghost use Rattle.std.specs.Prelude.{◌≡◌, ◌++◌, [], IfSome, true};
 ghost use Rattle.std.specs.Thread.{IsSync};
 ghost use Rattle.sup_node_gate.specs.InMemory.{failures_by, sound_by};
+ghost use Rattle.sup_station.specs.KeptStations.{keeper_of};
 ghost use Rattle.sup_station.specs.OpenedStations.{kept_by};
 ghost use Rattle.sup_node_gate.specs.Gates.{IsOf, view_of};
-ghost use Rattle.sup_node_gate.specs.Histories.{counted_of, may_enter};
+ghost use Rattle.sup_node_gate.specs.Histories.{AllSaved, counted_of, may_enter};
 ghost use Rattle.sup_node_gate.specs.Shares.{halved};
 ghost use Rattle.sup_uses.specs.SharedGates.{CallsAct, CallsActs, CallsBoth, IsReplayed, IsSharedBy};
 
@@ -18,7 +19,8 @@ use sup_replica::{Act, Done, Refusal};
 use sup_station::Station;
 
 /// Has two threads make these acts at one station, each its own in their order and at moment 0, and gives the station with its history: a call
-/// of each act, and of nothing else, with its answer. None where memory was refused, or the history is full: it has room for 1,000.
+/// of each act, and of nothing else, with its answer; where the station's keeper is sound, no save fails, and it stays so. None where memory
+/// was refused, or the history is full: it has room for 1,000.
 pub fn share<R: Threads + Wait + Sync>(
     rt: &R,
     alloc: Global,
@@ -28,6 +30,7 @@ pub fn share<R: Threads + Wait + Sync>(
 ) -> Option<(Station<MemKeeper, FlatWeigh>, Vec<Entry>)>
     ensures replayed { IfSome result (λ r. IsReplayed (counted_of kept_by failures_by station) (counted_of kept_by failures_by r.0) r.1.items) }
     ensures shared { IfSome result (λ r. IsSharedBy left.now right.now r.1.items) }
+    ensures saves { IfSome result (λ r. sound_by (keeper_of station) ≡ true → (sound_by (keeper_of r.0) ≡ true) × AllSaved r.1.items) }
 {
     let Ok((gate, pass)) = NodeGate::new(alloc, station, 1000) else {
         return None;

@@ -1,11 +1,12 @@
-use Rattle.std.proofs.Common.{◌∙◌, true, None, Ok, ap, sym, subst}
+use Rattle.std.proofs.Common.{◌≡◌, ◌∙◌, true, None, Ok, ap, sym, subst}
+use Rattle.sup_specs.specs.Values.{Bytes}
 use Rattle.sup_replica.specs.declared.done.Reply.TheVariants.{Boot}
 use Rattle.sup_station.specs.KeptStations.{keeper_of, kept_station_of}
 use Rattle.sup_told.specs.Told.{told_text}
 use Rattle.sup_answering.specs.AnsweringNodes.{RisesWhere}
-use Rattle.sup_answering.specs.BegunNodes.{IsNoBegin, IsUnkept}
+use Rattle.sup_answering.specs.BegunNodes.{IsNoBegin, IsUnkept, stopped}
 use Rattle.sup_answering.specs.declared.begin.BeginFault.{BeginFault}
-use Rattle.sup_answering.proofs.UnbegunNodeLaws.{begins_with, counted, leaves_begun, leaves_old, unanswered, uncounted, unlacking}
+use Rattle.sup_answering.proofs.UnbegunNodeLaws.{begins_with, counted, leaves_begun, leaves_old, unanswered, uncounted, unlacking, unstopped}
 use Rattle.sup_answering.proofs.begin.open.Goals as goal
 
 pub returns-in-Err-clause-fault : goal.returns-in-Err-clause-fault
@@ -41,3 +42,10 @@ pub returns-clause-counted : goal.returns-clause-counted
 returns-clause-counted g c =
     uncounted (λ u. u.fault) (λ u. u.station) (λ x. g.K.Keeper.failures (keeper_of x)) (g.K.Keeper.failures c.args.keeper) c.in-Ok.station c.begun_with.result
     c.in-Ok.ensures.uncounted c.begun_with.ensures.fault c.begun_with.ensures.left
+
+pub returns-in-Err-clause-station : goal.returns-in-Err-clause-station
+returns-in-Err-clause-station g c = λ _. c.unopened.ensures.station ∙ ap (λ (kept : Bytes). stopped c.args.name c.args.config kept) c.in-Err.ensures.refused
+
+pub returns-clause-station : goal.returns-clause-station
+returns-clause-station g c =
+    unstopped (λ u. kept_station_of g.K.Keeper.kept u.station ≡ stopped c.args.name c.args.config (g.K.Keeper.kept c.args.keeper)) (λ u. u.fault) c.begun_with.result c.begun_with.ensures.fault

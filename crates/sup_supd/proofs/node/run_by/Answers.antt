@@ -25,7 +25,7 @@ returns-in-Ok g c =
 pub returns-in-Err : goal.returns-in-Err
 returns-in-Err g c = inl (
   c.in-Err.unbegun.fault,
-  record { why = c.in-Err.ensures.fault; leaves = c.in-Err.ensures.leaves; counted = c.in-Err.ensures.counted },
+  record { why = c.in-Err.ensures.fault; leaves = c.in-Err.ensures.leaves; counted = c.in-Err.ensures.counted; order = c.in-Err.ensures.order },
   refl,
   c.refuse-ended.ensures,
 )
