@@ -1,8 +1,8 @@
 //! One station behind a keeper of the caller's.
-ghost use Rattle.std.specs.Prelude.{◌≢◌, Err, IfOk};
-ghost use Rattle.sup_replica.specs.declared.refusal.Refusal.TheVariants.{KeepFailed};
+ghost use Rattle.std.specs.Prelude.{◌≡◌, ◌≢◌, ◌⊎◌, Err, IfErr, IfOk};
+ghost use Rattle.sup_replica.specs.declared.refusal.Refusal.TheVariants.{KeepFailed, OutOfMemory};
 ghost use Rattle.sup_station.specs.KeptStations.{kept_station_of};
-ghost use Rattle.sup_uses.specs.Acts.{HasMade, last_of};
+ghost use Rattle.sup_uses.specs.Acts.{HasMade, IsRefusedAt, last_of};
 
 use std::alloc::Global;
 use std::mem;
@@ -62,6 +62,7 @@ pub fn keep<W: Weigh>(
 ) -> Result<Station<TwoImages, W>, Refusal>
     ensures made { IfOk result (λ s. HasMade W.weight_of name acts.now (kept_station_of last_of s)) }
     ensures kept { result ≢ Err KeepFailed }
+    ensures refused { IfErr result (λ r. (r ≡ OutOfMemory) ⊎ IsRefusedAt W.weight_of name acts.now r) }
 {
     let keeper = TwoImages {
         last: Vec::new(alloc),

@@ -1,9 +1,24 @@
-use Rattle.std.proofs.Common.{rules, ◌≡◌, ◌+◌, ◌++◌, [], ◌∷◌, take, ap, sym, ◌∙◌, subst}
+use Rattle.std.proofs.Common.{rules, ◌≡◌, ◌+◌, ◌++◌, [], ◌∷◌, take, drop, ap, sym, ◌∙◌, subst, refl, inr}
 use Rattle.std.proofs.lemmas.List.{take_more}
 use Rattle.sup_station.specs.KeptStations.{AnswersAct, kept_station_of}
 use Rattle.sup_uses.specs.Acts.{MakesActs, last_of}
-use Rattle.sup_uses.proofs.ActLaws.{makes_more}
+use Rattle.sup_uses.proofs.ActLaws.{cut_at, makes_more}
 use Rattle.sup_uses.proofs.keeping.keep.Goals as goal
+
+pub returns-in-Err-step-clause-refused : goal.returns-in-Err-step-clause-refused
+returns-in-Err-step-clause-refused g c =
+    let l = c.loop-act in
+    let acts = c.args.acts.now in
+    let here : c.in_ok-act.act ≡ c.act-item.result = search rules in
+    inr (record {
+      front = take l.act-index acts;
+      act = c.in_ok-act.act;
+      rest = drop (l.act-index + 1) acts;
+      all = cut_at acts l.act-index c.in_ok-act.act c.act-item.result c.loop-act-test.true here c.act-item.is;
+      before = kept_station_of last_of l.station;
+      made = l.invariant;
+      refuses = (refl, c.in-Err-step.ensures.goes.1);
+    })
 
 pub loop-act-preserved : goal.loop-act-preserved
 loop-act-preserved g c =
