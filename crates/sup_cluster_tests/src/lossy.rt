@@ -29,7 +29,8 @@ fn ten_runs_with_lost_and_doubled_letters_are_certified(rt: HostRuntime) {
         // b's. Then the ship comes to b, which may acknowledge it in time.
         assert!(rt; count(&histories, 0, Counted::Absorbed) == 1);
         assert!(rt; count(&histories, 0, Counted::Known) == 1);
-        assert!(rt; deliveries(&histories, 0) == 2 + count(&histories, 0, Counted::Acked));
+        let acked = count(&histories, 0, Counted::Acked);
+        assert!(rt; deliveries(&histories, 0) == acked.saturating_add(2));
         assert!(rt; is_certified(&rt, &plan, &histories));
     }
 }

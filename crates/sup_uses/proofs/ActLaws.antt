@@ -1,9 +1,10 @@
 -- One act more.
-use Rattle.std.proofs.Common.{◌≡◌, ℕ, ◌<◌, ◌+◌, List, [], ◌∷◌, ◌++◌, length, get_or, take, drop, Ok, refl, ap, sym, ◌∙◌, subst}
+use Rattle.std.proofs.Common.{◌≡◌, ℕ, ◌<◌, ◌+◌, List, [], ◌∷◌, ◌++◌, length, get_or, take, drop, Result, Ok, Err, IfErr, IsErrAnd, refl, ap, sym, ◌∙◌, subst}
 use Rattle.std.proofs.lemmas.List.{drop_more, take-append-drop}
 use Rattle.sup_placement.specs.Place.{Weigher}
 use Rattle.sup_replica.specs.declared.event.Act.{Act}
 use Rattle.sup_replica.specs.declared.done.Done.{Done}
+use Rattle.sup_replica.specs.declared.refusal.Refusal.{Refusal}
 use Rattle.sup_station.specs.KeptStations.{KeptStation, AnswersAct}
 use Rattle.sup_uses.specs.Acts.{MakesActs}
 
@@ -16,3 +17,8 @@ makes_more g s (first ∷ acts) t act done u made answers = (made.0, made.1, mad
 pub cut_at : (acts : List Act) (i : ℕ) (act item : Act) → i < length acts → act ≡ item → item ≡ get_or acts i item → acts ≡ take i acts ++ act ∷ drop (i + 1) acts
 cut_at acts i act item within same is =
     sym (take-append-drop i acts) ∙ ap (λ l. take i acts ++ l) (drop_more acts i item within ∙ ap (λ a. a ∷ drop (i + 1) acts) (sym is ∙ sym same))
+
+-- a refusal that is handed on
+pub stopped_by : {T : Type 0} (P : Refusal → Type 0) (result : Result T Refusal) (e : Refusal) → IsErrAnd result (λ r. r ≡ e) → P e → IfErr result P
+stopped_by P (Ok done) e same p = tt
+stopped_by P (Err r) e same p = subst P (sym same) p

@@ -1,11 +1,12 @@
 -- Two stations that exchange letters.
-use Rattle.std.specs.Prelude.{◌≡◌, ◌≤◌, ◌⊎◌, ℕ, zero, suc, Bool, true, false, Option, Some, None, Ok, Err}
+use Rattle.std.specs.Prelude.{◌≡◌, ◌≢◌, ◌≤◌, ◌⊎◌, ℕ, zero, suc, Bool, true, false, Option, Some, None, Ok, Err}
 use Rattle.sup_specs.specs.Values.{Bytes}
 use Rattle.sup_placement.specs.Place.{Weigher}
 use Rattle.sup_replica.specs.declared.done.Done.{Done}
 use Rattle.sup_replica.specs.declared.event.Act.TheVariants.{Event as Of}
 use Rattle.sup_replica.specs.declared.event.Event.TheVariants.{Deliver, Ship}
 use Rattle.sup_replica.specs.declared.letter.Letter.{Letter}
+use Rattle.sup_replica.specs.declared.refusal.Refusal.{Refusal}
 use Rattle.sup_replica.specs.declared.refusal.Refusal.TheVariants.{UpToDate}
 use Rattle.sup_station.specs.KeptStations.{KeptStation, AnswersAct}
 
@@ -61,3 +62,27 @@ pub record MakesExchange (weigher : Weigher) (left_name right_name : Bytes) (tim
   pub made : MakesRounds weigher left_name right_name rounds left right left' right'
   pub fewer : all ≡ true → suc rounds ≤ times
   pub as_many : all ≡ false → rounds ≡ times
+
+-- a letter is brought to its receiver, which refuses it so
+abbrev pub StopsLetter : Weigher → Option Letter → KeptStation → Refusal → KeptStation → Type 0
+StopsLetter weigher (Some letter) to r to' = AnswersAct weigher to (Of (Deliver letter.bytes)) 0 (Err r) to'
+StopsLetter weigher None to r to' = ⊥
+
+-- the ship is refused so, though there is something to ship; or the letter there; or the one that is brought back
+abbrev pub StopsSending : Weigher → Bytes → (from to : KeptStation) → Refusal → (from' to' : KeptStation) → Type 0
+StopsSending weigher receiver from to r from' to' =
+    ((r ≢ UpToDate) × AnswersAct weigher from (Of (Ship receiver)) 0 (Err r) from' × (to' ≡ to))
+    ⊎ (((done : Done) × AnswersAct weigher from (Of (Ship receiver)) 0 (Ok done) from' × StopsLetter weigher done.out to r to')
+    ⊎ ((done : Done) × (shipped : KeptStation) × AnswersAct weigher from (Of (Ship receiver)) 0 (Ok done) shipped
+    × ((answer : Option Letter) × BringsLetter weigher done.out to answer to' × StopsLetter weigher answer shipped r from')))
+
+-- behind some rounds, fewer than there may be, one of the two stops so: the left one, or, where that sent, the right one
+pub record StopsExchange (weigher : Weigher) (left_name right_name : Bytes) (times : ℕ) (r : Refusal) (left right left' right' : KeptStation) : Type 0 where
+  pub rounds : ℕ
+  pub fewer : suc rounds ≤ times
+  pub between_left : KeptStation
+  pub between_right : KeptStation
+  pub made : MakesRounds weigher left_name right_name rounds left right between_left between_right
+  pub stops : StopsSending weigher right_name between_left between_right r left' right'
+      ⊎ ((there : Bool) × (mid_left : KeptStation) × (mid_right : KeptStation)
+      × SendsLetter weigher right_name between_left between_right there mid_left mid_right × StopsSending weigher left_name mid_right mid_left r right' left')

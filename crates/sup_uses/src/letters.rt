@@ -1,7 +1,7 @@
 //! Two stations that exchange letters by hand.
-ghost use Rattle.std.specs.Prelude.{◌≡◌, true, IfOk};
+ghost use Rattle.std.specs.Prelude.{◌≡◌, true, IfErr, IfOk};
 ghost use Rattle.sup_station.specs.KeptStations.{kept_station_of};
-ghost use Rattle.sup_uses.specs.Letters.{BringsLetter, IsUpToDate, MakesExchange, SendsLetter};
+ghost use Rattle.sup_uses.specs.Letters.{BringsLetter, IsUpToDate, MakesExchange, SendsLetter, StopsExchange, StopsLetter, StopsSending};
 
 use sup_keeper::Keeper;
 use sup_placement::Weigh;
@@ -27,6 +27,8 @@ pub fn exchange<K: Keeper, W: Weigh>(
     ensures right { IfOk result (λ all. all ≡ true → IsUpToDate W.weight_of (kept_station_of K.kept right.new) left_name) }
     ensures exchanged { IfOk result (λ all. MakesExchange W.weight_of left_name right_name times all
         (kept_station_of K.kept left.old) (kept_station_of K.kept right.old) (kept_station_of K.kept left.new) (kept_station_of K.kept right.new)) }
+    ensures stopped { IfErr result (λ r. StopsExchange W.weight_of left_name right_name times r
+        (kept_station_of K.kept left.old) (kept_station_of K.kept right.old) (kept_station_of K.kept left.new) (kept_station_of K.kept right.new)) }
 {
     for _ in 0..times {
         let there = send(left, right, right_name, weigher)?;
@@ -45,7 +47,9 @@ fn send<K: Keeper, W: Weigh>(
     receiver: NodeName,
     weigher: &W,
 ) -> Result<bool, Refusal>
-    ensures { IfOk result (λ sent. SendsLetter W.weight_of receiver (kept_station_of K.kept from.old) (kept_station_of K.kept to.old) sent
+    ensures sends { IfOk result (λ sent. SendsLetter W.weight_of receiver (kept_station_of K.kept from.old) (kept_station_of K.kept to.old) sent
+        (kept_station_of K.kept from.new) (kept_station_of K.kept to.new)) }
+    ensures stops { IfErr result (λ r. StopsSending W.weight_of receiver (kept_station_of K.kept from.old) (kept_station_of K.kept to.old) r
         (kept_station_of K.kept from.new) (kept_station_of K.kept to.new)) }
 {
     match from.step(Act::Event(Event::Ship(receiver)), 0, weigher) {
@@ -65,7 +69,8 @@ fn bring<K: Keeper, W: Weigh>(
     letter: Option<Letter>,
     weigher: &W,
 ) -> Result<Option<Letter>, Refusal>
-    ensures { IfOk result (λ answer. BringsLetter W.weight_of letter (kept_station_of K.kept to.old) answer (kept_station_of K.kept to.new)) }
+    ensures brings { IfOk result (λ answer. BringsLetter W.weight_of letter (kept_station_of K.kept to.old) answer (kept_station_of K.kept to.new)) }
+    ensures stops { IfErr result (λ r. StopsLetter W.weight_of letter (kept_station_of K.kept to.old) r (kept_station_of K.kept to.new)) }
 {
     let Some(letter) = letter else {
         return Ok(None);

@@ -1,6 +1,8 @@
-use Rattle.std.proofs.Common.{refl, inl, inr}
+use Rattle.std.proofs.Common.{arith, refl, inl, inr}
 use native.Mathlib.Numerals.{unary_clauses}
 use Rattle.sup_station.specs.KeptStations.{kept_station_of}
+use Rattle.sup_uses.specs.Letters.{StopsExchange}
+use Rattle.sup_uses.proofs.ActLaws.{stopped_by}
 use Rattle.sup_uses.proofs.letters.exchange.Goals as goal
 
 pub loop-init : goal.loop-init
@@ -17,8 +19,36 @@ loop-preserved g c =
         between_right = kept c.send.new.to;
         there = c.in_ok-there.there;
         back = c.in_ok-back.back;
-        left_sends = c.in_ok-there.ensures;
-        right_sends = c.in_ok-back.ensures;
+        left_sends = c.in_ok-there.ensures.sends;
+        right_sends = c.in_ok-back.ensures.sends;
         some = elim c.else-not-there.either [ inl p ↦ inr p.1 | inr q ↦ inl q ];
       },
     )
+
+pub returns-in_err-there-clause-stopped : goal.returns-in_err-there-clause-stopped
+returns-in_err-there-clause-stopped g c =
+    let kept = kept_station_of g.K.Keeper.kept in
+    stopped_by (λ r. StopsExchange g.W.Weigh.weight_of c.args.left_name c.args.right_name c.args.times r (kept c.args.left.now) (kept c.args.right.now) (kept c.send.new.from) (kept c.send.new.to))
+    c.from_residual.result c.in_err-there.field-0.0 c.from_residual.ensures.1
+    (record {
+      rounds = c.loop.counter;
+      fewer = omega arith;
+      between_left = kept c.loop.left;
+      between_right = kept c.loop.right;
+      made = c.loop.invariant;
+      stops = inl c.in_err-there.ensures.stops;
+    })
+
+pub returns-in_err-back-clause-stopped : goal.returns-in_err-back-clause-stopped
+returns-in_err-back-clause-stopped g c =
+    let kept = kept_station_of g.K.Keeper.kept in
+    stopped_by (λ r. StopsExchange g.W.Weigh.weight_of c.args.left_name c.args.right_name c.args.times r (kept c.args.left.now) (kept c.args.right.now) (kept c.send-in-loop.new.to) (kept c.send-in-loop.new.from))
+    c.from_residual-in_err-back.result c.in_err-back.field-0.0 c.from_residual-in_err-back.ensures.1
+    (record {
+      rounds = c.loop.counter;
+      fewer = omega arith;
+      between_left = kept c.loop.left;
+      between_right = kept c.loop.right;
+      made = c.loop.invariant;
+      stops = inr (c.in_ok-there.there, kept c.send.new.from, kept c.send.new.to, c.in_ok-there.ensures.sends, c.in_err-back.ensures.stops);
+    })
