@@ -1,18 +1,17 @@
 //! A runner that can't start any child.
 use crate::given::{Counted, count, is_certified, join, plan, ship, start, told};
-use sup_cluster::{Quiet, Runner, run};
+use sup_cluster::{Quiet, Request, Runner, run};
 use sup_local_sup::Effect;
 use sup_placement::FlatWeigh;
 use sup_replica::Refusal;
-use sup_specs::NodeName;
 
 struct StartsNothing;
 
 impl Runner for StartsNothing {
     ghost did = { λ runner node effect answer. Unit {0} };
 
-    fn act(&self, _node: &NodeName, effect: &Effect) -> bool {
-        matches!(effect, Effect::Stop { .. })
+    fn act(&self, request: Request) -> bool {
+        matches!(request.effect(), Effect::Stop { .. })
     }
 }
 

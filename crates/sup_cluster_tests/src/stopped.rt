@@ -4,12 +4,11 @@ use crate::given::{
 };
 use std::process::Abort;
 use std::sync::atomic::{AtomicBool, Ordering};
-use sup_cluster::{Quiet, Runner, run};
+use sup_cluster::{Quiet, Request, Runner, run};
 use sup_local_sup::Effect;
 use sup_placement::FlatWeigh;
 use sup_plan::{History, Plan};
 use sup_replica::{Act, Event, Reply};
-use sup_specs::NodeName;
 
 // Node a adds a child, stops and comes back, while b ships to it.
 fn stopped_and_restarted(rt: &(impl Abort + AllocGlobal)) -> Plan {
@@ -100,8 +99,8 @@ struct Lamps {
 impl Runner for Lamps {
     ghost did = { λ lamps node effect answer. Unit {0} };
 
-    fn act(&self, _node: &NodeName, effect: &Effect) -> bool {
-        let lamp = match effect {
+    fn act(&self, request: Request) -> bool {
+        let lamp = match request.effect() {
             Effect::Start { inc, .. } if inc.boot == 1 => &self.first,
             Effect::Start { .. } => &self.second,
             Effect::Stop { .. } => &self.stopped,
@@ -134,8 +133,8 @@ struct StartsOnce;
 impl Runner for StartsOnce {
     ghost did = { λ runner node effect answer. Unit {0} };
 
-    fn act(&self, _node: &NodeName, effect: &Effect) -> bool {
-        match effect {
+    fn act(&self, request: Request) -> bool {
+        match request.effect() {
             Effect::Start { inc, .. } => inc.boot == 1,
             Effect::Stop { .. } => true,
         }

@@ -2,7 +2,7 @@
 use crate::given::{Counted, count, is_certified, join, plan, ship, start, told, wait_for};
 use std::process::Abort;
 use std::sync::atomic::{AtomicBool, Ordering};
-use sup_cluster::{Checkpoint, Runner, run};
+use sup_cluster::{Checkpoint, Request, Runner, run};
 use sup_local_sup::Effect;
 use sup_placement::FlatWeigh;
 use sup_plan::Plan;
@@ -38,8 +38,8 @@ impl Checkpoint for Lamps {
 impl Runner for Lamps {
     ghost did = { λ lamps node effect answer. Unit {0} };
 
-    fn act(&self, node: &NodeName, effect: &Effect) -> bool {
-        if node.as_str() == "b" && matches!(effect, Effect::Start { .. }) {
+    fn act(&self, request: Request) -> bool {
+        if request.node().as_str() == "b" && matches!(request.effect(), Effect::Start { .. }) {
             self.started.store(true, Ordering::SeqCst);
         }
         true

@@ -11,8 +11,9 @@ use Rattle.sup_node_gate.specs.declared.view.View.{View}
 use Rattle.sup_node_gate.specs.Histories.{entry}
 use Rattle.sup_plan.specs.Calls.{Call, call_of, brought, deliveries}
 use Rattle.sup_plan.specs.Sublists.{Sublist}
-use Rattle.sup_driving.specs.Called.{MadeCall, CallsStand, SeesMore}
+use Rattle.sup_posts.specs.NodeCalls.{MadeCall}
 use Rattle.sup_posts.proofs.SublistLaws.{sub_more, sub_both}
+use Rattle.sup_driving.specs.Called.{CallsStand, SeesMore}
 
 pub more_then : (u v w : View) → SeesMore u v → SeesMore v w → SeesMore u w
 more_then u v w p q = (p.0 ++ q.0, q.1 ∙ (ap (λ l. l ++ q.0) p.1 ∙ append_assoc u.seen p.0 q.0))

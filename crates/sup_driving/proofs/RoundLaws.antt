@@ -15,9 +15,11 @@ use Rattle.sup_node_gate.specs.declared.view.View.{View}
 use Rattle.sup_node_gate.specs.Histories.{entry}
 use Rattle.sup_node_gate.specs.Views.{calls_of}
 use Rattle.sup_plan.specs.Calls.{Call}
+use Rattle.sup_posts.specs.NodeCalls.{MadeCall}
+use Rattle.sup_posts.specs.Requests.{Unasked}
 use Rattle.sup_posts.specs.Rounds.{IsDone, TellsRunner, IsRound, MakesCalls, StoodByAll, failed}
 use Rattle.sup_posts.proofs.ItemLaws.{zip_append}
-use Rattle.sup_driving.specs.Called.{MadeCall, TellsEffects, effects_in}
+use Rattle.sup_driving.specs.Called.{TellsEffects, effects_in}
 
 -- the places of one command more
 pub stood_more : (stood : ℕ → Type 0) (n : ℕ) → StoodByAll stood n → stood (suc n) → StoodByAll stood (suc n)
@@ -26,14 +28,6 @@ stood_more stood n s one place lt = dite (ℕ_discrete place n)
     (λ apart. s place (omega (arith, lt, apart)))
 
 module _ (did : Effect → Bool → Type 0) where
-  pub done_true : (effect : Effect) → did effect true → IsDone did effect
-  done_true (Stop id inc) d = (true, d)
-  done_true (Start id inc spec) d = d
-
-  pub done_stop : (effect : Effect) (answer : Bool) → ((id : Bytes) (inc : Incarnation) (spec : ChildSpec) → effect ≢ Start id inc spec) → did effect answer → IsDone did effect
-  done_stop (Stop id inc) answer not_start d = (answer, d)
-  done_stop (Start id inc spec) answer not_start d = absurd (not_start id inc spec refl)
-
   skip : (now : ℕ) (effect : Effect) (effects : List Effect) (es : List Entry) → IsDone did effect → TellsRunner did now effects es → TellsRunner did now (effect ∷ effects) es
   skip now effect effects [] d t = (d, t)
   skip now effect effects (e ∷ es) d t = let f = t.1 in (
@@ -52,7 +46,7 @@ module _ (did : Effect → Bool → Type 0) where
   )
 
   -- the first effect was done
-  pub tells_on : (now : ℕ) (all : List Effect) (effect : Effect) (later : List Effect) (w : List (List Effect)) (v u : View) → all ≡ effect ∷ later
+  pub tells_on : (now : ℕ) (all : List Effect) (effect : Effect) (later : List Effect) (w : List Unasked) (v u : View) → all ≡ effect ∷ later
       → IsDone did effect → TellsEffects did now (later ++ effects_in w) v u → TellsEffects did now (all ++ effects_in w) v u
   tells_on now all effect later w v u is d t =
       let more : TellsEffects did now ((effect ∷ later) ++ effects_in w) v u
@@ -60,19 +54,19 @@ module _ (did : Effect → Bool → Type 0) where
       subst (λ l. TellsEffects did now (l ++ effects_in w) v u) (sym is) more
 
   -- the run that the first effect begins didn't start, and what its exit's answer begins comes behind all others
-  pub tells_exit : (now : ℕ) (all : List Effect) (id : Bytes) (inc : Incarnation) (spec : ChildSpec) (later : List Effect) (w more : List (List Effect)) (effects : List Effect) (v v' u : View)
-      → all ≡ Start id inc spec ∷ later → more ≡ w ++ effects ∷ [] → did (Start id inc spec) false → MadeCall v (failed (id, inc)) now effects v'
+  pub tells_exit : (now : ℕ) (all : List Effect) (id : Bytes) (inc : Incarnation) (spec : ChildSpec) (later : List Effect) (w more : List Unasked) (next : Unasked) (v v' u : View)
+      → all ≡ Start id inc spec ∷ later → more ≡ w ++ next ∷ [] → did (Start id inc spec) false → MadeCall v (failed (id, inc)) now next.effects v'
       → TellsEffects did now (later ++ effects_in more) v' u → TellsEffects did now (all ++ effects_in w) v u
-  tells_exit now all id inc spec later w more effects v v' u is grown answered c t =
+  tells_exit now all id inc spec later w more next v v' u is grown answered c t =
       let e = entry (failed (id, inc)) now c.answer in
-      let behind : later ++ effects_in more ≡ (later ++ effects_in w) ++ effects
+      let behind : later ++ effects_in more ≡ (later ++ effects_in w) ++ next.effects
       = ap (λ l. later ++ effects_in l) grown
-      ∙ (ap (λ l. later ++ l) (flat_map-append (λ (l : List Effect). l) w (effects ∷ []) ∙ ap (λ l. effects_in w ++ l) (append-nil effects)) ∙ sym (append_assoc later (effects_in w) effects)) in
+      ∙ (ap (λ l. later ++ l) (flat_map-append (λ (r : Unasked). r.effects) w (next ∷ []) ∙ ap (λ l. effects_in w ++ l) (append-nil next.effects)) ∙ sym (append_assoc later (effects_in w) next.effects)) in
       let told : TellsEffects did now ((Start id inc spec ∷ later) ++ effects_in w) v u = record {
         exits = e ∷ t.exits;
         are = (
           later ++ effects_in w,
-          record { before = []; id = id; inc = inc; spec = spec; effects_are = refl; done = tt; answered = answered; call = refl },
+          record { before = []; id = id; inc = inc; spec = spec; effects_are = refl; done = tt; answered = answered; call = record { is = refl; entered = c.entered } },
           subst (λ l. TellsRunner did now ((later ++ effects_in w) ++ l) t.exits) (sym c.effects_are) (subst (λ l. TellsRunner did now l t.exits) behind t.are),
         );
         own = t.own ∙ (ap (λ l. l ++ map some t.exits) c.own ∙ append_assoc (calls_of v) (some e ∷ []) (map some t.exits));
@@ -94,7 +88,7 @@ module _ (did : Effect → Bool → Type 0) where
   pub makes_one : (v v' u : View) (a : Act) (now : ℕ) (effects : _) → MadeCall v a now effects v' → TellsEffects did now effects v' u → MakesCalls did v ((a, now) ∷ []) u
   makes_one v v' u a now effects c t = let e = entry a now c.answer in record {
     rounds = (e ∷ t.exits) ∷ [];
-    are = ((refl, subst (λ l. TellsRunner did now l t.exits) (sym c.effects_are) t.are), tt);
+    are = ((record { is = refl; entered = c.entered }, subst (λ l. TellsRunner did now l t.exits) (sym c.effects_are) t.are), tt);
     own = t.own ∙ (ap (λ l. l ++ map some t.exits) c.own ∙ (append_assoc (calls_of v) (some e ∷ []) (map some t.exits) ∙ ap (λ l. calls_of v ++ l) (sym (append-nil (some e ∷ map some t.exits)))));
     shares = t.shares ∙ c.shares;
   }

@@ -18,8 +18,8 @@ use sup_plan::Command;
 use sup_posts::{Seat, SharedNode, ThreadFault};
 
 impl<'a, R: Wait, W: Weigh, N: Runner, C: Checkpoint> Field<'a, R, W, N, C> {
-    // Makes a command, and puts the letters of all answers since those that were put; then the runner is told what is to be done. Gives how
-    // many entries' letters were put.
+    // Makes a command, and puts the letters of all answers since those that were put; then the runner is asked for what is to be done. Gives
+    // how many entries' letters were put.
     fn make(
         &self,
         post: &SharedNode<W>,
@@ -41,10 +41,10 @@ impl<'a, R: Wait, W: Weigh, N: Runner, C: Checkpoint> Field<'a, R, W, N, C> {
     {
         self.checkpoint.before(&post.name, place);
         let Command { node: _, act, now } = command;
-        let effects = self.call(post, seat, act, now)?;
+        let requests = post.call(self.rt, self.alloc, seat, act, now, self.weigher)?;
         self.checkpoint.answered(&post.name, place);
         let shipped = self.ship(post, seat, shipped, wires)?;
-        self.act_all(post, seat, effects, now)?;
+        self.act_all(post, seat, requests, now)?;
         Ok(shipped)
     }
 

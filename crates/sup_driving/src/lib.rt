@@ -3,13 +3,12 @@
 //! Every node has a driver, which gives it its commands in their order and puts the letters of its answers into the links to the other
 //! nodes. Behind each of these links a receiver takes what comes, and gives it to the node there. A receiver puts no letters: those that
 //! its node answers stand in the node's history, whose letters that node's driver puts, each once and in the history's order, behind each
-//! of its commands and once more behind the last. What is to be done with a node's children is told a runner.
+//! of its commands and once more behind the last. What is to be done with a node's children is asked of a runner.
 //! A thread that meets a fault goes on for the others: a driver ends its links, a receiver takes to its link's end, unless it is refused
 //! memory, and drops its end.
 #![tactic(auto)]
 
 mod acting;
-mod calling;
 mod driving;
 mod field;
 mod gathering;

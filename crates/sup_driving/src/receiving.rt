@@ -22,7 +22,7 @@ use sup_replica::{Act, Event, MessageText};
 const MOMENT: u64 = 0;
 
 impl<'a, R: Wait, W: Weigh, N: Runner, C> Field<'a, R, W, N, C> {
-    // Gives the node a message, and tells the runner what is to be done.
+    // Gives the node a message, and asks the runner for what is to be done.
     fn deliver(
         &self,
         post: &SharedNode<W>,
@@ -37,8 +37,8 @@ impl<'a, R: Wait, W: Weigh, N: Runner, C> Field<'a, R, W, N, C> {
         ensures fault { IfErr result (StopsCalling (bound_of post.now.gate) (view_of seat.new)) }
     {
         let act = Act::Event(Event::Deliver(MessageText::new(text)));
-        let effects = self.call(post, seat, act, MOMENT)?;
-        self.act_all(post, seat, effects, MOMENT)
+        let requests = post.call(self.rt, self.alloc, seat, act, MOMENT, self.weigher)?;
+        self.act_all(post, seat, requests, MOMENT)
     }
 
     // Takes what still comes out of a link, until its end, and throws it away: so its driver is not held up, and finds no closed link.

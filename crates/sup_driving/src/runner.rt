@@ -3,7 +3,7 @@ ghost use Rattle.std.specs.Prelude.{◌≡◌, ℕ, Bool, true};
 ghost use Rattle.sup_specs.specs.Values.{Bytes};
 ghost use Rattle.sup_local_sup.specs.declared.effect.Effect.{Effect};
 
-use sup_local_sup::Effect;
+use sup_posts::Request;
 use sup_specs::NodeName;
 
 /// Does what nodes' answers ask to be done with their children. Several threads tell it of one node, and between threads there is no order:
@@ -15,10 +15,10 @@ pub trait Runner {
     /// [`act`](Runner::act) shows it: so the run did call it with these. Who has nothing to say of an answer takes `Unit`.
     ghost did: { Self → Bytes → Effect → Bool → Type 0 };
 
-    /// Does this effect at the node. False where a start failed: the thread that called this then tells the node that the child's run has
+    /// Does what the node asks for. False where a start failed: the thread that called this then tells the node that the child's run has
     /// ended, with the reason `failed`. What is answered to a stop is not looked at.
-    fn act(&self, node: &NodeName, effect: &Effect) -> bool
-        ensures { did self.now node.now effect.now result };
+    fn act(&self, request: Request) -> bool
+        ensures { did self.now request.node request.effect result };
 }
 
 /// Stands by each command of a driver.
@@ -44,7 +44,7 @@ pub struct Quiet;
 impl Runner for Quiet {
     ghost did = { λ quiet node effect answer. answer ≡ true };
 
-    fn act(&self, _node: &NodeName, _effect: &Effect) -> bool {
+    fn act(&self, _request: Request) -> bool {
         true
     }
 }

@@ -1,3 +1,5 @@
 pub mod Faults
 pub mod Jobs
+pub mod NodeCalls
+pub mod Requests
 pub mod Rounds

@@ -14,7 +14,7 @@ use Rattle.sup_replica.specs.declared.event.Act.TheVariants.{Event as Of}
 use Rattle.sup_replica.specs.declared.event.Event.TheVariants.{Exit, Deliver}
 use Rattle.sup_node_gate.specs.declared.entry.Entry.{Entry}
 use Rattle.sup_node_gate.specs.declared.view.View.{View}
-use Rattle.sup_node_gate.specs.Histories.{StationAnswer}
+use Rattle.sup_node_gate.specs.Histories.{StationAnswer, may_enter}
 use Rattle.sup_node_gate.specs.Views.{calls_of}
 use Rattle.sup_plan.specs.Calls.{Call, call_of}
 
@@ -37,6 +37,11 @@ abbrev pub IsDone : (Effect → Bool → Type 0) → Effect → Type 0
 IsDone did (Stop id inc) = (answer : Bool) × did (Stop id inc) answer
 IsDone did (Start id inc spec) = did (Start id inc spec) true
 
+-- the entry is of this call, and has an answer that a history lists
+pub record IsEntryOf (call : Call) (e : Entry) : Type 0 where
+  pub is : call_of e ≡ call
+  pub entered : may_enter e.answer ≡ true
+
 -- of these effects the runner did all before a start that it answered to have failed, of which the entry is the exit, at this moment; these lie
 -- behind it
 pub record IsFailedStart (did : Effect → Bool → Type 0) (now : ℕ) (effects : List Effect) (exit : Entry) (behind : List Effect) : Type 0 where
@@ -47,7 +52,7 @@ pub record IsFailedStart (did : Effect → Bool → Type 0) (now : ℕ) (effects
   pub effects_are : effects ≡ before ++ Start id inc spec ∷ behind
   pub done : AllByRecursion (IsDone did) before
   pub answered : did (Start id inc spec) false
-  pub call : call_of exit ≡ (failed (id, inc), now)
+  pub call : IsEntryOf (failed (id, inc), now) exit
 
 -- the runner was told all these effects, and those of the entries' answers, which come last; the entries are the exits, at this moment, of just
 -- those runs whose start it answered to have failed, in their order
@@ -58,7 +63,7 @@ TellsRunner did now effects (e ∷ es) = (behind : List Effect) × IsFailedStart
 -- a call, and behind it the exits of runs that didn't start then, at the call's moment; the runner was told the effects of all their answers
 abbrev pub IsRound : (Effect → Bool → Type 0) → Call → List Entry → Type 0
 IsRound did call [] = ⊥
-IsRound did call (e ∷ exits) = (call_of e ≡ call) × TellsRunner did call.1 (effects_of e.answer) exits
+IsRound did call (e ∷ exits) = IsEntryOf call e × TellsRunner did call.1 (effects_of e.answer) exits
 
 -- the pass's own calls since are these, in their order, each once and with such exits behind it; what it has of the gate stays
 pub record MakesCalls (did : Effect → Bool → Type 0) (v : View) (calls : List Call) (v' : View) : Type 0 where

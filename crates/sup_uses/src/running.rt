@@ -9,12 +9,11 @@ use std::alloc::Global;
 use std::sync::Wait;
 use std::sync::atomic::{AtomicU64, Ordering};
 use std::thread::Threads;
-use sup_cluster::{Quiet, Runner, run};
+use sup_cluster::{Quiet, Request, Runner, run};
 use sup_local_sup::Effect;
 use sup_placement::FlatWeigh;
 use sup_plan::{Histories, Plan};
 use sup_posts::RunFault;
-use sup_specs::NodeName;
 
 /// Counts the starts that it is told, in place of making them. No clause speaks of the count.
 #[derive(Drop)]
@@ -25,8 +24,8 @@ pub struct Starts {
 impl Runner for Starts {
     ghost did = { λ starts node effect answer. answer ≡ true };
 
-    fn act(&self, _node: &NodeName, effect: &Effect) -> bool {
-        if matches!(effect, Effect::Start { .. }) {
+    fn act(&self, request: Request) -> bool {
+        if matches!(request.effect(), Effect::Start { .. }) {
             self.count.fetch_add(1, Ordering::SeqCst);
         }
         true

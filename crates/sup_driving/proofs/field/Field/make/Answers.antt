@@ -7,7 +7,7 @@ use Rattle.sup_driving.proofs.field.Field.make.Goals as goal
 pub ship-requires-clause-shipped : goal.ship-requires-clause-shipped
 ship-requires-clause-shipped g c =
     shipped_later c.args.shipped (view_of c.args.seat.now) (view_of c.call.new.seat) c.args.wires.now
-    (called_more (view_of c.args.seat.now) c.args.command.act c.args.command.now c.in_ok-effects.effects (view_of c.call.new.seat) c.in_ok-effects.ensures.called) c.requires.shipped
+    (called_more (view_of c.args.seat.now) c.args.command.act c.args.command.now c.in_ok-requests.requests.effects (view_of c.call.new.seat) c.in_ok-requests.ensures.called) c.requires.shipped
 
 pub returns-clause-shipped : goal.returns-clause-shipped
 returns-clause-shipped g c =
@@ -17,10 +17,10 @@ pub returns-clause-did : goal.returns-clause-did
 returns-clause-did g c = λ cs d.
     stand_later _ (view_of c.call.new.seat) (view_of c.act_all.new.seat)
     (more_then (view_of c.call.new.seat) (view_of c.ship.new.seat) (view_of c.act_all.new.seat) c.ship.ensures.seen c.in_ok-act_all.ensures.seen)
-    (stand_more cs (view_of c.args.seat.now) c.args.command.act c.args.command.now c.in_ok-effects.effects (view_of c.call.new.seat) c.in_ok-effects.ensures.called d)
+    (stand_more cs (view_of c.args.seat.now) c.args.command.act c.args.command.now c.in_ok-requests.requests.effects (view_of c.call.new.seat) c.in_ok-requests.ensures.called d)
 
 pub returns-clause-made : goal.returns-clause-made
 returns-clause-made g c =
     let did = g.N.Runner.did c.args.self.now.runner.now c.args.post.now.name in
-    makes_one did (view_of c.args.seat.now) (view_of c.call.new.seat) (view_of c.act_all.new.seat) c.args.command.act c.args.command.now c.in_ok-effects.effects c.in_ok-effects.ensures.called
-    (tells_since did c.args.command.now c.in_ok-effects.effects (view_of c.call.new.seat) (view_of c.ship.new.seat) (view_of c.act_all.new.seat) c.ship.ensures.own c.ship.ensures.shares c.in_ok-act_all.ensures.told)
+    makes_one did (view_of c.args.seat.now) (view_of c.call.new.seat) (view_of c.act_all.new.seat) c.args.command.act c.args.command.now c.in_ok-requests.requests.effects c.in_ok-requests.ensures.called
+    (tells_since did c.args.command.now c.in_ok-requests.requests.effects (view_of c.call.new.seat) (view_of c.ship.new.seat) (view_of c.act_all.new.seat) c.ship.ensures.own c.ship.ensures.shares c.in_ok-act_all.ensures.told)

@@ -4,15 +4,16 @@ ghost use Rattle.sup_node_gate.specs.Gates.{IsOf, view_of};
 ghost use Rattle.sup_node_gate.specs.InMemory.{failures_by, sound_by};
 ghost use Rattle.sup_node_gate.specs.Histories.{may_enter};
 ghost use Rattle.sup_station.specs.OpenedStations.{kept_by};
+ghost use Rattle.sup_posts.specs.NodeCalls.{MadeCall, IsFaultIn, NotEnteredAtGate};
 ghost use Rattle.sup_posts.specs.Rounds.{effects_of};
-ghost use Rattle.sup_driving.specs.Called.{MadeCall, IsFaultIn, NotEnteredAtGate};
 
-use crate::field::Field;
+use crate::request::Requests;
+use crate::shared_node::{Seat, SharedNode};
+use crate::thread_fault::ThreadFault;
 use std::alloc::Global;
 use std::sync::Wait;
 use sup_local_sup::Effects;
 use sup_placement::Weigh;
-use sup_posts::{Seat, SharedNode, ThreadFault};
 use sup_replica::{Act, Done, Refusal};
 
 // The fault of an answer that isn't entered.
@@ -37,22 +38,32 @@ fn left_of(alloc: Global, answer: Result<Done, Refusal>) -> Effects
     }
 }
 
-impl<'a, R: Wait, W: Weigh, N, C> Field<'a, R, W, N, C> {
-    // One act of the node, at a moment: what is left to be done of its answer. Its letter stands in the history.
-    pub(crate) fn call(
+impl<W: Weigh> SharedNode<W> {
+    /// One act of the node, at a moment: what its answer asks for, which is nothing where it is refused. Its letter stands in the history.
+    ///
+    /// # Errors
+    ///
+    /// - `HistoryFull` where the node's history has as many entries as it may.
+    /// - `OutOfMemory`.
+    ///
+    /// The call isn't entered in the history then.
+    pub fn call<R: Wait>(
         &self,
-        post: &SharedNode<W>,
+        rt: &R,
+        alloc: Global,
         seat: &mut Seat<W>,
         act: Act,
         now: u64,
-    ) -> Result<Effects, ThreadFault>
-        requires { IsOf kept_by failures_by sound_by post.now.gate seat.old }
-        ensures of { IsOf kept_by failures_by sound_by post.now.gate seat.new }
-        ensures called { IfOk result (λ effects. MadeCall (view_of seat.old) act now effects (view_of seat.new)) }
-        ensures refused { IfErr result (NotEnteredAtGate kept_by failures_by sound_by W.weight_of post.now.gate seat.old seat.new) }
+        weigher: &W,
+    ) -> Result<Requests, ThreadFault>
+        requires { IsOf kept_by failures_by sound_by self.now.gate seat.old }
+        ensures of { IsOf kept_by failures_by sound_by self.now.gate seat.new }
+        ensures called { IfOk result (λ r. MadeCall (view_of seat.old) act now r.effects (view_of seat.new)) }
+        ensures asks { IfOk result (λ r. r.node ≡ self.now.name) }
+        ensures refused { IfErr result (NotEnteredAtGate kept_by failures_by sound_by W.weight_of self.now.gate seat.old seat.new) }
     {
-        let answer = post.gate.call(self.rt, seat, act, now, self.weigher);
+        let answer = self.gate.call(rt, seat, act, now, weigher);
         entered(&answer)?;
-        Ok(left_of(self.alloc, answer))
+        Ok(Requests::of(self.name, left_of(alloc, answer)))
     }
 }
