@@ -10,6 +10,7 @@ use Rattle.sup_talk.specs.declared.line.LineFault.TheVariants.{Device, OutOfMemo
 -- what happens between an answerer and its host
 pub data Event : Type 0 where
   Heard : Option (List ℕ) → Event  -- a line of the host, or that there was one too long
+  Silent : Event  -- the host said no more
   Told : List ℕ → Event  -- what the host was told: a text, or a front of one
 
 -- What is known of a host.
@@ -36,7 +37,7 @@ pub record Exchanges (before after : Seen) (taken said : List ℕ) (events : Lis
 abbrev pub Hears : ℕ → Result Taken LineFault → Seen → Seen → Type 0
 Hears most (Ok (Line line)) before after = (length line.items ≤ most) × IsUnbroken line.items × Exchanges before after (line.items ++ (10 ∷ [])) [] (Heard (Some line.items) ∷ [])
 Hears most (Ok TooLong) before after = (line : List ℕ) × (most < length line) × IsUnbroken line × Exchanges before after (line ++ (10 ∷ [])) [] (Heard None ∷ [])
-Hears most (Ok End) before after = (rest : List ℕ) × IsUnbroken rest × Exchanges before after rest [] [] × IsAtEnd after.unread
+Hears most (Ok End) before after = (rest : List ℕ) × IsUnbroken rest × Exchanges before after rest [] (Silent ∷ []) × IsAtEnd after.unread
 Hears most (Err Device) before after = (front : List ℕ) × IsUnbroken front × Exchanges before after front [] [] × (after.is_broken ≡ true)
 Hears most (Err OutOfMemory) before after = (front : List ℕ) × IsUnbroken front × Exchanges before after front [] []
 

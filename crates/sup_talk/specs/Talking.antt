@@ -4,7 +4,7 @@ use Rattle.std.specs.Global.{Vec}
 use Rattle.std.specs.List.{flat_map}
 use Rattle.std.specs.Io.KnownBytes.{IsAtEnd}
 use Rattle.sup_talk.specs.Taking.{IsUnbroken}
-use Rattle.sup_talk.specs.Hosts.{Seen, Event, Heard, Told, Exchanges, IsToldShort}
+use Rattle.sup_talk.specs.Hosts.{Seen, Event, Heard, Silent, Told, Exchanges, IsToldShort}
 use Rattle.sup_talk.specs.declared.talking.TalkEnd.{TalkEnd}
 use Rattle.sup_talk.specs.declared.talking.TalkEnd.TheVariants.{Ended, Over, Spent}
 use Rattle.sup_talk.specs.declared.talking.TalkFault.{TalkFault}
@@ -50,9 +50,9 @@ pub record Talks {S : Type 0} (answers : Answers S) (over : S → Bool) (most : 
   pub heard : All (λ turn. IsHeard most turn.taken turn.heard) turns
   pub exchanges : Exchanges before after (taken_by turns) (said_by turns) (events_of turns)
 
--- The host says no more. What it didn't end by a line feed is gone, and is no line.
+-- The host says no more, once. What it didn't end by a line feed is gone, and is no line.
 abbrev pub IsHeardOut : Seen → Seen → Type 0
-IsHeardOut before after = (rest : List ℕ) × IsUnbroken rest × Exchanges before after rest [] [] × IsAtEnd after.unread
+IsHeardOut before after = (rest : List ℕ) × IsUnbroken rest × Exchanges before after rest [] (Silent ∷ []) × IsAtEnd after.unread
 
 -- no line was heard: a front of one is gone
 abbrev pub IsUnheard : Seen → Seen → Type 0
