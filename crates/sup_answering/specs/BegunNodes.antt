@@ -1,5 +1,5 @@
 -- How a node begins, and why it doesn't.
-use Rattle.std.specs.Prelude.{◌≡◌, ◌≢◌, ◌⊎◌, ℕ, Bool, true, false, List, [], Some, None, Ok}
+use Rattle.std.specs.Prelude.{◌≡◌, ◌≢◌, ◌⊎◌, ℕ, Bool, true, false, List, [], Option, Some, None, Ok}
 use Rattle.sup_specs.specs.Values.{Bytes}
 use Rattle.sup_placement.specs.Place.{Weigher}
 use Rattle.sup_wire.specs.declared.image.Image.{Image}
@@ -52,19 +52,27 @@ IsNoBegin weigher false name config kept OthersImage = IsOthersImage name kept
 IsNoBegin weigher false name config kept (Refused refusal) = (refusal ≢ BadMessage) × RefusesAct weigher (stopped name config kept) None Restart 0 refusal
 IsNoBegin weigher false name config kept NoMemory = Unit {0}
 
--- Memory was refused, and this is kept: to find out why what is kept is no image of the node, which leaves that; or to the first answer of
--- a node that had begun, which leaves what that kept.
-abbrev pub LacksFirst : Weigher → Bool → Bytes → Config → Bytes → Bytes → Type 0
-LacksFirst weigher is_new name config kept left =
-    ((is_new ≡ false) × RefusesAct weigher (stopped name config kept) None Restart 0 BadMessage × (left ≡ kept))
-    ⊎ ((begun : KeptStation) × (text : List ℕ) × BeginsNode weigher is_new name config kept begun text × (left ≡ begun.kept))
+-- what a keeper keeps, and what stands where it does
+pub record Standing : Type 0 where
+  pub kept : Bytes
+  pub found : Option Bytes
 
--- What is kept after it: the old, but where memory was refused.
-abbrev pub LeavesKept : Weigher → Bool → Bytes → Config → Bytes → BeginFault → Bytes → Type 0
-LeavesKept weigher is_new name config kept (BadImage fault) left = left ≡ kept
-LeavesKept weigher is_new name config kept OthersImage left = left ≡ kept
-LeavesKept weigher is_new name config kept (Refused refusal) left = left ≡ kept
-LeavesKept weigher is_new name config kept NoMemory left = LacksFirst weigher is_new name config kept left
+abbrev pub standing_of : {K : Type 0} → (K → Bytes) → (K → Option Bytes) → K → Standing
+standing_of kept found keeper = record { kept = kept keeper; found = found keeper }
+
+-- Memory was refused, and this is left: to find out why what is kept is no image of the node, which leaves all; or to the first answer of
+-- a node that had begun, which leaves what that kept.
+abbrev pub LacksFirst : Weigher → Bool → Bytes → Config → Standing → Standing → Type 0
+LacksFirst weigher is_new name config old left =
+    ((is_new ≡ false) × RefusesAct weigher (stopped name config old.kept) None Restart 0 BadMessage × (left ≡ old))
+    ⊎ ((begun : KeptStation) × (text : List ℕ) × BeginsNode weigher is_new name config old.kept begun text × (left.kept ≡ begun.kept))
+
+-- What stands after it: the old, but where memory was refused.
+abbrev pub LeavesKept : Weigher → Bool → Bytes → Config → Standing → BeginFault → Standing → Type 0
+LeavesKept weigher is_new name config old (BadImage fault) left = left ≡ old
+LeavesKept weigher is_new name config old OthersImage left = left ≡ old
+LeavesKept weigher is_new name config old (Refused refusal) left = left ≡ old
+LeavesKept weigher is_new name config old NoMemory left = LacksFirst weigher is_new name config old left
 
 -- the image could not be kept or read
 abbrev pub IsUnkept : BeginFault → Type 0

@@ -5,7 +5,7 @@ ghost use Rattle.sup_replica.specs.declared.refusal.Refusal.TheVariants.{BadMess
 ghost use Rattle.sup_station.specs.KeptStations.{RefusesRestart, keeper_of, kept_station_of};
 ghost use Rattle.sup_told.specs.Told.{told_text};
 ghost use Rattle.sup_answering.specs.AnsweringNodes.{RisesWhere};
-ghost use Rattle.sup_answering.specs.BegunNodes.{BeginsStation, FailsAtSave, IsImageFault, IsNoBegin, IsUnkept, LeavesKept, stopped};
+ghost use Rattle.sup_answering.specs.BegunNodes.{BeginsStation, FailsAtSave, IsImageFault, IsNoBegin, IsUnkept, LeavesKept, standing_of, stopped};
 
 use crate::filter::Filter;
 use std::alloc::{AllocError, Global};
@@ -83,7 +83,7 @@ pub fn begin<K: ImageKeeper, W: Weigh + Drop>(
     ensures peers { IfOk result (λ b. b.filter.peers.items ≡ []) }
     ensures uncounted { IfOk result (λ b. K.failures (keeper_of b.filter.station) ≡ K.failures keeper) }
     ensures fault { IfErr result (λ u. IsNoBegin W.weight_of is_new name config (K.kept keeper) u.fault) }
-    ensures leaves { IfErr result (λ u. LeavesKept W.weight_of is_new name config (K.kept keeper) u.fault (K.kept (keeper_of u.station))) }
+    ensures leaves { IfErr result (λ u. LeavesKept W.weight_of is_new name config (standing_of K.kept K.found keeper) u.fault (standing_of K.kept K.found (keeper_of u.station))) }
     ensures counted { IfErr result (λ u. RisesWhere (IsUnkept u.fault) (K.failures keeper) (K.failures (keeper_of u.station))) }
     ensures station { IfErr result (λ u. u.fault ≢ BeginFault.NoMemory → kept_station_of K.kept u.station ≡ stopped name config (K.kept keeper)) }
     ensures order { IfErr result (λ u. is_new ≡ false → K.readable keeper ≡ true → IsUnkept u.fault → FailsAtSave W.weight_of name config (K.kept keeper)) }
@@ -108,7 +108,7 @@ fn open<K: ImageKeeper, W: Weigh + Drop>(
     ensures peers { IfOk result (λ b. b.filter.peers.items ≡ []) }
     ensures uncounted { IfOk result (λ b. K.failures (keeper_of b.filter.station) ≡ K.failures keeper) }
     ensures fault { IfErr result (λ u. IsNoBegin W.weight_of true name config (K.kept keeper) u.fault) }
-    ensures leaves { IfErr result (λ u. LeavesKept W.weight_of true name config (K.kept keeper) u.fault (K.kept (keeper_of u.station))) }
+    ensures leaves { IfErr result (λ u. LeavesKept W.weight_of true name config (standing_of K.kept K.found keeper) u.fault (standing_of K.kept K.found (keeper_of u.station))) }
     ensures counted { IfErr result (λ u. RisesWhere (IsUnkept u.fault) (K.failures keeper) (K.failures (keeper_of u.station))) }
     ensures station { IfErr result (λ u. u.fault ≢ BeginFault.NoMemory → kept_station_of K.kept u.station ≡ stopped name config (K.kept keeper)) }
 {
@@ -155,7 +155,7 @@ fn go_on<K: ImageKeeper, W: Weigh + Drop>(
     ensures peers { IfOk result (λ b. b.filter.peers.items ≡ []) }
     ensures uncounted { IfOk result (λ b. K.failures (keeper_of b.filter.station) ≡ K.failures keeper) }
     ensures fault { IfErr result (λ u. IsNoBegin W.weight_of false name config (K.kept keeper) u.fault) }
-    ensures leaves { IfErr result (λ u. LeavesKept W.weight_of false name config (K.kept keeper) u.fault (K.kept (keeper_of u.station))) }
+    ensures leaves { IfErr result (λ u. LeavesKept W.weight_of false name config (standing_of K.kept K.found keeper) u.fault (standing_of K.kept K.found (keeper_of u.station))) }
     ensures counted { IfErr result (λ u. RisesWhere (IsUnkept u.fault) (K.failures keeper) (K.failures (keeper_of u.station))) }
     ensures station { IfErr result (λ u. u.fault ≢ BeginFault.NoMemory → kept_station_of K.kept u.station ≡ stopped name config (K.kept keeper)) }
     ensures order { IfErr result (λ u. K.readable keeper ≡ true → IsUnkept u.fault → FailsAtSave W.weight_of name config (K.kept keeper)) }

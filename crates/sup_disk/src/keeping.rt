@@ -120,6 +120,8 @@ impl<D: Disk> Keeper for DiskKeeper<D> {
 
     ghost kept = { λ k. kept_of k.copy };
 
+    ghost found = { λ k. k.copy };
+
     ghost failures = { λ k. k.failures };
 
     ghost failing = { λ k. k.lost };

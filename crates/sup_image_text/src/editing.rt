@@ -18,8 +18,8 @@ use sup_edits::Edit;
 use sup_tables::LentRow;
 use sup_wire::closed_image;
 
-// The text with other rows behind this front, in this room: those of `texts`, of which some go, and some that come, in the order
-// of their places.
+// The text with other rows behind this front, in this room: those of `texts`, of which some go, and some that come, as the edits say,
+// one behind the other.
 pub(crate) fn edited(
     alloc: Global,
     texts: &ArrayText,

@@ -6,7 +6,7 @@ use sup_wire::Heading;
 /// How the last image's rows become the next one's. All is lent.
 #[derive(Drop)]
 pub enum RowChange<'a> {
-    /// Some go and some come, in the order of their places.
+    /// Some go and some come: under each key in order, first those that go and then those that come.
     Edits(Vec<Edit<LentRow<'a>>>),
     /// Those that are to stand, all of them, in their order.
     All(Vec<LentRow<'a>>),

@@ -69,9 +69,11 @@ impl FuseKeeper {
 }
 
 impl Keeper for FuseKeeper {
-    ghost use Rattle.std.specs.Prelude.{false};
+    ghost use Rattle.std.specs.Prelude.{false, Some};
 
     ghost kept = { λ k. k.inner.bytes };
+
+    ghost found = { λ k. Some k.inner.bytes };
 
     ghost failures = { λ k. k.failures };
 

@@ -1,5 +1,5 @@
 //! What keeps a node's image.
-ghost use Rattle.std.specs.Prelude.{◌≡◌, ◌≢◌, ◌⊎◌, ◌<◌, ◌≤◌, ◌+◌, ℕ, Bool, true, IfOk, OnOk, OnErr, IsErr};
+ghost use Rattle.std.specs.Prelude.{◌≡◌, ◌≢◌, ◌⊎◌, ◌<◌, ◌≤◌, ◌+◌, ℕ, Bool, true, Option, Some, IfOk, OnOk, OnErr, IsErr};
 ghost use Rattle.sup_specs.specs.Values.{Bytes};
 ghost use Rattle.sup_keeper.specs.declared.keeper.KeepFault.TheVariants.{Failed};
 
@@ -27,11 +27,14 @@ impl From<AllocError> for KeepFault {
     }
 }
 
-/// Keeps bytes, and counts how often it failed to, once a call at most. A contract sees the bytes and the count, and three
-/// tests that may all answer no.
+/// Keeps bytes, and counts how often it failed to, once a call at most. A contract sees the bytes, what stands where they are kept, and
+/// the count, and three tests that may all answer no.
 pub trait Keeper: Drop {
     // The bytes that are kept.
     ghost kept: { Self → Bytes };
+
+    // What stands where they are kept: none where nothing was put there yet, which keeps no bytes, as empty ones do.
+    ghost found: { Self → Option Bytes };
 
     // How often it has failed.
     ghost failures: { Self → ℕ };
@@ -53,6 +56,8 @@ pub trait Keeper: Drop {
     fn save(&mut self, bytes: &[u8]) -> Result<(), KeepFault>
         ensures leaves { OnOk result (kept self.new ≡ bytes.now) }
         ensures refused { OnErr result (kept self.new ≡ kept self.old) }
+        ensures put { OnOk result (found self.new ≡ Some bytes.now) }
+        ensures unput { OnErr result (found self.new ≡ found self.old) }
         ensures rose { result ≡ Err Failed → failures self.old < failures self.new }
         ensures told { failures self.old < failures self.new → result ≡ Err Failed }
         ensures never_falls { failures self.old ≤ failures self.new }
@@ -72,6 +77,7 @@ pub trait Keeper: Drop {
     fn load(&mut self) -> Result<Vec<u8>, KeepFault>
         ensures gives { IfOk result (λ bytes. bytes.items ≡ kept self.old) }
         ensures leaves { kept self.new ≡ kept self.old }
+        ensures found { found self.new ≡ found self.old }
         ensures rose { result ≡ Err Failed → failures self.old < failures self.new }
         ensures told { failures self.old < failures self.new → result ≡ Err Failed }
         ensures never_falls { failures self.old ≤ failures self.new }

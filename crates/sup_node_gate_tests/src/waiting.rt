@@ -34,9 +34,11 @@ pub(crate) struct Waiting {
 }
 
 impl Keeper for Waiting {
-    ghost use Rattle.std.specs.Prelude.{not, true};
+    ghost use Rattle.std.specs.Prelude.{not, true, Some};
 
     ghost kept = { λ k. k.inner.bytes };
+
+    ghost found = { λ k. Some k.inner.bytes };
 
     ghost failures = { λ k. k.inner.failures };
 

@@ -71,9 +71,11 @@ impl Scarce {
 }
 
 impl Keeper for Scarce {
-    ghost use Rattle.std.specs.Prelude.{not, true};
+    ghost use Rattle.std.specs.Prelude.{not, true, Some};
 
     ghost kept = { λ k. k.inner.bytes };
+
+    ghost found = { λ k. Some k.inner.bytes };
 
     ghost failures = { λ k. k.inner.failures };
 

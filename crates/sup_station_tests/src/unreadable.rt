@@ -30,9 +30,11 @@ impl Unreadable {
 }
 
 impl Keeper for Unreadable {
-    ghost use Rattle.std.specs.Prelude.{[], false};
+    ghost use Rattle.std.specs.Prelude.{[], false, None};
 
     ghost kept = { λ _. [] };
+
+    ghost found = { λ _. None };
 
     ghost failures = { λ k. k.failures };
 

@@ -18,7 +18,7 @@ use Rattle.sup_talk.specs.declared.talking.TalkEnd.TheVariants.{Ended as HeardOu
 use Rattle.sup_talk.specs.declared.talking.TalkFault.{TalkFault}
 use Rattle.sup_talk.specs.declared.talking.TalkFault.TheVariants.{Device as Broken, OutOfMemory as Wanting}
 use Rattle.sup_answering.specs.AnsweringNodes.{AnsweringNode, RisesWhere}
-use Rattle.sup_answering.specs.BegunNodes.{BeginsNode, FailsAtSave, IsNoBegin, IsUnkept, LeavesKept}
+use Rattle.sup_answering.specs.BegunNodes.{BeginsNode, FailsAtSave, IsNoBegin, IsUnkept, LeavesKept, Standing, standing_of}
 use Rattle.sup_answering.specs.ServedHosts.{ServesHost}
 use Rattle.sup_answering.specs.declared.begin.BeginFault.{BeginFault}
 use Rattle.sup_answering.specs.declared.begin.BeginFault.TheVariants.{BadImage, OthersImage, Refused, NoMemory}
@@ -57,21 +57,17 @@ IsToldAs told before written ended = (ended.status ≡ told.status) × Tells end
 
 -- what a contract sees of a keeper of images
 pub record KeeperSeen : Type 0 where
-  pub kept : Bytes  -- the bytes that it keeps
+  pub stands : Standing  -- the bytes that it keeps, and what stands where it does
   pub failures : ℕ  -- how often it has failed
   pub lost : Bool  -- what outlives it may be other bytes
 
--- the keeper, where this is what it keeps, how often it has failed and whether it is lost
-abbrev pub seen_of : {K : Type 0} → (K → Bytes) → (K → ℕ) → (K → Bool) → K → KeeperSeen
-seen_of kept failures lost keeper = record { kept = kept keeper; failures = failures keeper; lost = lost keeper }
+-- the keeper, where this is what it keeps, what stands where it does, how often it has failed and whether it is lost
+abbrev pub seen_of : {K : Type 0} → (K → Bytes) → (K → Option Bytes) → (K → ℕ) → (K → Bool) → K → KeeperSeen
+seen_of kept found failures lost keeper = record { stands = standing_of kept found keeper; failures = failures keeper; lost = lost keeper }
 
 -- a keeper over a disk
 abbrev pub file_seen : {D : Type 0} → Filed D → KeeperSeen
-file_seen keeper = record { kept = kept_of keeper.copy; failures = keeper.failures; lost = keeper.lost }
-
--- the keeper of a node that answers
-abbrev pub keeper_in : AnsweringNode → KeeperSeen
-keeper_in s = record { kept = s.kept_station.kept; failures = s.failures; lost = s.lost }
+file_seen keeper = record { stands = record { kept = kept_of keeper.copy; found = keeper.copy }; failures = keeper.failures; lost = keeper.lost }
 
 -- the keeper that a run leaves
 abbrev pub left_keeper : {K : Type 0} {g : _} → Left K g → K
@@ -80,10 +76,10 @@ left_keeper (Flat station) = keeper_of station
 
 -- the node didn't begin, and its keeper, which can be read or may not be, is left so
 pub record StaysUnbegun (weigher : Weigher) (is_new readable : Bool) (name : Bytes) (config : Config) (keeper left : KeeperSeen) (fault : BeginFault) : Type 0 where
-  pub why : IsNoBegin weigher is_new name config keeper.kept fault
-  pub leaves : LeavesKept weigher is_new name config keeper.kept fault left.kept
+  pub why : IsNoBegin weigher is_new name config keeper.stands.kept fault
+  pub leaves : LeavesKept weigher is_new name config keeper.stands fault left.stands
   pub counted : RisesWhere (IsUnkept fault) keeper.failures left.failures
-  pub order : is_new ≡ false → readable ≡ true → IsUnkept fault → FailsAtSave weigher name config keeper.kept
+  pub order : is_new ≡ false → readable ≡ true → IsUnkept fault → FailsAtSave weigher name config keeper.stands.kept
 
 -- the node began, and served its host until this end; and its keeper is left as it was then
 pub record ServedUntil (weigher : Weigher) (most : ℕ) (is_new : Bool) (name : Bytes) (config : Config) (keeper left : KeeperSeen) (before after : Seen) (end : Result TalkEnd TalkFault) : Type 0 where
@@ -92,10 +88,12 @@ pub record ServedUntil (weigher : Weigher) (most : ℕ) (is_new : Bool) (name : 
   pub last : AnsweringNode
   pub named : begun.name ≡ name
   pub alone : begun.peers ≡ []
-  pub begins : BeginsNode weigher is_new name config keeper.kept begun.kept_station first
+  pub begins : BeginsNode weigher is_new name config keeper.stands.kept begun.kept_station first
   pub uncounted : begun.failures ≡ keeper.failures
   pub serves : ServesHost weigher most begun last first before after end
-  pub leaves : keeper_in last ≡ left
+  pub kept : left.stands.kept ≡ last.kept_station.kept
+  pub failed : left.failures ≡ last.failures
+  pub lost : left.lost ≡ last.lost
 
 -- How a node's run ends, over a keeper that can be read or may not be: it didn't begin, and its host was told nothing; or it served.
 abbrev pub RunsTo : Weigher → ℕ → Bool → Bool → Bytes → Config → KeeperSeen → KeeperSeen → Seen → Seen → Option (List ℕ) → Option (List ℕ) → Ended → Type 0

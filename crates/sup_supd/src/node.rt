@@ -35,8 +35,8 @@ pub fn run_node<K: ImageKeeper, H: Host, E: Write>(
     host: &mut H,
     errors: &mut E,
 ) -> (Ended, Left<K>)
-    ensures { RunsTo (weight_of weighing) LINE_LIMIT is_new (K.readable keeper) name config (seen_of K.kept K.failures K.lost keeper)
-        (seen_of K.kept K.failures K.lost (left_keeper result.1)) (H.seen host.old) (H.seen host.new)
+    ensures { RunsTo (weight_of weighing) LINE_LIMIT is_new (K.readable keeper) name config (seen_of K.kept K.found K.failures K.lost keeper)
+        (seen_of K.kept K.found K.failures K.lost (left_keeper result.1)) (H.seen host.old) (H.seen host.new)
         (E.contents errors.old) (E.contents errors.new) result.0 }
 {
     match weighing {
@@ -89,8 +89,8 @@ fn run_by<K: ImageKeeper, W: Weigh + Drop, H: Host, E: Write>(
     host: &mut H,
     errors: &mut E,
 ) -> (Ended, Station<K, W>)
-    ensures { RunsTo W.weight_of LINE_LIMIT is_new (K.readable keeper) name config (seen_of K.kept K.failures K.lost keeper)
-        (seen_of K.kept K.failures K.lost (keeper_of result.1)) (H.seen host.old) (H.seen host.new)
+    ensures { RunsTo W.weight_of LINE_LIMIT is_new (K.readable keeper) name config (seen_of K.kept K.found K.failures K.lost keeper)
+        (seen_of K.kept K.found K.failures K.lost (keeper_of result.1)) (H.seen host.old) (H.seen host.new)
         (E.contents errors.old) (E.contents errors.new) result.0 }
 {
     match begin(alloc, name, config, keeper, is_new, weigher) {

@@ -21,9 +21,11 @@ pub struct TwoImages {
 }
 
 impl Keeper for TwoImages {
-    ghost use Rattle.std.specs.Prelude.{false, true};
+    ghost use Rattle.std.specs.Prelude.{false, true, Some};
 
     ghost kept = { λ k. k.last.items };
+
+    ghost found = { λ k. Some k.last.items };
 
     ghost failures = { λ k. 0 };
 

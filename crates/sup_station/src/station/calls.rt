@@ -37,6 +37,7 @@ impl<K: Keeper, W: Weigh> Station<K, W> {
     ) -> Result<Station<K, W>, Refused<K>>
         ensures opens { IfOk result (λ s. OpensStation name config (kept_station_of K.kept s)) }
         ensures refused { IfErr result (λ r. K.kept r.keeper ≡ K.kept keeper) }
+        ensures unput { IfErr result (λ r. K.found r.keeper ≡ K.found keeper) }
         ensures reason { IfErr result (λ r. IsKeepRefusal r.reason) }
         ensures rose { IfErr result (λ r. r.reason ≡ KeepFailed → K.failures keeper < K.failures r.keeper) }
         ensures told { IfErr result (λ r. K.failures keeper < K.failures r.keeper → r.reason ≡ KeepFailed) }
@@ -106,6 +107,7 @@ impl<K: Keeper, W: Weigh> Station<K, W> {
     /// bytes are no image of this node, `CountSpent` where the boot would pass `MAX`, and `OutOfMemory`.
     pub fn prepare(&mut self, act: &Act, now: u64, weigher: &W) -> Result<Prepared, Refusal>
         ensures same { kept_station_of K.kept self.new ≡ kept_station_of K.kept self.old }
+        ensures found { K.found (keeper_of self.new) ≡ K.found (keeper_of self.old) }
         ensures answer { IsPreparedOrRefused W.weight_of (kept_station_of K.kept self.old) act.now now result }
         ensures loads { act.now ≢ Restart → (keeper_of self.new ≡ keeper_of self.old) × (result ≢ Err KeepFailed) }
         ensures rose { result ≡ Err KeepFailed → K.failures (keeper_of self.old) < K.failures (keeper_of self.new) }
@@ -143,6 +145,7 @@ impl<K: Keeper, W: Weigh> Station<K, W> {
     pub fn commit(&mut self, prepared: Prepared) -> Result<Done, Refusal>
         requires { IsReadyFor W.weight_of (kept_station_of K.kept self.old) prepared }
         ensures answer { CommitsPrepared (kept_station_of K.kept self.old) prepared result (kept_station_of K.kept self.new) }
+        ensures unput { OnErr result (K.found (keeper_of self.new) ≡ K.found (keeper_of self.old)) }
         ensures rose { result ≡ Err KeepFailed → K.failures (keeper_of self.old) < K.failures (keeper_of self.new) }
         ensures told { K.failures (keeper_of self.old) < K.failures (keeper_of self.new) → result ≡ Err KeepFailed }
         ensures never_falls { K.failures (keeper_of self.old) ≤ K.failures (keeper_of self.new) }
@@ -182,6 +185,7 @@ impl<K: Keeper, W: Weigh> Station<K, W> {
     /// As these two tell. The station is unchanged then, but for the keeper's count of failures.
     pub fn step(&mut self, act: Act, now: u64, weigher: &W) -> Result<Done, Refusal>
         ensures goes { AnswersAct W.weight_of (kept_station_of K.kept self.old) act now result (kept_station_of K.kept self.new) }
+        ensures unput { OnErr result (K.found (keeper_of self.new) ≡ K.found (keeper_of self.old)) }
         ensures failed { result ≡ Err KeepFailed → K.failures (keeper_of self.old) < K.failures (keeper_of self.new) }
         ensures told { K.failures (keeper_of self.old) < K.failures (keeper_of self.new) → result ≡ Err KeepFailed }
         ensures never_falls { K.failures (keeper_of self.old) ≤ K.failures (keeper_of self.new) }

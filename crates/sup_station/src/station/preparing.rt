@@ -97,6 +97,7 @@ impl<K: Keeper, W: Weigh> Station<K, W> {
     // Makes a restart ready.
     pub(super) fn prepare_restart(&mut self, now: u64, weigher: &W) -> Result<Prepared, Refusal>
         ensures same { kept_station_of K.kept self.new ≡ kept_station_of K.kept self.old }
+        ensures found { K.found (keeper_of self.new) ≡ K.found (keeper_of self.old) }
         ensures answer { IsPreparedOrRefused W.weight_of (kept_station_of K.kept self.old) Restart now result }
         ensures counts { CountsLoad K.failures K.failing K.sound K.readable (keeper_of self.old) (keeper_of self.new) result }
     {

@@ -32,6 +32,7 @@ pub(super) fn text_of(alloc: Global, image: &Image) -> Result<ArrayText, AllocEr
 pub(super) fn save_text<K: Keeper>(keeper: &mut K, text: &[u8]) -> Result<(), Refusal>
     ensures leaves { OnOk result (K.kept keeper.new ≡ text.now) }
     ensures refused { OnErr result (K.kept keeper.new ≡ K.kept keeper.old) }
+    ensures unput { OnErr result (K.found keeper.new ≡ K.found keeper.old) }
     ensures reason { IfErr result (λ r. IsKeepRefusal r) }
     ensures counts { CountsSave K.failures K.failing K.sound K.readable keeper.old keeper.new result }
 {

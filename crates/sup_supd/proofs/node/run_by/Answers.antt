@@ -17,7 +17,9 @@ returns-in-Ok g c =
         begins = c.in-Ok.ensures.begins;
         uncounted = c.in-Ok.ensures.uncounted;
         serves = rw c.as_slice.ensures.value at c.serve-end.ensures;
-        leaves = refl;
+        kept = refl;
+        failed = refl;
+        lost = refl;
       },
       c.end_with-ended.ensures,
     )
