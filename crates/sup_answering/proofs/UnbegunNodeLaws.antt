@@ -19,7 +19,7 @@ use Rattle.sup_node.specs.NodeSteps.{restart_of, stopped_by}
 use Rattle.sup_node.specs.Texts.{IsImageReadAs}
 use Rattle.sup_station.specs.KeptStations.{KeptStation, FailsToSave, IsForeign, IsOthers, RefusesAct, RefusesRestart}
 use Rattle.sup_answering.specs.AnsweringNodes.{RisesWhere}
-use Rattle.sup_answering.specs.BegunNodes.{BeginsNode, IsImageFault, IsNoBegin, IsOthersImage, IsUnkept, LeavesKept, stopped}
+use Rattle.sup_answering.specs.BegunNodes.{BeginsNode, IsImageFault, IsNoBegin, IsOthersImage, IsUnkept, LeavesKept, Standing, stopped}
 use Rattle.sup_answering.specs.declared.begin.BeginFault.{BeginFault}
 use Rattle.sup_answering.specs.declared.begin.BeginFault.TheVariants.{BadImage, OthersImage, Refused, NoMemory}
 use Rattle.sup_answering.proofs.CountLaws.{rises_where}
@@ -83,14 +83,20 @@ no_refusal fault r e = λ f. cc
 kept_none : (fault : BeginFault) (refusal : Refusal) → (refusal ≢ BadMessage → fault ≡ Refused refusal) → refusal ≡ KeepFailed → IsUnkept fault
 kept_none fault refusal refused e = let other : refusal ≢ BadMessage = λ f. cc in refused other ∙ ap (λ (r : Refusal). Refused r) e
 
+pub standing_same : (old new : Standing) → old.kept ≡ new.kept → old.found ≡ new.found → old ≡ new
+standing_same old new kept found = λ i. record { kept = kept i; found = found i }
+
 module _ (g : Weigher) (is_new : Bool) (name : Bytes) (config : Config) (kept : Bytes) where
-  -- what is kept is the old
-  pub leaves_old : (fault : BeginFault) (left : Bytes) → left ≡ kept → (fault ≡ NoMemory → (is_new ≡ false) × RefusesAct g (stopped name config kept) None Restart 0 BadMessage)
-      → LeavesKept g is_new name config kept fault left
-  leaves_old (BadImage fault) left e why = e
-  leaves_old OthersImage left e why = e
-  leaves_old (Refused refusal) left e why = e
-  leaves_old NoMemory left e why = let w = why refl in inl (w.0, w.1, e)
+  standing : Option Bytes → Standing
+  standing found = record { kept = kept; found = found }
+
+  -- what stands is the old
+  pub leaves_old : (found : Option Bytes) (fault : BeginFault) (left : Standing) → left ≡ standing found → (fault ≡ NoMemory → (is_new ≡ false) × RefusesAct g (stopped name config kept) None Restart 0 BadMessage)
+      → LeavesKept g is_new name config (standing found) fault left
+  leaves_old found (BadImage fault) left e why = e
+  leaves_old found OthersImage left e why = e
+  leaves_old found (Refused refusal) left e why = e
+  leaves_old found NoMemory left e why = let w = why refl in inl (w.0, w.1, e)
 
   wants_memory : (is : Bool) (fault : BeginFault) → fault ≡ NoMemory → IsNoBegin g is name config kept fault
   wants_memory true fault e = subst (λ (f : BeginFault). IsNoBegin g true name config kept f) (sym e) tt
@@ -111,12 +117,14 @@ module _ (g : Weigher) (is_new : Bool) (name : Bytes) (config : Config) (kept : 
       (subst (λ (s : KeptStation). BeginsNode g is_new name config kept s text) (ap shown (sym same)) begins)
 
   -- and what is kept is that of the node that had begun
-  pub leaves_begun : {B U S : Type 0} (fault_of : U → BeginFault) (station_of : U → S) (shown : S → KeptStation) (station : S) (text : List ℕ) (result : Result B U)
+  pub leaves_begun : {B U S : Type 0} (found : Option Bytes) (fault_of : U → BeginFault) (station_of : U → S) (shown : S → KeptStation) (found_of : S → Option Bytes) (station : S) (text : List ℕ)
+      (result : Result B U)
       → BeginsNode g is_new name config kept (shown station) text → IfErr result (λ u. fault_of u ≡ NoMemory) → IfErr result (λ u. station_of u ≡ station)
-      → IfErr result (λ u. LeavesKept g is_new name config kept (fault_of u) (shown (station_of u)).kept)
-  leaves_begun fault_of station_of shown station text (Ok b) begins e same = tt
-  leaves_begun fault_of station_of shown station text (Err u) begins e same =
-      subst (λ (f : BeginFault). LeavesKept g is_new name config kept f (shown (station_of u)).kept) (sym e) (inr (shown station, text, begins, ap (λ s. (shown s).kept) same))
+      → IfErr result (λ u. LeavesKept g is_new name config (standing found) (fault_of u) (record { kept = (shown (station_of u)).kept; found = found_of (station_of u) }))
+  leaves_begun found fault_of station_of shown found_of station text (Ok b) begins e same = tt
+  leaves_begun found fault_of station_of shown found_of station text (Err u) begins e same =
+      subst (λ (f : BeginFault). LeavesKept g is_new name config (standing found) f (record { kept = (shown (station_of u)).kept; found = found_of (station_of u) })) (sym e)
+          (inr (shown station, text, begins, ap (λ s. (shown s).kept) same))
 
 -- nor is it counted
 pub uncounted : {B U S : Type 0} (fault_of : U → BeginFault) (station_of : U → S) (count_of : S → ℕ) (before : ℕ) (station : S) (result : Result B U)

@@ -4,7 +4,7 @@ use Rattle.sup_replica.specs.declared.refusal.Refusal.TheVariants.{KeepFailed}
 use Rattle.sup_station.specs.KeptStations.{AnswersAct, KeptStation, RefusesAct, RefusesRestart, keeper_of, kept_station_of}
 use Rattle.sup_answering.specs.AnsweringNodes.{RisesWhere}
 use Rattle.sup_answering.specs.BegunNodes.{FailsAtSave, IsNoBegin, IsUnkept, stopped}
-use Rattle.sup_answering.proofs.UnbegunNodeLaws.{begins_with, counted, leaves_begun, leaves_old, refused_bad, unanswered, uncounted, unsaved, unstopped, fails_given}
+use Rattle.sup_answering.proofs.UnbegunNodeLaws.{begins_with, counted, leaves_begun, leaves_old, refused_bad, standing_same, unanswered, uncounted, unsaved, unstopped, fails_given}
 use Rattle.sup_answering.proofs.begin.go_on.Goals as goal
 
 pub restart_fault-fault-requires : goal.restart_fault-fault-requires
@@ -20,8 +20,9 @@ returns-in-Err-clause-fault g c =
 
 pub returns-in-Err-clause-leaves : goal.returns-in-Err-clause-leaves
 returns-in-Err-clause-leaves g c =
-    leaves_old g.W.Weigh.weight_of false c.args.name c.args.config (g.K.Keeper.kept c.args.keeper) c.restart_fault-fault.result _
-    (ap (λ (s : KeptStation). s.kept) (c.in-Err.ensures.goes.0 ∙ c.stopped-station.ensures.still))
+    leaves_old g.W.Weigh.weight_of false c.args.name c.args.config (g.K.Keeper.kept c.args.keeper) (g.K.Keeper.found c.args.keeper) c.restart_fault-fault.result _
+    (standing_same _ _ (ap (λ (s : KeptStation). s.kept) (c.in-Err.ensures.goes.0 ∙ c.stopped-station.ensures.still))
+        (c.in-Err.ensures.unput ∙ ap g.K.Keeper.found c.stopped-station.ensures.keeper))
     (λ e. (refl, refused_bad g.W.Weigh.weight_of _ _ c.in-Err.refusal c.stopped-station.ensures.still c.in-Err.ensures.goes.1 (c.restart_fault-fault.ensures.wants e)))
 
 pub returns-in-Err-clause-counted : goal.returns-in-Err-clause-counted
@@ -44,7 +45,8 @@ returns-in-Ok-clause-fault g c =
 pub returns-in-Ok-clause-leaves : goal.returns-in-Ok-clause-leaves
 returns-in-Ok-clause-leaves g c =
     let begins = subst (λ (s : KeptStation). AnswersAct g.W.Weigh.weight_of s Restart 0 (Ok c.in-Ok.done) (kept_station_of g.K.Keeper.kept c.step.new.self)) c.stopped-station.ensures.still c.in-Ok.ensures.goes in
-    leaves_begun g.W.Weigh.weight_of false c.args.name c.args.config (g.K.Keeper.kept c.args.keeper) (λ u. u.fault) (λ u. u.station) (λ s. kept_station_of g.K.Keeper.kept s)
+    leaves_begun g.W.Weigh.weight_of false c.args.name c.args.config (g.K.Keeper.kept c.args.keeper) (g.K.Keeper.found c.args.keeper) (λ u. u.fault) (λ u. u.station) (λ s. kept_station_of g.K.Keeper.kept s)
+    (λ s. g.K.Keeper.found (keeper_of s))
     c.step.new.self _ c.begun_with.result (c.in-Ok.done, begins, refl) c.begun_with.ensures.fault c.begun_with.ensures.left
 
 pub returns-in-Ok-clause-counted : goal.returns-in-Ok-clause-counted

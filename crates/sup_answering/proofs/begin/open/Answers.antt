@@ -6,7 +6,7 @@ use Rattle.sup_told.specs.Told.{told_text}
 use Rattle.sup_answering.specs.AnsweringNodes.{RisesWhere}
 use Rattle.sup_answering.specs.BegunNodes.{IsNoBegin, IsUnkept, stopped}
 use Rattle.sup_answering.specs.declared.begin.BeginFault.{BeginFault}
-use Rattle.sup_answering.proofs.UnbegunNodeLaws.{begins_with, counted, leaves_begun, leaves_old, unanswered, uncounted, unlacking, unstopped}
+use Rattle.sup_answering.proofs.UnbegunNodeLaws.{begins_with, counted, leaves_begun, leaves_old, standing_same, unanswered, uncounted, unlacking, unstopped}
 use Rattle.sup_answering.proofs.begin.open.Goals as goal
 
 pub returns-in-Err-clause-fault : goal.returns-in-Err-clause-fault
@@ -15,8 +15,8 @@ returns-in-Err-clause-fault g c =
 
 pub returns-in-Err-clause-leaves : goal.returns-in-Err-clause-leaves
 returns-in-Err-clause-leaves g c =
-    leaves_old g.W.Weigh.weight_of true c.args.name c.args.config (g.K.Keeper.kept c.args.keeper) c.unopened.result.fault _
-    (ap g.K.Keeper.kept c.unopened.ensures.keeper ∙ c.in-Err.ensures.refused) (λ e. absurd (unlacking _ _ c.unopened.ensures.fault e))
+    leaves_old g.W.Weigh.weight_of true c.args.name c.args.config (g.K.Keeper.kept c.args.keeper) (g.K.Keeper.found c.args.keeper) c.unopened.result.fault _
+    (standing_same _ _ (ap g.K.Keeper.kept c.unopened.ensures.keeper ∙ c.in-Err.ensures.refused) (ap g.K.Keeper.found c.unopened.ensures.keeper ∙ c.in-Err.ensures.unput)) (λ e. absurd (unlacking _ _ c.unopened.ensures.fault e))
 
 pub returns-in-Err-clause-counted : goal.returns-in-Err-clause-counted
 returns-in-Err-clause-counted g c =
@@ -35,7 +35,8 @@ returns-clause-fault g c =
 
 pub returns-clause-leaves : goal.returns-clause-leaves
 returns-clause-leaves g c =
-    leaves_begun g.W.Weigh.weight_of true c.args.name c.args.config (g.K.Keeper.kept c.args.keeper) (λ u. u.fault) (λ u. u.station) (λ s. kept_station_of g.K.Keeper.kept s)
+    leaves_begun g.W.Weigh.weight_of true c.args.name c.args.config (g.K.Keeper.kept c.args.keeper) (g.K.Keeper.found c.args.keeper) (λ u. u.fault) (λ u. u.station) (λ s. kept_station_of g.K.Keeper.kept s)
+    (λ s. g.K.Keeper.found (keeper_of s))
     c.in-Ok.station _ c.begun_with.result (c.in-Ok.ensures.opens, ap (λ effects. told_text (Ok (record { reply = Boot 1; effects = effects; out = None }))) (c.new-3.ensures ∙ c.new-2.ensures.items)) c.begun_with.ensures.fault c.begun_with.ensures.left
 
 pub returns-clause-counted : goal.returns-clause-counted
