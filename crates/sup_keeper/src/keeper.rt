@@ -33,7 +33,8 @@ pub trait Keeper: Drop {
     // The bytes that are kept.
     ghost kept: { Self → Bytes };
 
-    // What stands where they are kept: none where nothing was put there yet, which keeps no bytes, as empty ones do.
+    // What stands where they are kept. None says that nothing was put there yet, which keeps no bytes, as empty ones do; a keeper that
+    // doesn't tell the two apart says that empty ones stand there.
     ghost found: { Self → Option Bytes };
 
     // How often it has failed.

@@ -1,6 +1,6 @@
 //! A host over a reader and a writer.
 
-ghost use Rattle.std.specs.Prelude.{◌≡◌, true, false, None};
+ghost use Rattle.std.specs.Prelude.{◌≡◌, true, false, None, OnOk};
 ghost use Rattle.sup_talk.specs.Hosts.{Seen, Hears, IsTold};
 
 use crate::host::Host;
@@ -67,6 +67,7 @@ impl<R: Read + Drop, W: Write + Drop> Host for Streams<R, W> {
     fn tell(&mut self, text: &[u8]) -> Result<(), DeviceFault>
         ensures told { IsTold result self.old self.new text.now }
         ensures broken { self.old.is_broken ≡ true → self.new.is_broken ≡ true }
+        ensures sound { OnOk result (self.new.is_broken ≡ self.old.is_broken) }
     {
         let told = put_all(&mut self.writer, text);
         if told.is_err() {
