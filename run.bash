@@ -31,19 +31,21 @@ is_built() {
   [ -z "$(find "${folders[@]}" -newer "$program" -type f -print -quit)" ]
 }
 
-# Proves and builds the program, and runs it once with no words and no input.
+# Proves and builds the program, and runs it once with no words and no input. It gets the time at which that began: what changed since is newer.
 build() {
-  local log
+  local log began
   log=$(mktemp "${TMPDIR:-/tmp}/$1-build-XXXXXX")
+  began=$(mktemp "${TMPDIR:-/tmp}/$1-began-XXXXXX")
   echo "$1: proving and building the program, an hour or more the first time; the log is $log" >&2
   (cd "$top/crates/$1" && rt run) >"$log" 2>&1 </dev/null
   if ! grep -q '^rt: running ' "$log"; then
     cat "$log" >&2
     echo "$1: the program could not be built; the log is $log" >&2
+    rm -f "$began"
     exit 125
   fi
-  rm -f "$log"
-  touch "$top/crates/$1/out/$1"
+  touch -r "$began" "$top/crates/$1/out/$1"
+  rm -f "$log" "$began"
 }
 
 run_proved() {

@@ -99,7 +99,7 @@ class Trials:
     def kills(self):
         """All that was told is there, and nothing but the one command that was not answered may be beside it."""
         image = self.folder / "killed.image"
-        told, unknown, number, newer, boot = set(), set(), 0, 0, 0
+        told, unknown, number, newer, boot = set(), {}, 0, 0, 0
         for _ in range(self.asked.kills):
             node = self.node(image)
             demand(node.first and node.first[0].startswith("ok boot "), "it began with", node.first)
@@ -107,9 +107,9 @@ class Trials:
             boot = int(node.first[0].split()[2])
             there = node.children()
             demand(told <= there, "told and lost:", told - there)
-            demand(there - told <= unknown, "nobody asked for:", there - told - unknown)
-            newer += len(there ^ told)
-            told, unknown = there, set()
+            demand(there - told <= unknown.keys(), "nobody asked for:", there - told - unknown.keys())
+            newer += sum((id in there) != is_delete for id, is_delete in unknown.items())
+            told, unknown = there, {}
             number = self.until_killed(node, told, unknown, number)
             demand(is_whole(image), "a mix")
         return f"{self.asked.kills} kills over {number} starts, {newer} commands saved and not told, {len(told)} children"
@@ -128,7 +128,7 @@ class Trials:
             got = node.answer()
             if got is None:
                 told.discard(id)
-                unknown.add(id)
+                unknown[id] = gone is not None
             else:
                 demand(got[0].startswith("ok"), id, got)
                 (told.discard if gone else told.add)(id)
@@ -402,7 +402,7 @@ class Played(random_scripts.Script):
             messages += 2
             effects += self.carried("deliver", sender, [str(len(self.letters[sender]))])
             self.carried("deliver", to, [str(len(self.letters[to]))])
-        return [f"ok settled {messages}"] + [line for line in effects if line.startswith("  ") and line.split()[1] in ("start", "stop")]
+        return [f"ok settled {messages}"] + [line for line in effects if line.startswith("  ") and rules.is_effect(line)]
 
 
 def main():

@@ -27,6 +27,12 @@ def refuse_if(wrong, name):
         raise Refused(name)
 
 
+def is_effect(line):
+    """Whether a line behind an answer tells a start or a stop, and not a letter, which may be of a node of such a name."""
+    words = line.split()
+    return words[1] in ("start", "stop") and words[3] != "to"
+
+
 def dot_text(dot):
     return f"({dot[1]},{dot[0]})"  # a dot is (counter, node), so that dots are in their order
 
@@ -342,7 +348,7 @@ class World:
                     raise
                 continue
             messages += 2
-            effects += [line for line in self.deliver(sender, len(self.sent[sender])) if line.split()[1] in ("start", "stop")]
+            effects += [line for line in self.deliver(sender, len(self.sent[sender])) if is_effect(line)]
             self.deliver(to, len(self.sent[to]))
         return [f"ok settled {messages}"] + effects
 
