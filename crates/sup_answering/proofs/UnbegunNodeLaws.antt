@@ -124,7 +124,7 @@ module _ (g : Weigher) (is_new : Bool) (name : Bytes) (config : Config) (kept : 
   leaves_begun found fault_of station_of shown found_of station text (Ok b) begins e same = tt
   leaves_begun found fault_of station_of shown found_of station text (Err u) begins e same =
       subst (λ (f : BeginFault). LeavesKept g is_new name config (standing found) f (record { kept = (shown (station_of u)).kept; found = found_of (station_of u) })) (sym e)
-          (inr (shown station, text, begins, ap (λ s. (shown s).kept) same))
+      (inr (shown station, text, begins, ap (λ s. (shown s).kept) same))
 
 -- nor is it counted
 pub uncounted : {B U S : Type 0} (fault_of : U → BeginFault) (station_of : U → S) (count_of : S → ℕ) (before : ℕ) (station : S) (result : Result B U)

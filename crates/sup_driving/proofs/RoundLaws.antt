@@ -1,5 +1,5 @@
 -- What a pass has called and the runner was told, one effect, one call or one round more.
-use Rattle.std.proofs.Common.{◌≡◌, ◌≢◌, ℕ, suc, Bool, true, false, List, [], ◌∷◌, ◌++◌, map, flat_map, append_assoc, append-nil, arith, refl, ap, ◌∙◌, sym, subst}
+use Rattle.std.proofs.Common.{◌≡◌, ◌≢◌, ℕ, suc, Bool, true, false, Option, None, Some, List, [], ◌∷◌, ◌++◌, map, flat_map, append_assoc, append-nil, arith, refl, ap, ◌∙◌, sym, subst}
 use Rattle.std.proofs.lemmas.Grind.{flat_map-append}
 use mathlib.Core.Logic.{dite}
 use mathlib.Core.Option.{some}
@@ -7,7 +7,7 @@ use native.Mathlib.Decide.{ℕ_discrete}
 use Rattle.sup_specs.specs.Values.{Bytes}
 use Rattle.sup_specs.specs.declared.child.ChildSpec.{ChildSpec}
 use Rattle.sup_local_sup.specs.declared.effect.Effect.{Effect}
-use Rattle.sup_local_sup.specs.declared.effect.Effect.TheVariants.{Stop, Start}
+use Rattle.sup_local_sup.specs.declared.effect.Effect.TheVariants.{Start}
 use Rattle.sup_local_sup.specs.declared.effect.Incarnation.{Incarnation}
 use Rattle.sup_replica.specs.declared.event.Act.{Act}
 use Rattle.sup_node_gate.specs.declared.entry.Entry.{Entry}
@@ -17,9 +17,9 @@ use Rattle.sup_node_gate.specs.Views.{calls_of}
 use Rattle.sup_plan.specs.Calls.{Call}
 use Rattle.sup_posts.specs.NodeCalls.{MadeCall}
 use Rattle.sup_posts.specs.Requests.{Unasked}
-use Rattle.sup_posts.specs.Rounds.{IsDone, TellsRunner, IsRound, MakesCalls, StoodByAll, failed}
+use Rattle.sup_posts.specs.Rounds.{ChildIncarnation, IsDone, TellsRunner, IsRound, MakesCalls, StoodByAll, failed}
 use Rattle.sup_posts.proofs.ItemLaws.{zip_append}
-use Rattle.sup_driving.specs.Called.{TellsEffects, effects_in}
+use Rattle.sup_driving.specs.Called.{AsksRunner, TellsEffects, effects_in}
 
 -- the places of one command more
 pub stood_more : (stood : ℕ → Type 0) (n : ℕ) → StoodByAll stood n → stood (suc n) → StoodByAll stood (suc n)
@@ -28,6 +28,11 @@ stood_more stood n s one place lt = dite (ℕ_discrete place n)
     (λ apart. s place (omega (arith, lt, apart)))
 
 module _ (did : Effect → Bool → Type 0) where
+  -- no run was answered not to have started
+  pub asked_done : (effect : Effect) (run : Option ChildIncarnation) → ((r : ChildIncarnation) → run ≢ Some r) → AsksRunner did effect run → IsDone did effect
+  asked_done effect None none asked = asked
+  asked_done effect (Some r) none asked = absurd (none r refl)
+
   skip : (now : ℕ) (effect : Effect) (effects : List Effect) (es : List Entry) → IsDone did effect → TellsRunner did now effects es → TellsRunner did now (effect ∷ effects) es
   skip now effect effects [] d t = (d, t)
   skip now effect effects (e ∷ es) d t = let f = t.1 in (

@@ -22,7 +22,7 @@ pub returns-in-Err-clause-leaves : goal.returns-in-Err-clause-leaves
 returns-in-Err-clause-leaves g c =
     leaves_old g.W.Weigh.weight_of false c.args.name c.args.config (g.K.Keeper.kept c.args.keeper) (g.K.Keeper.found c.args.keeper) c.restart_fault-fault.result _
     (standing_same _ _ (ap (λ (s : KeptStation). s.kept) (c.in-Err.ensures.goes.0 ∙ c.stopped-station.ensures.still))
-        (c.in-Err.ensures.unput ∙ ap g.K.Keeper.found c.stopped-station.ensures.keeper))
+    (c.in-Err.ensures.unput ∙ ap g.K.Keeper.found c.stopped-station.ensures.keeper))
     (λ e. (refl, refused_bad g.W.Weigh.weight_of _ _ c.in-Err.refusal c.stopped-station.ensures.still c.in-Err.ensures.goes.1 (c.restart_fault-fault.ensures.wants e)))
 
 pub returns-in-Err-clause-counted : goal.returns-in-Err-clause-counted
