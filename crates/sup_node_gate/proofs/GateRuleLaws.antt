@@ -21,7 +21,7 @@ use Rattle.sup_node_gate.specs.Views.{IsAmongPlaces, PlacesRise, newcomer, takin
 use Rattle.sup_node_gate.specs.Rule.{OpensAt, SavesAll, FitsView, HasTurn, IsHeldBy, AllApart, AllOwned, all_shares, RuleHolds, IsSeenAt, took, raised, gave_back, looked, HasUncountedEntry}
 use Rattle.sup_node_gate.specs.Shares.{IsWhole, is_shared}
 use Rattle.sup_node_gate.proofs.ShareLaws.{first_whole, true_false}
-use Rattle.sup_node_gate.proofs.ViewShareLaws.{whole_stays}
+use Rattle.sup_node_gate.proofs.ViewShareLaws.{whole_stays, taken_apart}
 use Rattle.sup_node_gate.proofs.HistoryListLaws.{prefix_refl, prefix_longer, replays_one, saved_one, rises_more, rises_one, stands_below, stands_append, set_at, views_stay, apart_stays, held_stays, owned_stays, owned_one}
 
 opens_at : (o : P.Option Parts) (start x : Parts) → OpensAt o start → o ≡ Some x → x ≡ start
@@ -132,13 +132,13 @@ module _ {H : Type 0} where
       (r.held, refl, sym r.counted, seen_at s r id me.0 at, λ h e. sym (of_turn s r id me.0 h at e).2),
     )
 
-    pub takes_turn : (slots id : ℕ) (me : Me (P.Option H) View) → is_some me.0.turn ≡ false → Allows (RuleHolds sight g start bound) slots id me 1 (λ n. either (eqb n 0) 1 n) (took sight g (step slots 1 0 1 none) me)
-    takes_turn slots id me idle s r _ at _ = exchanged (get_or s.words 1 0) 0 1
+    pub takes_turn : (slots id : ℕ) (me : Me (P.Option H) View) → is_some me.0.turn ≡ false → is_shared me.0.shares ≡ true → Allows (RuleHolds sight g start bound) slots id me 1 (λ n. either (eqb n 0) 1 n) (took sight g (step slots 1 0 1 none) me)
+    takes_turn slots id me idle shared s r _ at _ = exchanged (get_or s.words 1 0) 0 1
         (λ (z : ℕ). (w : View) × (a : T.Act (P.Option H)) × Valid s.homes me.1 a × RuleHolds sight g start bound (stepped s 1 z id me.1 w a)
         × took sight g (step slots 1 0 1 none) me (get_or s.words 1 0) (w, carried_after me.1 a))
         (λ (z : get_or s.words 1 0 ≡ 0). let home = r.free z in let h = home.0 in let held = sight h in let like : IsLike held r.held = home.2 in let w = taking me.0 held in let two = r.two in
         let now : get_or (set s.words 1 1) 1 0 ≡ 1 = get_or-set_same s.words 1 1 0 (omega arith) in
-        let fits : (j : ℕ) (d : View) → get_elem? s.views j ≡ some d → FitsView start held.history d = λ j d there. subst (λ (l : List Entry). FitsView start l d) (sym like.0) (r.each_view j d there) in (
+        let fits : (j : ℕ) (d : View) → get_elem? s.views j ≡ some d → FitsView start held.history d = λ j d there. subst (λ (l : List Entry). FitsView start l d) (sym like.0) (r.each_view j d there) in let mine = fits id me.0 at in (
           w,
           takes 0 (Some h),
           home.1,
@@ -152,7 +152,7 @@ module _ {H : Type 0} where
             counted = get_or-set_other s.words 1 0 1 0 (λ e. omega arith) ∙ (r.counted ∙ ap length (sym like.0));
             free = λ e. absurd (omega arith);
             taken = λ _. (w, held, set_at s.views id me.0 w at, refl);
-            each_view = views_stay (λ _ d. FitsView start held.history d) s.views id w (fits id me.0 at) (λ j d _. fits j d);
+            each_view = views_stay (λ _ d. FitsView start held.history d) s.views id w (mine.0, mine.1, mine.2, mine.3, λ bare. absurd (true_false (sym shared ∙ bare))) (λ j d _. fits j d);
             each_turn = views_stay (λ j d. HasTurn held (get_or (set s.words 1 1) 1 0) id j d.turn) s.views id w (now, refl, refl)
                 (λ j d _ there. turns_none r.held held (get_or s.words 1 0) _ r.holder id j d.turn z (r.each_turn j d there));
             apart = apart_stays s.views id me.0 w at refl r.apart;
@@ -161,18 +161,18 @@ module _ {H : Type 0} where
           },
           (held, seen_like me.0 held r.held like (seen_at s r id me.0 at), (λ _. (h, refl, refl)), (λ n. absurd (n z))),
         ))
-        (λ (n : get_or s.words 1 0 ≢ 0). let by = r.taken n in let h = by.1 in let w = losing me.0 r.held in (
+        (λ (n : get_or s.words 1 0 ≢ 0). let w = losing me.0 r.held in (
           w,
           keeps,
           tt,
           unmoved s r 1 id me.1 me.0 w at refl refl refl (r.each_view id me.0 at),
-          (r.held, seen_at s r id me.0 at, (λ z. absurd (n z)), (λ _. refl)),
+          (r.held, seen_at s r id me.0 at, (λ z. absurd (n z)), (λ _. (refl, taken_apart s.views id r.holder me.0 at idle (r.taken n) (λ j d there. (r.each_view j d there).4) r.whole))),
         ))
 
     pub gives_back : (slots id : ℕ) (me : Me (P.Option H) View) (h : H) (held : Holding) → 0 < slots → me.0.turn ≡ Some held → IsLike (sight h) held → me.1 ≡ (0, Some h) ∷ []
         → Allows (RuleHolds sight g start bound) slots id me 1 (λ _. 0) (λ _. gave_back (step slots 1 0 0 none) me 0)
     gives_back slots id me h held some_slot has like out s r count at _ =
-        let w = freeing me.0 in let two = r.two in let t = of_turn s r id me.0 held at has in let now : get_or (set s.words 1 0) 1 0 ≡ 0 = get_or-set_same s.words 1 0 0 (omega arith) in (
+        let w = freeing me.0 in let two = r.two in let f = r.each_view id me.0 at in let t = of_turn s r id me.0 held at has in let now : get_or (set s.words 1 0) 1 0 ≡ 0 = get_or-set_same s.words 1 0 0 (omega arith) in (
           w,
           gives,
           tt,
@@ -190,7 +190,7 @@ module _ {H : Type 0} where
               subst (IsLike (sight h)) t.2 like,
             );
             taken = λ n. absurd (n now);
-            each_view = views_stay (λ _ d. FitsView start r.held.history d) s.views id w (r.each_view id me.0 at) (λ j d _. r.each_view j d);
+            each_view = views_stay (λ _ d. FitsView start r.held.history d) s.views id w (f.0, f.1, f.2, f.3, λ bare. ((f.4 bare).0, refl)) (λ j d _. r.each_view j d);
             each_turn = views_stay (λ j d. HasTurn r.held (get_or (set s.words 1 0) 1 0) id j d.turn) s.views id w tt
                 (λ j d other there. turns_other r.held r.held (get_or s.words 1 0) _ r.holder id j d.turn (λ e. other (e ∙ sym t.1)) (r.each_turn j d there));
             apart = apart_stays s.views id me.0 w at refl r.apart;
@@ -254,7 +254,7 @@ module _ {H : Type 0} where
       counted = refl;
       free = λ _. (h, refl, like);
       taken = λ n. absurd (n refl);
-      each_view = λ j v there. subst (λ (d : View). FitsView start [] d) (only opening j v there) (starts, ([], refl), ([], refl), zero-le, λ _. refl);
+      each_view = λ j v there. subst (λ (d : View). FitsView start [] d) (only opening j v there) (starts, ([], refl), ([], refl), zero-le, λ _. (refl, refl));
       each_turn = λ j v there. subst (λ (d : View). HasTurn record { history = []; parts = opening } 0 0 j d.turn) (only opening j v there) tt;
       apart = λ i j p v u at_i at_j in_v in_u. absurd (subst (λ (d : View). IsAmongPlaces p d.own) (sym (only opening i v at_i)) in_v);
       owned = λ p lt. absurd (omega (arith, lt));

@@ -1,6 +1,6 @@
 -- A split and a join keep the rule, and what the table's last state tells.
 use Rattle.std.proofs.Common.{◌≡◌, ℕ, zero, suc, ◌≤◌, ◌≢◌, ◌⊎◌, List, [], ◌∷◌, ◌++◌, map, length, get_or, set, sym, refl, ap, ◌∙◌, subst, inl, inr, ⊎_elim, zero-le, None, Some}
-use Rattle.std.specs.Prelude.{is_some, true, false, IfSome}
+use Rattle.std.specs.Prelude.{is_some, false, IfSome}
 use Rattle.std.specs.declared.option.Option as P
 use mathlib.Core.Logic.{dite}
 use mathlib.Core.Option.{some, some-injective, some-ne-none}
@@ -16,10 +16,9 @@ use Rattle.sup_node_gate.specs.Views.{IsAmongPlaces, calls_of, merged, first, se
 use Rattle.sup_node_gate.specs.Rule.{FitsView, HasTurn, IsHeldBy, AllApart, AllOwned, OwnsByShare, RuleHolds}
 use Rattle.sup_node_gate.proofs.GateRuleLaws.{with_views}
 use Rattle.sup_node_gate.proofs.HistoryListLaws.{set_at, views_stay, apart_stays, held_stays, owned_stays, owned_more}
-use Rattle.sup_node_gate.specs.Shares.{is_shared}
 use Rattle.sup_node_gate.specs.Gates.{IsSole}
 use Rattle.sup_node_gate.proofs.ShareLaws.{shared_halved, none_left, none_right}
-use Rattle.sup_node_gate.proofs.ViewShareLaws.{whole_split, whole_joined, sole_calls}
+use Rattle.sup_node_gate.proofs.ViewShareLaws.{free_has, whole_split, whole_joined, sole_calls}
 use Rattle.sup_node_gate.proofs.PlaceListLaws.{stands_merged, rises_merged, merged_left, merged_right}
 
 pub index_at : {A : Type 0} (l : List A) (i : ℕ) (a d : A) → get_elem? l i ≡ some a → get_or l i d ≡ a
@@ -59,11 +58,8 @@ joined_owned vs id other n v u at there owned not p lt =
     (λ (e : o.0 ≡ other). let is : u ≡ o.1 = some-injective u o.1 (sym there ∙ subst (λ (z : ℕ). get_elem? vs z ≡ some o.1) e o.2) in (id, joining v u, both, merged_right u.own v.own p (subst (λ (w : View). IsAmongPlaces p w.own) (sym is) o.3)))
     (λ ne. (o.0, o.1, set_else (set vs id (joining v u)) other o.0 spent ne ∙ (set_else vs id o.0 (joining v u) here ∙ o.2), o.3)))
 
-joined_none : (v u : View) → OwnsByShare v → OwnsByShare u → is_shared (v.shares ++ u.shares) ≡ false → merged v.own u.own ≡ []
-joined_none v u a b bare = let left = a (none_left v.shares u.shares bare) in let right = b (none_right v.shares u.shares bare) in (λ i. merged (left i) (right i))
-
-free_has : (u : View) (h : Holding) → is_some u.turn ≡ false → u.turn ≡ Some h → ⊥
-free_has u h e f = let bad : true ≡ false = sym (ap is_some f) ∙ e in cc
+joined_none : (v u : View) → OwnsByShare v → OwnsByShare u → OwnsByShare (joining v u)
+joined_none v u a b bare = let left = a (none_left v.shares u.shares bare) in let right = b (none_right v.shares u.shares bare) in ((λ i. merged (left.0 i) (right.0 i)), left.1)
 
 held_without : (vs : List View) (other : ℕ) (u w : View) (holder : ℕ) → get_elem? vs other ≡ some u → is_some u.turn ≡ false → IsHeldBy vs holder → IsHeldBy (set vs other w) holder
 held_without vs other u w holder there idle b = dite (ℕ_discrete holder other)
@@ -78,7 +74,7 @@ module _ {H : Type 0} (sight : H → Holding) (g : Weigher) (start : Parts) (bou
       views_stay (λ j d. HasTurn r.held (get_or s.words 1 0) r.holder j d.turn) s.views id (first v) (r.each_turn id v at) (λ j d _. r.each_turn j d) in
       let apart = apart_stays s.views id v (first v) at refl r.apart in with_views sight g start bound s r (vs ++ second v ∷ [])
       (λ n. let b = held_stays s.views id v (first v) r.holder at refl (r.taken n) in (b.0, b.1, at_longer vs (second v ∷ []) r.holder b.0 b.2, b.3))
-      (λ j d there. ⊎_elim (views j d) (λ (t : second v ≡ d). subst (λ (x : View). FitsView start r.held.history x) t (f.0, f.1, (r.held.history, refl), zero-le, λ _. refl)) (at_snoc vs (second v) d j there))
+      (λ j d there. ⊎_elim (views j d) (λ (t : second v ≡ d). subst (λ (x : View). FitsView start r.held.history x) t (f.0, f.1, (r.held.history, refl), zero-le, λ _. (refl, refl))) (at_snoc vs (second v) d j there))
       (λ j d there. ⊎_elim (turns j d) (λ (t : second v ≡ d). subst (λ (x : View). HasTurn r.held (get_or s.words 1 0) r.holder j x.turn) t tt) (at_snoc vs (second v) d j there))
       (λ i j p a b at_i at_j in_a in_b. ⊎_elim
       (λ (x : get_elem? vs i ≡ some a). ⊎_elim (λ (y : get_elem? vs j ≡ some b). apart i j p a b x y in_a in_b) (λ (y : second v ≡ b). absurd (subst (λ (z : View). IsAmongPlaces p z.own) (sym y) in_b)) (at_snoc vs (second v) b j at_j))
@@ -91,8 +87,8 @@ module _ {H : Type 0} (sight : H → Holding) (g : Weigher) (start : Parts) (bou
       let f = r.each_view id v at in let k = r.each_view other u there in
       let rises = rises_merged u.own v.own 0 (length r.held.history) f.3 k.3 (λ q a b. not (sym (r.apart id other q v u at there a b))) in with_views sight g start bound s r (set (set s.views id both) other spent)
       (λ n. held_without (set s.views id both) other u spent r.holder there' idle (held_stays s.views id v both r.holder at refl (r.taken n)))
-      (views_stay (λ _ d. FitsView start r.held.history d) (set s.views id both) other spent (tt, (r.held.history, refl), (r.held.history, refl), zero-le, λ _. refl)
-      (λ j d _. views_stay (λ _ d. FitsView start r.held.history d) s.views id both (f.0, f.1, k.1, rises, λ bare. joined_none v u f.4 k.4 bare) (λ j d _. r.each_view j d) j d))
+      (views_stay (λ _ d. FitsView start r.held.history d) (set s.views id both) other spent (tt, (r.held.history, refl), (r.held.history, refl), zero-le, λ _. (refl, refl))
+      (λ j d _. views_stay (λ _ d. FitsView start r.held.history d) s.views id both (f.0, f.1, k.1, rises, joined_none v u f.4 k.4) (λ j d _. r.each_view j d) j d))
       (views_stay (λ j d. HasTurn r.held (get_or s.words 1 0) r.holder j d.turn) (set s.views id both) other spent tt
       (λ j d _. views_stay (λ j d. HasTurn r.held (get_or s.words 1 0) r.holder j d.turn) s.views id both (r.each_turn id v at) (λ j d _. r.each_turn j d) j d))
       (joined_apart s.views id other v u at there r.apart not)

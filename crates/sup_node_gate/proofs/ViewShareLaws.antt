@@ -1,16 +1,18 @@
--- Views and their shares: steps, splits and joins keep the whole, and a view that has all of it has made each call.
-use Rattle.std.proofs.Common.{◌≡◌, ℕ, zero, suc, ◌+◌, ◌<◌, ◌≤◌, ◌≢◌, List, [], ◌∷◌, ◌++◌, map, length, set, refl, ap, ◌∙◌, sym, subst, ⊎_elim, append_assoc, append-nil, length-append, arith}
+-- Views and their shares: steps, splits and joins keep the whole; a view that has all of it has made each call, and none beside it has the turn.
+use Rattle.std.proofs.Common.{◌≡◌, ℕ, zero, suc, ◌+◌, ◌<◌, ◌≤◌, ◌≢◌, List, [], ◌∷◌, ◌++◌, map, length, set, refl, ap, ◌∙◌, sym, subst, ⊎_elim, append_assoc, append-nil, length-append, arith, Some}
+use Rattle.std.specs.Prelude.{is_some, true, false}
 use mathlib.Core.Logic.{dite}
 use mathlib.Core.Option.{some, some-injective, some-ne-none}
 use native.Mathlib.Decide.{ℕ_discrete}
 use lib.ListN.{get_elem?}
 use Rattle.atomic_table.proofs.Lists.{set_else}
 use Rattle.sup_node_gate.specs.declared.entry.Entry.{Entry}
+use Rattle.sup_node_gate.specs.declared.view.Holding.{Holding}
 use Rattle.sup_node_gate.specs.declared.view.View.{View}
 use Rattle.sup_node_gate.specs.Histories.{IsPrefix}
 use Rattle.sup_node_gate.specs.Shares.{parts_at, AllAtMost, IsWholeAt, IsWhole, halved, is_shared}
 use Rattle.sup_node_gate.specs.Views.{IsAmongPlaces, PlacesRise, calls_of}
-use Rattle.sup_node_gate.specs.Rule.{AllOwned, OwnsByShare, all_shares}
+use Rattle.sup_node_gate.specs.Rule.{IsHeldBy, AllOwned, OwnsByShare, all_shares}
 use Rattle.sup_node_gate.proofs.HistoryListLaws.{rises_le, entries_more}
 use Rattle.sup_node_gate.proofs.PlaceListLaws.{above}
 use Rattle.sup_node_gate.proofs.ShareLaws.{parts_append, most_append, most_left, most_right, most_halved, parts_deeper, parts_halved, no_parts, whole_deeper, whole_beyond}
@@ -75,11 +77,21 @@ others_none vs id v at all mine j u other there = let n = all.0 in let m = mine.
     let c = set_parts k vs id v none at in let d = parts_among k (set vs id none) j u (set_else vs id j none other ∙ there) in
     let e = a.1 in let f = b.1 in no_parts k u.shares (omega (arith, c, d, e, f))
 
+pub free_has : (u : View) (h : Holding) → is_some u.turn ≡ false → u.turn ≡ Some h → ⊥
+free_has u h e f = let bad : true ≡ false = sym (ap is_some f) ∙ e in cc
+
+-- where an idle view has all shares none has the turn
+pub taken_apart : (vs : List View) (id holder : ℕ) (v : View) → get_elem? vs id ≡ some v → is_some v.turn ≡ false → IsHeldBy vs holder → ((j : ℕ) (u : View) → get_elem? vs j ≡ some u → OwnsByShare u) → IsWhole (all_shares vs)
+    → ¬ (IsWhole v.shares)
+taken_apart vs id holder v at idle by bare all mine = dite (ℕ_discrete holder id)
+    (λ (e : holder ≡ id). let is : v ≡ by.0 = some-injective v by.0 (sym at ∙ subst (λ (z : ℕ). get_elem? vs z ≡ some by.0) e by.2) in free_has v by.1 idle (ap (λ x. x.turn) is ∙ by.3))
+    (λ other. let none = others_none vs id v at all mine holder by.0 other by.2 in free_has by.0 by.1 (ap is_some (bare holder by.0 by.2 (ap is_shared none)).1) by.3)
+
 all_own : (vs : List View) (id n : ℕ) (v : View) → get_elem? vs id ≡ some v → AllOwned vs n → ((j : ℕ) (u : View) → get_elem? vs j ≡ some u → OwnsByShare u) → IsWhole (all_shares vs) → IsWhole v.shares
     → (p : ℕ) → p < n → IsAmongPlaces p v.own
 all_own vs id n v at owned bare all mine p lt = let o = owned p lt in dite (ℕ_discrete o.0 id)
     (λ (e : o.0 ≡ id). let is : v ≡ o.1 = some-injective v o.1 (sym at ∙ subst (λ (z : ℕ). get_elem? vs z ≡ some o.1) e o.2) in subst (λ (w : View). IsAmongPlaces p w.own) (sym is) o.3)
-    (λ other. let none = others_none vs id v at all mine o.0 o.1 other o.2 in absurd (subst (IsAmongPlaces p) (bare o.0 o.1 o.2 (ap is_shared none)) o.3))
+    (λ other. let none = others_none vs id v at all mine o.0 o.1 other o.2 in absurd (subst (IsAmongPlaces p) (bare o.0 o.1 o.2 (ap is_shared none)).0 o.3))
 
 at_middle : (before : List Entry) (e : Entry) (es : List Entry) → get_elem? (before ++ e ∷ es) (length before) ≡ some e
 at_middle [] e es = refl
