@@ -1,5 +1,5 @@
 -- A step of the world that is a delivery, from what the act of its receiver answers.
-use Rattle.std.specs.Prelude.{◌≡◌, ℕ, ◌-◌, ◌<◌, ◌==◌, Bool, true, false, List, [], length, map, slice_get, slice_index_or, slice_set, Option, Some, None, Result, Err, IsErrAnd, refl, if◌then◌else◌}
+use Rattle.std.specs.Prelude.{◌≡◌, ◌≢◌, ℕ, ◌-◌, ◌<◌, ◌==◌, Bool, true, false, List, [], length, map, slice_get, slice_index_or, slice_set, Option, Some, None, Result, Err, IsErrAnd, refl, if◌then◌else◌}
 use Rattle.std.specs.Option.{option_map, option_and_then, unwrap_or}
 use Rattle.std.specs.List.{AllZip}
 use Rattle.std.proofs.Common.{sym, ap, ◌∙◌, subst}
@@ -12,7 +12,7 @@ use Rattle.sup_replica.specs.declared.event.Act.{Act}
 use Rattle.sup_replica.specs.declared.event.Act.TheVariants.{Event as Of}
 use Rattle.sup_replica.specs.declared.letter.Letter.{Letter}
 use Rattle.sup_replica.specs.declared.refusal.Refusal.{Refusal}
-use Rattle.sup_replica.specs.declared.refusal.Refusal.TheVariants.{UnknownNode}
+use Rattle.sup_replica.specs.declared.refusal.Refusal.TheVariants.{UnknownNode, NoSuchMessage, KeepFailed}
 use Rattle.sup_replica.specs.ByTables.{by_tables}
 use Rattle.sup_replica.specs.Stations.{Mail, StationMove, receiver_of, station_step}
 use Rattle.sup_node.specs.Texts.{IsLetter, reads_as}
@@ -53,6 +53,12 @@ receiver_is sites from k at drop s name act c i is lt elem =
     let there : seen_at sites from ≡ Some s = seen_place sites from s (subst (λ j. j < length sites) is lt) ∙ ap (λ j. Some (slice_index_or sites j s)) (sym is) ∙ ap Some (sym elem) in
     ap (λ o. unwrap_or at (unwrap_or (option_map (λ (l : Letter). l.to) (option_and_then (λ (t : SeenNode). letter_of t k) o)) [])) there
     ∙ ap (λ o. unwrap_or at (unwrap_or (option_map (λ (l : Letter). l.to) o) [])) c.there ∙ sym c.to
+
+-- a letter that doesn't come is refused for no save
+pub uncome : (result : Result Answer Refusal) (r : Refusal) (s : SeenNode) (k : ℕ) → IsErrAnd result (λ x. x ≡ r) → IsNotComing s k r → result ≢ Err KeepFailed
+uncome (Ok a) r s k h n e = absurd h
+uncome (Err x) r s k h (inl n) e = let is : r ≡ NoSuchMessage = n.0 in absurd cc
+uncome (Err x) r s k h (inr n) e = absurd cc
 
 module _ (g : Weigher) (real : RealWorld State) (sites : List SeenNode) (h : ShowsReal g sites real) (from : Bytes) (k : ℕ) (at : Option Bytes) (drop now : ℕ) where
   -- no such sender

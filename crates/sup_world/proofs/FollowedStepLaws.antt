@@ -1,5 +1,5 @@
 -- A step of the code's world follows the model, by the law of the definitions.
-use Rattle.std.specs.Prelude.{◌≡◌, not, Bool, true, false, List, map, is_some, Option, Some, None, Result, Ok, Err, OnErr, unwrap_or, refl}
+use Rattle.std.specs.Prelude.{◌≡◌, ◌≢◌, not, Bool, true, false, List, map, is_some, Option, Some, None, Result, Ok, Err, OnErr, unwrap_or, refl}
 use Rattle.std.specs.List.{AllZip}
 use Rattle.std.proofs.Common.{sym, ap, ◌∙◌, subst}
 use mathlib.Core.Logic.{inl, inr}
@@ -8,7 +8,7 @@ use Rattle.sup_causal.proofs.DotLemmas.{on_err}
 use Rattle.sup_tables.specs.States.{State}
 use Rattle.sup_placement.specs.Place.{Weigher}
 use Rattle.sup_replica.specs.declared.refusal.Refusal.{Refusal}
-use Rattle.sup_replica.specs.declared.refusal.Refusal.TheVariants.{Down, UnknownNode, NoSuchMessage, BadMessage}
+use Rattle.sup_replica.specs.declared.refusal.Refusal.TheVariants.{Down, UnknownNode, NoSuchMessage, BadMessage, KeepFailed}
 use Rattle.sup_replica.specs.declared.letter.Letter.{Letter}
 use Rattle.sup_replica.specs.Checks.{refused_if, then_do}
 use Rattle.sup_replica.specs.ByTables.{by_tables}
@@ -23,7 +23,7 @@ use Rattle.sup_model.specs.TableViews.{table_view}
 use Rattle.sup_model.specs.Follows.{StepMakes, WorldStandsFor, StepFollows as IsFollowing}
 use Rattle.sup_model.proofs.FollowLaws.{steps_follow}
 use Rattle.sup_world.specs.declared.answer.Answer.{Answer}
-use Rattle.sup_world.specs.CarriedSteps.{carried, lets_save, KnowsBytes, OthersStay}
+use Rattle.sup_world.specs.CarriedSteps.{carried, lets_save, KeeperFailed, KnowsBytes, OthersStay}
 use Rattle.sup_world.specs.Runs.{StepGoes}
 use Rattle.sup_world.specs.SeenNodes.{SeenNode, IsAsBefore, FailedOnceAtMost, FailedNoMore, IsTold}
 use Rattle.sup_world.specs.ToldAnswers.{ShowsReal, TellsOf}
@@ -116,14 +116,15 @@ steps_as g sites new model step result steps s knows =
 -- a step that a world makes on its nodes, which are lent and come back
 pub goes_lent : {A : Type 0} (f : A → SeenNode) (g : Weigher) (lent all new back : List A) (step told : Step) (answer : Result Answer Refusal) → lent ≡ all → back ≡ new → step ≡ told → CarriesOut g (map f lent) told answer (map f new)
     → OnErr answer (AllZip IsAsBefore (map f lent) (map f new)) → AllZip FailedOnceAtMost (map f lent) (map f new) → (lets_save told ≡ true → AllZip FailedNoMore (map f lent) (map f new))
-    → AllZip (IsTold answer) (map f lent) (map f new) → OthersStay (map f lent) told (map f new) → StepGoes g (map f all) step answer (map f back)
-goes_lent f g lent all new back step told answer is ends named makes refused counted uncounted tells others =
+    → (answer ≡ Err KeepFailed → KeeperFailed (map f lent) told (map f new)) → AllZip (IsTold answer) (map f lent) (map f new) → OthersStay (map f lent) told (map f new) → StepGoes g (map f all) step answer (map f back)
+goes_lent f g lent all new back step told answer is ends named makes refused counted uncounted rose tells others =
     let goes : StepGoes g (map f lent) told answer (map f new) = record {
       steps = λ real h knows. makes real h;
       follows = λ model s knows. steps_as g (map f lent) (map f new) model told answer (λ real h k. makes real h) s knows;
       refused = refused;
       counted = counted;
       uncounted = uncounted;
+      rose = rose;
       told = tells;
       others = others;
     } in
@@ -133,13 +134,14 @@ goes_lent f g lent all new back step told answer is ends named makes refused cou
 
 -- one that changes nothing, since its bytes are refused
 pub raw_goes : (g : Weigher) (sites : List SeenNode) (step : Step) (answer : Result Answer Refusal)
-    → ((real : RealWorld State) → ShowsReal g sites real → KnowsBytes (reads real.codec) step → MakesRealStep g real (carried sites step) answer sites) → StepGoes g sites step answer sites
-raw_goes g sites step answer steps = record {
+    → ((real : RealWorld State) → ShowsReal g sites real → KnowsBytes (reads real.codec) step → MakesRealStep g real (carried sites step) answer sites) → answer ≢ Err KeepFailed → StepGoes g sites step answer sites
+raw_goes g sites step answer steps sound = record {
   steps = steps;
   follows = λ model s knows. steps_as g sites sites model step answer steps s knows;
   refused = on_err answer (all_same IsAsBefore as_before sites);
   counted = all_same FailedOnceAtMost once_at_most sites;
   uncounted = λ e. all_same FailedNoMore no_more sites;
+  rose = λ e. absurd (sound e);
   told = all_same (IsTold answer) (untold answer) sites;
   others = λ name other. refl;
 }

@@ -1,5 +1,5 @@
 -- A step of the world that is an act at a node, from what the act of that node answers.
-use Rattle.std.specs.Prelude.{◌≡◌, ℕ, ◌<◌, Bool, true, false, List, length, is_some, slice_index_or, slice_set, Some, None, Result, Ok, Err}
+use Rattle.std.specs.Prelude.{◌≡◌, ◌≢◌, ℕ, ◌<◌, Bool, true, false, List, length, is_some, slice_index_or, slice_set, Some, None, Result, Ok, Err}
 use Rattle.std.specs.Result.{IsErrAnd}
 use Rattle.std.proofs.Common.{sym, ap, ◌∙◌, subst}
 use mathlib.Core.Logic.{inl}
@@ -11,7 +11,7 @@ use Rattle.sup_replica.specs.declared.event.Event.TheVariants.{Join, Leave, Drai
 use Rattle.sup_replica.specs.declared.event.Act.{Act}
 use Rattle.sup_replica.specs.declared.event.Act.TheVariants.{Event as Of, Stop, Restart}
 use Rattle.sup_replica.specs.declared.refusal.Refusal.{Refusal}
-use Rattle.sup_replica.specs.declared.refusal.Refusal.TheVariants.{UnknownNode}
+use Rattle.sup_replica.specs.declared.refusal.Refusal.TheVariants.{UnknownNode, KeepFailed}
 use Rattle.sup_replica.specs.ByTables.{by_tables}
 use Rattle.sup_replica.specs.Stations.{StationMove, station_step}
 use Rattle.sup_node.specs.Texts.{reads_as}
@@ -33,6 +33,11 @@ use Rattle.sup_world.proofs.WorldStepLaws.{next, refuses, steps, acts, act_wants
 pub told_on : (g : Weigher) (real : RealWorld State) (step : Step) (sites : List SeenNode) (result : Result Answer Refusal) (r q : Refusal) → IsErrAnd result (λ x. x ≡ r) → r ≡ q → MakesRealStep g real step (Err q) sites → MakesRealStep g real step result sites
 told_on g real step sites (Ok a) r q h e s = absurd h
 told_on g real step sites (Err x) r q h e s = subst (λ (y : Refusal). MakesRealStep g real step (Err y) sites) (sym (h ∙ e)) s
+
+-- and one of no such node is for no save
+pub unknown : (result : Result Answer Refusal) (r : Refusal) → IsErrAnd result (λ x. x ≡ r) → r ≡ UnknownNode → result ≢ Err KeepFailed
+unknown (Ok a) r h u e = absurd h
+unknown (Err x) r h u e = absurd cc
 
 pub reads_none : (act : Act) → brings_bytes act ≡ false → ReadsIn act None
 reads_none (Of (Deliver bytes)) e = absurd (true≢false e)

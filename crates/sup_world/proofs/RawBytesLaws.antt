@@ -1,12 +1,12 @@
 -- Bytes that nobody sent, as a step of the world.
-use Rattle.std.specs.Prelude.{◌≡◌, not, Bool, Option, Some, None, Result, Err, List, length, refl}
+use Rattle.std.specs.Prelude.{◌≡◌, ◌≢◌, not, Bool, Option, Some, None, Result, Err, List, length, refl}
 use Rattle.std.proofs.Common.{sym, ap, ◌∙◌}
 use mathlib.Core.Logic.{inl, inr}
 use Rattle.sup_specs.specs.Values.{Bytes}
 use Rattle.sup_tables.specs.States.{State}
 use Rattle.sup_placement.specs.Place.{Weigher}
 use Rattle.sup_replica.specs.declared.refusal.Refusal.{Refusal}
-use Rattle.sup_replica.specs.declared.refusal.Refusal.TheVariants.{Down, UnknownNode, NoSuchMessage, BadMessage}
+use Rattle.sup_replica.specs.declared.refusal.Refusal.TheVariants.{Down, UnknownNode, NoSuchMessage, BadMessage, KeepFailed}
 use Rattle.sup_replica.specs.Checks.{refused_if}
 use Rattle.sup_replica.specs.ByTables.{by_tables}
 use Rattle.sup_replica.specs.Stations.{Station}
@@ -22,6 +22,13 @@ use Rattle.sup_world.specs.FollowedSteps.{MakesRealStep}
 use Rattle.sup_world.proofs.SitePlaceLaws.{place}
 use Rattle.sup_world.proofs.WorldStepLaws.{refuses}
 use Rattle.sup_world.proofs.NodeActLaws.{Here, absent}
+
+-- they are refused for no save
+pub raw_sound : (node : Option (Station State)) (bytes : Bytes) (r : Refusal) → IsRawRefusal node bytes r → r ≢ KeepFailed
+raw_sound None bytes r e f = absurd cc
+raw_sound (Some n) bytes r (inl e) f = let is : r ≡ BadMessage = e.0 in absurd cc
+raw_sound (Some n) bytes r (inr (inl e)) f = let is : r ≡ NoSuchMessage = e.0 in absurd cc
+raw_sound (Some n) bytes r (inr (inr e)) f = absurd cc
 
 module _ (g : Weigher) (real : RealWorld State) (sites : List SeenNode) (h : ShowsReal g sites real) (at bytes : Bytes) where
   abbrev refusing : Bool → Bool → Result (RealStepped State) Refusal

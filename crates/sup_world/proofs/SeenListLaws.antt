@@ -136,6 +136,30 @@ other_put (s ∷ ss) at new name lt d same other =
           ap (λ n. seen_at (slice_set (s ∷ ss) n new) name) step ∙ ap (λ o. cond (is_named name s.name) (Some s) o) (other_put ss at new name (omega (arith, f)) d own other)
     ] refl lt same
 
+own_put : (sites : List SeenNode) (at : Bytes) (new : SeenNode) → place sites at < length sites → (d : SeenNode) → new.name ≡ (slice_index_or sites (place sites at) d).name
+    → seen_at (slice_set sites (place sites at) new) at ≡ Some new
+own_put [] at new lt d same = absurd (none_below lt)
+own_put (s ∷ ss) at new lt d same =
+    elim (is_named at s.name) as (λ b. is_named at s.name ≡ b → cond (not b) (1 + place ss at) 0 < length (s ∷ ss) → new.name ≡ (slice_index_or (s ∷ ss) (cond (not b) (1 + place ss at) 0) d).name
+    → seen_at (slice_set (s ∷ ss) (cond (not b) (1 + place ss at) 0) new) at ≡ Some new) [
+      | true ↦ λ t f e. ap (λ b. cond b (Some new) (seen_at ss at)) (ap (is_named at) e ∙ t)
+      | false ↦ λ t f e.
+          let step = one_more (place ss at) in
+          let own : new.name ≡ (slice_index_or ss (place ss at) d).name = e ∙ ap (λ n. (slice_index_or (s ∷ ss) n d).name) step in
+          ap (λ n. seen_at (slice_set (s ∷ ss) n new) at) step ∙ ap (λ b. cond b (Some s) (seen_at (slice_set ss (place ss at) new) at)) t ∙ own_put ss at new (omega (arith, f)) d own
+    ] refl lt same
+
+-- where its keeper failed, it did at the name that leads to it
+pub failed_at : (sites : List SeenNode) (at : Bytes) (i : ℕ) (old new : SeenNode) → i ≡ place sites at → i < length sites → old ≡ slice_index_or sites i old → new.name ≡ old.name → old.failures < new.failures
+    → failures_at sites at < failures_at (slice_set sites i new) at
+failed_at sites at i old new is lt elem same more =
+    let within : place sites at < length sites = subst (λ j. j < length sites) is lt in
+    let there : old ≡ slice_index_or sites (place sites at) old = elem ∙ ap (λ j. slice_index_or sites j old) is in
+    let before : failures_at sites at ≡ old.failures = failures_place sites at old within ∙ ap (λ (s : SeenNode). s.failures) (sym there) in
+    let after : failures_at (slice_set sites i new) at ≡ new.failures =
+    ap (λ j. failures_at (slice_set sites j new) at) is ∙ ap (λ (o : Option SeenNode). unwrap_or (option_map (λ (s : SeenNode). s.failures) o) 0) (own_put sites at new within old (same ∙ ap (λ (s : SeenNode). s.name) there)) in
+    omega (arith, before, after, more)
+
 -- a node of another name stays
 pub other_stays : (sites : List SeenNode) (at : Bytes) (i : ℕ) (old new : SeenNode) → i ≡ place sites at → i < length sites → old ≡ slice_index_or sites i old → new.name ≡ old.name → (name : Bytes) → is_named name at ≡ false
     → seen_at (slice_set sites i new) name ≡ seen_at sites name

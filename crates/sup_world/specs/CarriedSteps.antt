@@ -1,6 +1,6 @@
 -- The step that a world carries out (the rule of failed saves): a save fails where it is told to, but not where its keeper has failed as often as can be
 -- counted.
-use Rattle.std.specs.Prelude.{◌≡◌, ℕ, ◌-◌, ◌==◌, Bool, true, false, not, ◌||◌, nat_lt, List, [], find, slice_get, is_some, Option, None, if◌then◌else◌}
+use Rattle.std.specs.Prelude.{◌≡◌, ◌<◌, ℕ, ◌-◌, ◌==◌, Bool, true, false, not, ◌||◌, nat_lt, List, [], find, slice_get, is_some, Option, None, if◌then◌else◌}
 use Rattle.std.specs.Option.{option_map, option_and_then, unwrap_or}
 use Rattle.sup_specs.specs.Values.{Bytes}
 use Rattle.sup_tables.specs.States.{State}
@@ -52,6 +52,10 @@ comes_to sites (Raw at bytes) = at
 -- the others stay as they are
 abbrev pub OthersStay : List SeenNode → Step → List SeenNode → Type 0
 OthersStay sites step new = (name : Bytes) → is_named name (comes_to sites step) ≡ false → seen_at new name ≡ seen_at sites name
+
+-- the keeper of the node that the step comes to failed
+abbrev pub KeeperFailed : List SeenNode → Step → List SeenNode → Type 0
+KeeperFailed sites step new = failures_at sites (comes_to sites step) < failures_at new (comes_to sites step)
 
 -- an act that brings bytes: in a world messages come by deliveries, and other bytes are raw
 abbrev pub brings_bytes : Act → Bool

@@ -17,13 +17,13 @@ returns-clause-makes g c model h knows =
 pub returns-in_err-answer-clause-steps : goal.returns-in_err-answer-clause-steps
 returns-in_err-answer-clause-steps g c = record {
   answer = Err c.in_err-answer.field-0.0;
-  goes = record { steps = c.in_err-answer.ensures.steps; follows = c.in_err-answer.ensures.follows; refused = c.in_err-answer.ensures.refused; counted = c.in_err-answer.ensures.counted; uncounted = c.in_err-answer.ensures.uncounted; told = c.in_err-answer.ensures.told; others = c.in_err-answer.ensures.others };
+  goes = record { steps = c.in_err-answer.ensures.steps; follows = c.in_err-answer.ensures.follows; refused = c.in_err-answer.ensures.refused; counted = c.in_err-answer.ensures.counted; uncounted = c.in_err-answer.ensures.uncounted; rose = c.in_err-answer.ensures.rose; told = c.in_err-answer.ensures.told; others = c.in_err-answer.ensures.others };
   noted = refused_as c.in_err-answer.field-0.0 c.args.tally.now c.from_residual.result c.from_residual.ensures.1;
 }
 
 pub returns-clause-steps : goal.returns-clause-steps
 returns-clause-steps g c = record {
   answer = Ok c.in_ok-answer.answer;
-  goes = record { steps = c.in_ok-answer.ensures.steps; follows = c.in_ok-answer.ensures.follows; refused = c.in_ok-answer.ensures.refused; counted = c.in_ok-answer.ensures.counted; uncounted = c.in_ok-answer.ensures.uncounted; told = c.in_ok-answer.ensures.told; others = c.in_ok-answer.ensures.others };
+  goes = record { steps = c.in_ok-answer.ensures.steps; follows = c.in_ok-answer.ensures.follows; refused = c.in_ok-answer.ensures.refused; counted = c.in_ok-answer.ensures.counted; uncounted = c.in_ok-answer.ensures.uncounted; rose = c.in_ok-answer.ensures.rose; told = c.in_ok-answer.ensures.told; others = c.in_ok-answer.ensures.others };
   noted = taken_as c.in_ok-answer.answer c.args.tally.now c.take.new.self c.take.result c.take.ensures.taken c.take.ensures.sent c.take.ensures.effects c.take.ensures.refused;
 }
