@@ -5,6 +5,8 @@
 #![tactic(auto)]
 
 #[cfg(test)]
+mod cluster_faults;
+#[cfg(test)]
 mod clusters;
 #[cfg(test)]
 mod devices;

@@ -55,7 +55,7 @@ pub(crate) fn expect(
     assert!(rt; told.as_slice() == errors);
 }
 
-/// Expects that these words are refused, for whatever reason is told.
+/// Expects that these words are refused, for whatever reason is told in the words of `clap`.
 pub(crate) fn expect_usage(
     rt: &(impl Abort + Threads + Wait + Sync + AllocGlobal),
     words: &[&str],
@@ -67,5 +67,11 @@ pub(crate) fn expect_usage(
     let ended = run(rt, rt.alloc(), words, &mut reader, &mut written, &mut told);
     assert!(rt; ended == USAGE && ended == 2, "{ended}");
     assert!(rt; reader.len() == input.len());
-    assert!(rt; written.is_empty() && !told.is_empty());
+    assert!(rt; written.is_empty());
+    let text = std::str::from_utf8(told.as_slice()).unwrap_or("");
+    assert!(rt;
+        text.starts_with("error: ") || text.contains("\n\nUsage: supctl "),
+        "{text}"
+    );
+    assert!(rt; text.ends_with("\n"), "{text}");
 }

@@ -1,4 +1,8 @@
 //! A run of the program: what it is given, and what has to come of it.
+
+ghost use Rattle.std.specs.Prelude.{◌≡◌, ◌⊎◌, IfOk, codes};
+ghost use Rattle.sup_rows.specs.Plays.{CameOfRun};
+
 use crate::outcome::Outcome;
 use std::alloc::Global;
 use std::fs;
@@ -35,7 +39,9 @@ impl Case {
         &self,
         rt: &(impl Threads + Wait + Sync),
         alloc: Global,
-    ) -> io::Result<Outcome> {
+    ) -> io::Result<Outcome>
+        ensures { IfOk result (CameOfRun self.now.input.items) }
+    {
         let words: Vec<&str> = self.words.lines().collect(alloc)?;
         let mut reader = self.input.as_slice();
         let mut output = Vec::new(alloc);
@@ -48,17 +54,25 @@ impl Case {
             &mut output,
             &mut errors,
         );
-        // `clap` words why it refuses words: any reason will do, if nothing was read.
-        if status == USAGE && !errors.is_empty() && reader.len() == self.input.len() {
-            errors.clear();
-            errors.extend_from_slice(b"usage\n")?;
-        }
+        let (left, given) = (reader.len(), self.input.len());
         Ok(Outcome {
             status: format!(in alloc; "{status}\n")?,
             output,
-            errors,
+            errors: told_of(status, left, given, errors)?,
         })
     }
+}
+
+// What a run told. `clap` words why it refuses words: any reason will do, if nothing was read.
+fn told_of(status: u8, left: usize, given: usize, mut errors: Vec<u8>) -> io::Result<Vec<u8>>
+    ensures { IfOk result (λ told. (told.items ≡ errors.items)
+        ⊎ ((status ≡ USAGE) × (left ≡ given) × (told.items ≡ codes "usage\n"))) }
+{
+    if status == USAGE && left == given && !errors.is_empty() {
+        errors.clear();
+        errors.extend_from_slice(b"usage\n")?;
+    }
+    Ok(errors)
 }
 
 // A file that isn't there is empty.

@@ -7,10 +7,16 @@
 //! `stdin`, `stdout` and `stderr` that isn't there is empty.
 #![tactic(auto)]
 
+ghost use Rattle.std.specs.Io.KnownBytes.{Appends};
+ghost use Rattle.std.specs.Prelude.{◌++◌, ◌↔◌, IfOk, IsTrue, codes};
+ghost use Rattle.sup_rows.specs.Outcomes.{IsSame};
+ghost use Rattle.sup_rows.specs.Plays.{JudgesCase};
+
 mod case;
 mod outcome;
 
 use case::Case;
+use outcome::Outcome;
 use std::alloc::Global;
 use std::fs;
 use std::io::{self, Write};
@@ -37,9 +43,22 @@ fn goes_well<T: Threads + Wait + Sync, W: Write>(
     name: &str,
     case: &Case,
     writer: &mut W,
-) -> io::Result<bool> {
-    let outcome = case.play(rt, alloc)?;
-    let Some(difference) = case.wanted.difference(&outcome) else {
+) -> io::Result<bool>
+    ensures judges { IfOk result (JudgesCase case.now) }
+    ensures told { IfOk result (λ well. IsTrue well
+        → Appends (W.contents writer.old) (W.contents writer.new) (name.now ++ codes " ok\n")) }
+{
+    let came = case.play(rt, alloc)?;
+    tell(name, &case.wanted, &came, writer)
+}
+
+// Tells how a case went of which this was wanted and that came, and whether these are the same.
+fn tell<W: Write>(name: &str, wanted: &Outcome, came: &Outcome, writer: &mut W) -> io::Result<bool>
+    ensures well { IfOk result (λ well. IsTrue well ↔ IsSame wanted.now came.now) }
+    ensures told { IfOk result (λ well. IsTrue well
+        → Appends (W.contents writer.old) (W.contents writer.new) (name.now ++ codes " ok\n")) }
+{
+    let Some(difference) = wanted.difference(came) else {
         writeln!(writer, "{name} ok")?;
         return Ok(true);
     };

@@ -1,5 +1,7 @@
 //! What comes of a run of the program.
 
+ghost use Rattle.std.specs.Prelude.{◌≡◌, ◌≢◌, IfNone, IfSome};
+
 #[derive(Drop)]
 pub(crate) struct Outcome {
     /// The status in digits, and a line feed.
@@ -17,18 +19,37 @@ pub(crate) struct Difference<'a> {
 }
 
 impl Outcome {
+    ghost use Rattle.sup_rows.specs.Outcomes.{IsFirstDifference, IsSame, parts_of};
+
     /// The first part in which what came isn't this.
-    pub(crate) fn difference<'a>(&'a self, came: &'a Outcome) -> Option<Difference<'a>> {
-        let parts = [
-            ("status", self.status.as_bytes(), came.status.as_bytes()),
-            ("stdout", self.output.as_slice(), came.output.as_slice()),
-            ("stderr", self.errors.as_slice(), came.errors.as_slice()),
-        ];
-        for (part, wanted, came) in parts {
-            if wanted != came {
-                return Some(Difference { part, wanted, came });
-            }
+    pub(crate) fn difference<'a>(&'a self, came: &'a Outcome) -> Option<Difference<'a>>
+        ensures none { IfNone result (IsSame self.now came.now) }
+        ensures first { IfSome result (λ d. IsFirstDifference (parts_of self.now came.now)
+            record { name = d.part.now; wanted = d.wanted.now; came = d.came.now }) }
+    {
+        let status = compare("status", self.status.as_bytes(), came.status.as_bytes());
+        if status.is_some() {
+            return status;
         }
+        let output = compare("stdout", self.output.as_slice(), came.output.as_slice());
+        if output.is_some() {
+            return output;
+        }
+        compare("stderr", self.errors.as_slice(), came.errors.as_slice())
+    }
+}
+
+// Tells of a part in which what came isn't what is wanted.
+fn compare<'a>(part: &'a str, wanted: &'a [u8], came: &'a [u8]) -> Option<Difference<'a>>
+    ensures none { IfNone result (wanted.now ≡ came.now) }
+    ensures some { IfSome result (λ _. wanted.now ≢ came.now) }
+    ensures part { IfSome result (λ d. d.part.now ≡ part.now) }
+    ensures wanted { IfSome result (λ d. d.wanted.now ≡ wanted.now) }
+    ensures came { IfSome result (λ d. d.came.now ≡ came.now) }
+{
+    if wanted == came {
         None
+    } else {
+        Some(Difference { part, wanted, came })
     }
 }

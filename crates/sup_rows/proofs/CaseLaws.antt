@@ -1,0 +1,18 @@
+-- What came of a case.
+use Rattle.std.proofs.Common.{◌≡◌, ℕ, ◌↔◌, Bool, IsTrue, List, [], Result, Ok, Err, IfOk, subst}
+use Rattle.sup_rows.specs.Outcomes.{IsSame}
+use Rattle.sup_rows.specs.Plays.{CameOfRun, JudgesCase}
+use Rattle.sup_rows.specs.declared.case.Case.{Case}
+use Rattle.sup_rows.specs.declared.outcome.Outcome.{Outcome}
+
+-- what is so of three texts is so of the input and of two empty texts, where they are these
+pub over_input : (Runs : List ℕ → List ℕ → List ℕ → Type 0) (given input before errors : List ℕ)
+    → given ≡ input → before ≡ [] → errors ≡ [] → Runs given before errors → Runs input [] []
+over_input Runs given input before errors same none untold runs =
+    subst (λ a. Runs a [] []) same (subst (λ b. Runs given b []) none (subst (λ c. Runs given before c) untold runs))
+
+-- what is told of an outcome that came of the case's run judges the case
+pub judges : {E : Type 0} (case : Case) (came : Outcome) (told : Result Bool E)
+    → CameOfRun case.input.items came → IfOk told (λ well. IsTrue well ↔ IsSame case.wanted came) → IfOk told (JudgesCase case)
+judges case came (Ok well) ran judged = record { came = came; of_run = ran; judged = judged }
+judges case came (Err error) ran judged = tt
