@@ -87,7 +87,7 @@ pub standing_same : (old new : Standing) → old.kept ≡ new.kept → old.found
 standing_same old new kept found = λ i. record { kept = kept i; found = found i }
 
 module _ (g : Weigher) (is_new : Bool) (name : Bytes) (config : Config) (kept : Bytes) where
-  standing : Option Bytes → Standing
+  abbrev standing : Option Bytes → Standing
   standing found = record { kept = kept; found = found }
 
   -- what stands is the old

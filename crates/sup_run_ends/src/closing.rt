@@ -1,5 +1,5 @@
 //! The histories of a run's nodes, once their threads have ended.
-ghost use Rattle.std.specs.Prelude.{◌≡◌, ◌==◌, ℕ, not, map, slice_get, All, Some, IfOk, IfErr};
+ghost use Rattle.std.specs.Prelude.{◌≡◌, ◌==◌, ℕ, not, map, slice_get, All, Some, IfOk, IfErr, OnErr};
 ghost use Rattle.std.specs.List.{AllZip, filter};
 ghost use Rattle.sup_posts.specs.declared.thread_fault.ThreadFault.TheVariants.{OutOfMemory};
 ghost use mathlib.Core.Option.{some};
@@ -22,9 +22,10 @@ fn close<W: Weigh>(post: SharedNode<W>, seat: Seat<W>) -> Result<History, Thread
     ensures begins { IfOk result (λ history. BeginsWithSeen seat history) }
     ensures sole { IfOk result (λ history. IsWhole (view_of seat).shares → calls_of (view_of seat) ≡ map some history.entries.items) }
     ensures fault { IfErr result (λ f. f ≡ OutOfMemory) }
+    ensures alone { OnErr result (¬ (IsWhole (view_of seat).shares)) }
 {
     let SharedNode { name, gate } = post;
-    // No turn is held by then: each call has returned. A contract doesn't say so.
+    // A seat that has the whole gate closes it, and so have those of a run once they are joined.
     let Ok((_, entries)) = gate.try_close(seat) else {
         return Err(ThreadFault::OutOfMemory);
     };

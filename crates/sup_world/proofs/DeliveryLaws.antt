@@ -1,5 +1,5 @@
 -- A step of the world that is a delivery, from what the act of its receiver answers.
-use Rattle.std.specs.Prelude.{◌≡◌, ◌≢◌, ℕ, ◌-◌, ◌<◌, ◌==◌, Bool, true, false, List, [], length, map, slice_get, slice_index_or, slice_set, Option, Some, None, Result, Err, IsErrAnd, refl, if◌then◌else◌}
+use Rattle.std.specs.Prelude.{◌≡◌, ◌≢◌, ℕ, ◌-◌, ◌<◌, ◌==◌, Bool, true, false, List, [], length, map, slice_get, slice_index_or, slice_set, Option, Some, None, Result, Ok, Err, IsErrAnd, refl, if◌then◌else◌}
 use Rattle.std.specs.Option.{option_map, option_and_then, unwrap_or}
 use Rattle.std.specs.List.{AllZip}
 use Rattle.std.proofs.Common.{sym, ap, ◌∙◌, subst}
