@@ -135,3 +135,30 @@ pub(crate) fn histories(
     .expect(rt, "room");
     Histories::new(both)
 }
+
+/// A plan of these nodes, with no commands and no scripts.
+pub(crate) fn plan_of(rt: &(impl Abort + AllocGlobal), names: &[&str]) -> Plan {
+    let mut nodes = Vec::new(rt.alloc());
+    for name in names {
+        nodes.push(node(rt, name)).expect(rt, "room");
+    }
+    Plan {
+        config: Config::default(),
+        nodes,
+        commands: Vec::new(rt.alloc()),
+        scripts: Vec::new(rt.alloc()),
+    }
+}
+
+/// Histories of these nodes, at which nothing happened.
+pub(crate) fn nodes_alone(rt: &(impl Abort + AllocGlobal), names: &[&str]) -> Histories {
+    let mut all = Vec::new(rt.alloc());
+    for name in names {
+        all.push(History {
+            node: node(rt, name),
+            entries: Vec::new(rt.alloc()),
+        })
+        .expect(rt, "room");
+    }
+    Histories::new(all)
+}

@@ -11,3 +11,5 @@ mod histories;
 mod judged;
 #[cfg(test)]
 mod refused;
+#[cfg(test)]
+mod told;

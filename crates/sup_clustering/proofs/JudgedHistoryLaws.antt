@@ -1,28 +1,66 @@
--- Histories that a plan's threads gave can be judged, so a fault of their judgement is that of a replay.
-use Rattle.std.specs.Prelude.{◌≡◌, ◌≢◌, false, List, [], ◌∷◌}
+-- What a judgement of histories tells; and histories that a plan's threads gave can be judged, so that a refusal is that of a replay.
+use Rattle.std.specs.Prelude.{◌≡◌, ◌≢◌, ◌≤◌, false, All, List, [], ◌∷◌, length, Result, Ok, Err, IfOk, IfErr, refl}
 use Rattle.std.specs.List.{AllByRecursion, IsDistinct}
 use Rattle.std.specs.Str.{bytes_eq}
 use Rattle.std.specs.Cmp.Lexicographic.{nat_list_eq_equiv}
-use Rattle.std.proofs.Common.{◌∙◌, arith}
+use Rattle.std.proofs.Common.{sym, ◌∙◌, subst, arith}
 use Rattle.std.proofs.lemmas.Map.Text.{is_eq-slice_cmp}
 use mathlib.Core.Logic.{◌⊎◌, inl, inr}
 use Rattle.sup_specs.specs.Values.{Bytes}
 use Rattle.sup_placement.specs.Place.{Weigher}
-use Rattle.sup_replica.specs.Configs.{Config}
+use Rattle.sup_node_gate.specs.declared.bound.TheConstants.{MAX_BOUND}
 use Rattle.sup_model.specs.Follows.{NameIsApart, NamesAllDiffer}
 use Rattle.sup_plan.specs.Plans.{IsPlan}
 use Rattle.sup_plan.specs.declared.histories.History.{History}
 use Rattle.sup_plan.specs.declared.plan.Plan.{Plan}
 use Rattle.sup_world.specs.WorldNames.{AreWorldNames}
 use Rattle.sup_world.specs.SeenNodes.{SeenNode}
-use Rattle.sup_cluster.specs.Runs as threads
+use Rattle.sup_cluster.specs.Runs.{IsRunOf}
 use Rattle.sup_certify.specs.Certified.{IsNewWorld}
-use Rattle.sup_certify.specs.Complete.{HasRun}
+use Rattle.sup_certify.specs.Complete.{TellsNoRun}
 use Rattle.sup_certify.specs.Faults.{CanJudge, IsFaultFrom, IsFaultOf}
 use Rattle.sup_certify.specs.declared.fault.CertifyFault.{CertifyFault}
-use Rattle.sup_certify.specs.declared.fault.CertifyFault.TheVariants.{Stuck, Differs, OutOfMemory}
-use Rattle.sup_clustering.specs.CertifiedPlans.{all_start, IsNoRun, IsUncertified}
+use Rattle.sup_certify.specs.declared.fault.CertifyFault.TheVariants as judged
+use Rattle.sup_posts.specs.declared.fault.RunFault.{RunFault}
+use Rattle.sup_posts.specs.declared.fault.RunFault.TheVariants as run
+use Rattle.sup_cluster_texts.specs.Faults.{of_certify, of_run}
+use Rattle.sup_cluster_texts.specs.declared.fault.ClusterFault.{ClusterFault}
+use Rattle.sup_cluster_texts.specs.declared.fault.ClusterFault.TheVariants.{Job, HistoryFull, LinkClosed, Stuck, Differs}
+use Rattle.sup_clustering.specs.CertifiedPlans.{all_start, IsGiven, IsRefused}
+use Rattle.sup_clustering.specs.Verdicts.{IsNoRun, RefusesHistories}
 
+-- ---- the judgement
+-- a fault of a replay, where memory was not wanted
+no_run : (g : Weigher) (plan : Plan) (hs : List History) (fault : CertifyFault) → fault ≢ judged.OutOfMemory → CanJudge plan.nodes.items hs
+    → (fault ≡ judged.OutOfMemory) ⊎ ((start : List SeenNode) × IsNewWorld g plan.config plan.nodes.items start × IsFaultFrom g start hs fault) → TellsNoRun g plan.config plan.nodes.items hs fault → IsNoRun g plan hs fault
+no_run g plan hs fault room can (inl e) none = absurd (room e)
+no_run g plan hs fault room can (inr r) none = record { judged = can; start = r.0; is_new = r.1; ends = r.2; none = none room }
+
+-- they can't be judged, or make no run
+unjudged_or_none : (g : Weigher) (plan : Plan) (hs : List History) (fault : CertifyFault) → fault ≢ judged.OutOfMemory → IsFaultOf g plan.config plan.nodes.items hs fault → TellsNoRun g plan.config plan.nodes.items hs fault
+    → (¬ CanJudge plan.nodes.items hs) ⊎ IsNoRun g plan hs fault
+unjudged_or_none g plan hs fault room (inl f) none = inl f.1
+unjudged_or_none g plan hs fault room (inr f) none = inr (no_run g plan hs fault room f.0 f.1 none)
+
+-- those that can't be judged are stuck
+none_unless_stuck : (g : Weigher) (plan : Plan) (hs : List History) (fault : CertifyFault) → fault ≢ judged.OutOfMemory → fault ≢ judged.Stuck → IsFaultOf g plan.config plan.nodes.items hs fault → TellsNoRun g plan.config plan.nodes.items hs fault
+    → IsNoRun g plan hs fault
+none_unless_stuck g plan hs fault room free (inl f) none = absurd (free f.0)
+none_unless_stuck g plan hs fault room free (inr f) none = no_run g plan hs fault room f.0 f.1 none
+
+-- why histories that are judged so aren't printed
+pub refused : (g : Weigher) (plan : Plan) (hs : List History) (fault : CertifyFault) → IsFaultOf g plan.config plan.nodes.items hs fault → TellsNoRun g plan.config plan.nodes.items hs fault → RefusesHistories g plan hs (of_certify fault)
+refused g plan hs judged.OutOfMemory f none = refl
+refused g plan hs judged.Stuck f none = unjudged_or_none g plan hs judged.Stuck (λ e. cc) f none
+refused g plan hs (judged.Differs node place) f none = none_unless_stuck g plan hs (judged.Differs node place) (λ e. cc) (λ e. cc) f none
+
+-- the verdict that a judgement is told as
+pub refused_as : {R : Type 0} (g : Weigher) (plan : Plan) (hs : List History) (judgement : Result R CertifyFault) (told : Result R ClusterFault) → IfOk judgement (λ r. told ≡ Ok r) → IfErr judgement (λ f. told ≡ Err (of_certify f))
+    → IfErr judgement (IsFaultOf g plan.config plan.nodes.items hs) → IfErr judgement (TellsNoRun g plan.config plan.nodes.items hs) → IfErr told (RefusesHistories g plan hs)
+refused_as {R = R} g plan hs (Ok r) told good bad f none = subst (λ (t : Result R ClusterFault). IfErr t (RefusesHistories g plan hs)) (sym good) tt
+refused_as {R = R} g plan hs (Err fault) told good bad f none = subst (λ (t : Result R ClusterFault). IfErr t (RefusesHistories g plan hs)) (sym bad) (refused g plan hs fault f none)
+
+-- ---- what threads gave
 -- names that differ, as a plan says it, differ as the model says it
 apart_from : (name : Bytes) (others : List Bytes) → AllByRecursion (λ o. bytes_eq name o ≡ false) others → NameIsApart name others
 apart_from name [] a = tt
@@ -37,26 +75,32 @@ distinct_names (name ∷ names) d = (apart_from name names d.0, distinct_names n
 names_make : (plan : Plan) → IsPlan plan → AreWorldNames plan.nodes.items
 names_make plan p = record { some = omega (arith, p.few.0); few = omega (arith, p.few.1); apart = distinct_names plan.nodes.items p.distinct }
 
--- histories that can be judged have no fault but that of a replay, or want of memory
-replayed : (g : Weigher) (config : Config) (names : List Bytes) (hs : List History) (fault : CertifyFault) → CanJudge names hs → IsFaultOf g config names hs fault
-    → (fault ≡ OutOfMemory) ⊎ ((start : List SeenNode) × IsNewWorld g config names start × IsFaultFrom g start hs fault)
-replayed g config names hs fault can (inl j) = absurd (j.1 can)
-replayed g config names hs fault can (inr j) = j.1
+-- what a plan's threads gave can be judged
+can_judge : (g : Weigher) (plan : Plan) (hs : List History) → IsPlan plan → IsGiven g plan hs → CanJudge plan.nodes.items hs
+can_judge g plan hs p given = record { are_of = given.ran.nodes; named = names_make plan p }
 
--- such a fault, where memory was not wanted
-no_run : (g : Weigher) (plan : Plan) (hs : List History) (fault : CertifyFault) → fault ≢ OutOfMemory → threads.IsRunOf g all_start plan hs
-    → (fault ≡ OutOfMemory) ⊎ ((start : List SeenNode) × IsNewWorld g plan.config plan.nodes.items start × IsFaultFrom g start hs fault) → (fault ≢ OutOfMemory → ¬ HasRun g plan.config plan.nodes.items hs) → IsNoRun g plan fault
-no_run g plan hs fault room ran (inl e) none = absurd (room e)
-no_run g plan hs fault room ran (inr r) none = record { histories = hs; ran = ran; start = r.0; is_new = r.1; ends = r.2; none = none room }
+none_judged : (g : Weigher) (plan : Plan) (hs : List History) (fault : CertifyFault) → CanJudge plan.nodes.items hs → (¬ CanJudge plan.nodes.items hs) ⊎ IsNoRun g plan hs fault → IsNoRun g plan hs fault
+none_judged g plan hs fault can (inl cannot) = absurd (cannot can)
+none_judged g plan hs fault can (inr none) = none
 
--- what a plan's threads did can be judged
-can_judge : (g : Weigher) (plan : Plan) (hs : List History) → IsPlan plan → threads.IsRunOf g all_start plan hs → CanJudge plan.nodes.items hs
-can_judge g plan hs p ran = record { are_of = ran.nodes; named = names_make plan p }
+-- why what a plan's threads gave isn't printed
+pub refused_given : (g : Weigher) (plan : Plan) (hs : List History) (fault : ClusterFault) → IsPlan plan → IsGiven g plan hs → RefusesHistories g plan hs fault → IsRefused g plan fault
+refused_given g plan hs (Job fault) p given r = r
+refused_given g plan hs HistoryFull p given r = tt
+refused_given g plan hs LinkClosed p given r = tt
+refused_given g plan hs Stuck p given r = record { histories = hs; given = given; no_run = none_judged g plan hs judged.Stuck (can_judge g plan hs p given) r }
+refused_given g plan hs (Differs node place) p given r = record { histories = hs; given = given; no_run = r }
 
--- why what a plan's threads did is not certified
-pub uncertified : (g : Weigher) (plan : Plan) (hs : List History) (fault : CertifyFault) → IsPlan plan → threads.IsRunOf g all_start plan hs → IsFaultOf g plan.config plan.nodes.items hs fault
-    → (fault ≢ OutOfMemory → ¬ HasRun g plan.config plan.nodes.items hs) → IsUncertified g plan fault
-uncertified g plan hs OutOfMemory p ran j none = tt
-uncertified g plan hs Stuck p ran j none = no_run g plan hs Stuck (λ e. cc) ran (replayed g plan.config plan.nodes.items hs Stuck (can_judge g plan hs p ran) j) none
-uncertified g plan hs (Differs node place) p ran j none =
-    no_run g plan hs (Differs node place) (λ e. cc) ran (replayed g plan.config plan.nodes.items hs (Differs node place) (can_judge g plan hs p ran) j) none
+-- why there is nothing to print where they gave no histories
+pub refused_run : (g : Weigher) (plan : Plan) (fault : RunFault) → IsRefused g plan (of_run fault)
+refused_run g plan run.BadPlan = refl
+refused_run g plan run.HistoryFull = tt
+refused_run g plan run.LinkClosed = tt
+refused_run g plan run.OutOfMemory = refl
+
+-- why there is nothing to print where they ended so
+pub refused_ended : {S : Type 0} (g : Weigher) (plan : Plan) (ended : Result (List History) RunFault) (told : Result S ClusterFault) → IsPlan plan → IfOk ended (IsRunOf g all_start plan) → IfOk ended (All (λ (h : History). length h.entries.items ≤ MAX_BOUND))
+    → IfOk ended (λ hs. IfErr told (RefusesHistories g plan hs)) → IfErr ended (λ fault. told ≡ Err (of_run fault)) → IfErr told (IsRefused g plan)
+refused_ended g plan (Ok hs) (Ok s) p ran bounded refused faulted = tt
+refused_ended g plan (Ok hs) (Err fault) p ran bounded refused faulted = refused_given g plan hs fault p (record { ran = ran; bounded = bounded }) refused
+refused_ended {S = S} g plan (Err fault) told p ran bounded refused faulted = subst (λ (t : Result S ClusterFault). IfErr t (IsRefused g plan)) (sym faulted) (refused_run g plan fault)

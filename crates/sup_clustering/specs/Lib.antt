@@ -1,2 +1,3 @@
 pub mod CertifiedPlans
 pub mod ClusterRuns
+pub mod Verdicts

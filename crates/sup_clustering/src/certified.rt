@@ -1,22 +1,20 @@
-//! A plan's run by threads, judged, and what its nodes know once they have settled.
+//! A plan's run by threads, and what is told of its end.
 
-ghost use Rattle.std.specs.Prelude.{◌≡◌, ◌≢◌, Err, IfErr, IfOk, MatchResult, string_bytes};
+ghost use Rattle.std.specs.Prelude.{◌≡◌, ◌≢◌, Err, IfErr, IfOk, string_bytes};
 ghost use Rattle.sup_plan.specs.Plans.{IsPlan};
-ghost use Rattle.sup_world.specs.SeenNodes.{sites_of};
-ghost use Rattle.sup_clustering.specs.CertifiedPlans.{IsCertified, IsRefused, IsUncertified, PrintsCluster, SettlesFrom};
-ghost use Rattle.sup_cluster_texts.specs.Faults.{judged_as};
+ghost use Rattle.sup_clustering.specs.CertifiedPlans.{IsRefused, PrintsCluster};
+ghost use Rattle.sup_clustering.specs.Verdicts.{RefusesHistories, PrintsRun};
+ghost use Rattle.sup_cluster_texts.specs.Faults.{of_run};
 
+use crate::verdict::judged_text;
 use std::alloc::Global;
 use std::sync::Wait;
 use std::thread::Threads;
-use sup_certify::{CertifyFault, Run, certify};
-use sup_cluster::Quiet;
-use sup_cluster_texts::{ClusterFault, cluster_text, of_certify, of_run};
-use sup_jobs::Fault;
+use sup_cluster::{Quiet, run};
+use sup_cluster_texts::{ClusterFault, of_run};
 use sup_placement::Weigh;
-use sup_plan::Plan;
+use sup_plan::{Histories, Plan};
 use sup_posts::RunFault;
-use sup_world::{Settled, World};
 
 /// Runs a plan by threads, and gives what is printed of its nodes once the run is certified and they have settled.
 ///
@@ -34,65 +32,26 @@ pub fn plan_text<T: Threads + Wait + Sync, G: Weigh + Copy + Drop + Send + Sync>
     ensures prints { IfOk result (λ s. PrintsCluster G.weight_of plan.now (string_bytes s)) }
     ensures refused { IfErr result (IsRefused G.weight_of plan.now) }
 {
-    let Run { mut world, .. } = certified_run(rt, alloc, weigher, plan)?;
-    let _settled = settle(&mut world)?;
-    let text = cluster_text(alloc, weigher, &world, plan.nodes.as_slice())?;
-    Ok(text)
+    // No contract can say that the threads run once: so nothing stands here but the run and what is told of its end.
+    let ended = run(rt, alloc, plan, &Quiet, &Quiet, weigher);
+    ended_text(alloc, weigher, plan, ended)
 }
 
-// Runs a plan by threads, and gives their run once it is certified.
-fn certified_run<T: Threads + Wait + Sync, G: Weigh + Copy + Drop + Send + Sync>(
-    rt: &T,
+// What is told of threads that ended so: the verdict over just these histories, or just this fault. Nothing runs by threads here, so no
+// verdict can be put off for another run's.
+fn ended_text<G: Weigh + Copy + Drop>(
     alloc: Global,
     weigher: &G,
     plan: &Plan,
-) -> Result<Run<G>, ClusterFault>
-    requires { IsPlan plan.now }
-    ensures certified { IfOk result (λ run. IsCertified G.weight_of plan.now run.steps.items (sites_of run.world)) }
-    ensures refused { IfErr result (IsRefused G.weight_of plan.now) }
+    ended: Result<Histories, RunFault>,
+) -> Result<String, ClusterFault>
+    requires { ended ≢ Err RunFault.BadPlan }
+    ensures prints { IfOk ended (λ histories. IfOk result (λ s. PrintsRun G.weight_of plan.now histories (string_bytes s))) }
+    ensures refused { IfOk ended (λ histories. IfErr result (RefusesHistories G.weight_of plan.now histories)) }
+    ensures faulted { IfErr ended (λ fault. result ≡ Err (of_run fault)) }
 {
-    judged_as(judged_run(rt, alloc, weigher, plan))
-}
-
-// Runs a plan by threads, and judges what they did. Here the threads' faults and those of the judgement are of two types, so that none is
-// taken for the other.
-fn judged_run<T: Threads + Wait + Sync, G: Weigh + Copy + Drop + Send + Sync>(
-    rt: &T,
-    alloc: Global,
-    weigher: &G,
-    plan: &Plan,
-) -> Result<Result<Run<G>, CertifyFault>, RunFault>
-    requires { IsPlan plan.now }
-    ensures good { result ≢ Err RunFault.BadPlan }
-    ensures judged { IfOk result (λ judged. MatchResult judged
-        (λ run. IsCertified G.weight_of plan.now run.steps.items (sites_of run.world))
-        (IsUncertified G.weight_of plan.now)) }
-{
-    match sup_cluster::run(rt, alloc, plan, &Quiet, &Quiet, weigher) {
-        Ok(histories) => Ok(certify(alloc, plan, &histories, *weigher)),
-        Err(fault) => Err(fault),
-    }
-}
-
-// The end of a cluster whose threads' run was judged so.
-fn judged_as<R: Drop>(run: Result<Result<R, CertifyFault>, RunFault>) -> Result<R, ClusterFault>
-    requires { run ≢ Err RunFault.BadPlan }
-    ensures { result ≡ judged_as run }
-{
-    match run {
-        Ok(Ok(run)) => Ok(run),
-        Ok(Err(fault)) => Err(of_certify(fault)),
+    match ended {
+        Ok(histories) => judged_text(alloc, weigher, plan, &histories),
         Err(fault) => Err(of_run(fault)),
-    }
-}
-
-// Has the nodes exchange all that they know. No step of that is refused but for want of memory while counts are far from their limit.
-fn settle<G: Weigh>(world: &mut World<G>) -> Result<Settled, ClusterFault>
-    ensures settles { IfOk result (λ _. SettlesFrom G.weight_of (sites_of world.old) (sites_of world.new)) }
-    ensures refused { IfErr result (λ fault. fault ≡ ClusterFault.Job Fault.OutOfMemory) }
-{
-    match world.settle() {
-        Ok(settled) => Ok(settled),
-        Err(_) => Err(ClusterFault::Job(Fault::OutOfMemory)),
     }
 }

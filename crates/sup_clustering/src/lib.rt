@@ -6,6 +6,8 @@
 
 pub mod certified;
 mod cluster;
+mod verdict;
 
 pub use certified::plan_text;
 pub use cluster::run_cluster;
+pub use verdict::judged_text;
