@@ -2,15 +2,10 @@
 use Rattle.std.specs.Prelude.{◌≡◌, ℕ, List, [], All}
 use Rattle.sup_specs.specs.Values.{Bytes}
 use Rattle.sup_placement.specs.Place.{Weigher}
-use Rattle.sup_tables.specs.States.{State}
-use Rattle.sup_replica.specs.ByTables.{by_tables}
 use Rattle.sup_replica.specs.Configs.{Config}
-use Rattle.sup_replica.specs.Stations.{MailCodec}
 use Rattle.sup_lines.specs.declared.line.Line.{Line}
-use Rattle.sup_model.specs.Posts.{real_new}
-use Rattle.sup_world.specs.Newness.{setting_in}
+use Rattle.sup_world.specs.Newness.{ShowsNew, StandsForNew}
 use Rattle.sup_world.specs.SeenNodes.{SeenNode}
-use Rattle.sup_world.specs.ToldAnswers.{ShowsReal}
 use Rattle.sup_picture.specs.declared.picture.Picture.{Picture}
 use Rattle.sup_picture.specs.Arrows.{arrows_of}
 use Rattle.sup_picture.specs.Children.{children_of}
@@ -31,10 +26,12 @@ pub record IsPictureOf (names : List Bytes) (n : Noted) (picture : Picture) : Ty
   pub children : picture.children.items ≡ children_of (bars_of n.changes)
   pub gaps : picture.gaps.items ≡ gaps_of n.changes
 
--- a new world of these nodes, of which no save has failed; the lines, played from there; and the text of the picture of what was noted
+-- a new world of these nodes, which stands for the model's, and of which no save has failed; the lines, played from there; and the
+-- text of the picture of what was noted
 pub record DrawsScript (weigher : Weigher) (config : Config) (names : List Bytes) (captions : Captions) (lines : List Line) (text : List ℕ) : Type 0 where
   pub sites : List SeenNode
-  pub opens : (codec : MailCodec State) → ShowsReal weigher sites (real_new by_tables (setting_in weigher config) config.buffer codec names)
+  pub opens : ShowsNew weigher config names sites
+  pub stands : StandsForNew weigher config names sites
   pub unfailed : All (λ s. s.failures ≡ 0) sites
   pub after : List SeenNode
   pub noted : Noted

@@ -4,7 +4,7 @@ ghost use Rattle.std.specs.Prelude.{◌≡◌, All, IfErr, IfOk, string_bytes};
 ghost use Rattle.sup_drawing.specs.Lines.{IsDry, captions_of};
 ghost use Rattle.sup_noting.specs.Noted.{noted_of};
 ghost use Rattle.sup_drawing.specs.Drawn.{DrawsScript, nothing_noted};
-ghost use Rattle.sup_world.specs.WorldNames.{IsFaultOf};
+ghost use Rattle.sup_world.specs.WorldNames.{AreWorldNames, IsFaultOf};
 
 use crate::play::play_lines;
 use std::alloc::Global;
@@ -16,8 +16,8 @@ use sup_specs::NodeName;
 use sup_svg::svg_of;
 use sup_world::{World, WorldFault};
 
-/// The SVG text of the picture of these lines, played from a new world of these nodes, each with this setting. The captions are the
-/// lines' texts, in the order of the lines; a line behind them has none.
+/// The SVG text of the picture of these lines, played from a new world of these nodes, each with this setting. The captions are
+/// the lines' texts, in the order of the lines; a line behind them has none.
 ///
 /// # Errors
 ///
@@ -32,6 +32,7 @@ pub fn draw_lines<G: Weigh + Copy + Drop>(
 ) -> Result<String, WorldFault>
     requires { All IsDry lines.now }
     ensures draws { IfOk result (λ s. DrawsScript G.weight_of config nodes.now (captions_of captions.now) lines.now (string_bytes s)) }
+    ensures named { IfOk result (λ _. AreWorldNames nodes.now) }
     ensures fault { IfErr result (IsFaultOf nodes.now) }
 {
     let mut world = World::new(alloc, nodes, config, *weigher)?;

@@ -60,13 +60,15 @@ came_at row message None way = []
 came_at row message (Some at) None = []
 came_at row message (Some at) (Some way) = Came message at way row ∷ []
 
--- A delivery's message came and was refused. Nothing where it was refused since there is no such message or node, or where no node is named and it left in no row.
+-- A delivery's message came and was refused. Nothing where it was refused since there is no such message or node, or where no
+-- node is named and it left in no row.
 abbrev pub came_refused : List Post → ℕ → Step → Refusal → List Post
 came_refused posts row (AtNode node act now saves) refusal = []
 came_refused posts row (Deliver from k at drop now saves) refusal = came_at row (message_of from k) (receiver posts (message_of from k) at) (way_refused drop refusal)
 came_refused posts row (Raw node bytes) refusal = []
 
--- the node to which a step came: of a delivery that names no node, of a message that was never sent or left in a settling, its sender
+-- the node to which a step came: of a delivery that names no node, of a message that was never sent or left in a settling, its
+-- sender
 abbrev pub place_of : List Post → Step → Bytes
 place_of posts (AtNode node act now saves) = node
 place_of posts (Deliver from k at drop now saves) = unwrap_or (receiver posts (message_of from k) at) from

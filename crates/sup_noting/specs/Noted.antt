@@ -31,8 +31,8 @@ row_in rows line said mark = record { row = length rows; line = line; said = sai
 abbrev pub with_row : List Row → List ℕ → List ℕ → Mark → List Row
 with_row rows line said mark = rows ++ row_in rows line said mark ∷ []
 
--- A node answered: its mark, with what is printed of the answer; the delivery's message, which came to it, and the letter that left; and what became of it
--- and of children.
+-- A node answered: its mark, with what is printed of the answer; the delivery's message, which came to it, and the letter that
+-- left; and what became of it and of children.
 abbrev pub answered : Noted → List ℕ → Step → Bytes → Done → Option ℕ → Noted
 answered n line step at done number = record {
   rows = with_row n.rows line (answer_text at done number) (mark.Done at);
@@ -40,7 +40,8 @@ answered n line step at done number = record {
   changes = n.changes ++ turns_of (length n.rows) step ++ map (effect_at (length n.rows) at) done.effects;
 }
 
--- A step was refused: its mark, with the refusal, and the delivery's message, which came in vain, if it is known where. Nothing became of nodes and children.
+-- A step was refused: its mark, with the refusal, and the delivery's message, which came in vain, if it is known where. Nothing
+-- became of nodes and children.
 abbrev pub refused : Noted → List ℕ → Step → Refusal → Noted
 refused n line step refusal = record {
   rows = with_row n.rows line (refusal_text refusal) (mark.Refused (place_of n.posts step));

@@ -56,8 +56,8 @@ pub fn add_left(
     Ok(())
 }
 
-/// Adds that a delivery's message came and was refused, by the posts that are known; nothing where it was refused since there is no such message or node, or where no
-/// node is named and it left in no row.
+/// Adds that a delivery's message came and was refused, by the posts that are known; nothing where it was refused since there is
+/// no such message or node, or where no node is named and it left in no row.
 pub fn add_refused(
     known: &[Post],
     posts: &mut Vec<Post>,
@@ -94,8 +94,8 @@ pub fn add_refused(
     Ok(())
 }
 
-/// The node to which a step that was refused came: of a delivery that names no node, of a message that was never sent or left in a
-/// settling, its sender.
+/// The node to which a step that was refused came: of a delivery that names no node, of a message that was never sent or left in
+/// a settling, its sender.
 pub fn place_of(posts: &[Post], step: &Step) -> NodeName
     ensures { result ≡ place_of posts.now step.now }
 {

@@ -1,4 +1,5 @@
--- The arrows of a log (this project): one for each time that a message came, from the row in which it left, if known, and one for each that was lost.
+-- The arrows of a log (this project): one for each time that a message came, from the row in which it left, if known, and one for
+-- each that was lost.
 use Rattle.std.specs.Prelude.{List, Option, Some, None, if◌then◌else◌}
 use Rattle.std.specs.List.{filter_map}
 use Rattle.sup_picture.specs.declared.arrows.Arrow.{Arrow}

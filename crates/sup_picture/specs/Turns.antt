@@ -1,4 +1,5 @@
--- The bars and gaps of a log (this project): a bar for each run of a child at the node where it began, and a gap for each time that a node was down.
+-- The bars and gaps of a log (this project): a bar for each run of a child at the node where it began, and a gap for each time
+-- that a node was down.
 use Rattle.std.specs.Prelude.{ℕ, Bool, false, true, ◌==◌, ◌&&◌, List, [], ◌∷◌, ◌++◌, find, bytes_eq, Option}
 use Rattle.std.specs.Option.{option_map}
 use Rattle.sup_specs.specs.Values.{Bytes}

@@ -1,4 +1,5 @@
-//! A picture of a run: its rows, the arrows of its messages, the bars of its children and the gaps of its nodes, from a log of what happened.
+//! A picture of a run: its rows, the arrows of its messages, the bars of its children and the gaps of its nodes, from a log of
+//! what happened.
 #![tactic(auto)]
 
 pub mod arrows;

@@ -1,1 +1,2 @@
 pub mod DrawnScripts
+pub mod Runs

@@ -5,7 +5,8 @@ ghost use Rattle.std.specs.IoError.{error_kind};
 ghost use Rattle.sup_placement.specs.Weights.{sha256_weight};
 ghost use Rattle.sup_replica.specs.Configs.{default};
 ghost use Rattle.sup_program.specs.PerformedRequests.{WantsMemory};
-ghost use Rattle.sup_supdraw.specs.DrawnScripts.{DrawsTo, DrawsWith, RefusesScript, RefusesWithout, TellsUsage};
+ghost use Rattle.sup_supdraw.specs.DrawnScripts.{DrawsTo, DrawsWith, RefusesScript, TellsUsage};
+ghost use Rattle.sup_supdraw.specs.Runs.{RunsWithout, RunsWords};
 
 use crate::script::draw;
 use std::alloc::Global;
@@ -18,10 +19,10 @@ use sup_replica::Config;
 /// The exit status where there are words after the program's name, or they are no text.
 pub const USAGE: u8 = 2;
 
-/// Runs the program, which takes no words, and answers its exit status: 0, or 1 where the input is bad, `USAGE` where there are words or
-/// they are no text, and 3 where the device or memory ended it, or memory for the words was refused. Members are weighed by SHA-256, and
-/// the nodes have the default settings. Where the words end it, or memory for them, nothing is read or written. A fault, or the usage, is
-/// told to the error writer, whose own faults are passed over.
+/// Runs the program, which takes no words, and answers its exit status: 0, or 1 where the input is bad, `USAGE` where there are
+/// words or they are no text, and 3 where the device or memory ended it, or memory for the words was refused. Members are weighed
+/// by SHA-256, and the nodes have the default settings. Where the words end it, or memory for them, nothing is read or written. A
+/// fault, or the usage, is told to the error writer, whose own faults are passed over.
 pub fn run_with<R: Read, W: Write, E: Write>(
     alloc: Global,
     words: io::Result<Vec<String>>,
@@ -29,14 +30,10 @@ pub fn run_with<R: Read, W: Write, E: Write>(
     writer: &mut W,
     errors: &mut E,
 ) -> u8
-    ensures draws { IfOk words (λ given. given.items ≡ [] → DrawsWith sha256_weight default (R.remaining reader.old) (R.remaining reader.new)
-        (W.contents writer.old) (W.contents writer.new) (E.contents errors.old) (E.contents errors.new) result) }
-    ensures refuses { IfOk words (λ given. given.items ≢ [] → RefusesScript (E.contents errors.old) (E.contents errors.new) result) }
-    ensures unread { IfOk words (λ given. given.items ≢ [] → reader.new ≡ reader.old) }
-    ensures unwritten { IfOk words (λ given. given.items ≢ [] → writer.new ≡ writer.old) }
-    ensures without { IfErr words (λ error. RefusesWithout error (E.contents errors.old) (E.contents errors.new) result) }
-    ensures without_unread { IfErr words (λ _. reader.new ≡ reader.old) }
-    ensures without_unwritten { IfErr words (λ _. writer.new ≡ writer.old) }
+    ensures runs { IfOk words (λ given. RunsWords R.remaining W.contents E.contents given.items
+        reader.old reader.new writer.old writer.new errors.old errors.new result) }
+    ensures without { IfErr words (λ error. RunsWithout R.remaining W.contents E.contents error
+        reader.old reader.new writer.old writer.new errors.old errors.new result) }
 {
     match words {
         Ok(words) => run(alloc, words.as_slice(), reader, writer, errors),

@@ -14,9 +14,9 @@ use sup_placement::Weigh;
 use sup_placing::fault_of;
 use sup_replica::Config;
 
-/// Draws the script that the reader has, played from the world of its nodes, each with this setting: writes the picture's text, tells a
-/// fault to the error writer, and answers how that ended. Nothing is written of a script with a bad line or of a longer one than may be
-/// read, or where memory is refused; where the device fails, a front of the text at most.
+/// Draws the script that the reader has, played from the world of its nodes, each with this setting: writes the picture's text,
+/// tells a fault to the error writer, and answers how that ended. Nothing is written of a script with a bad line or of a longer
+/// one than may be read, or where memory is refused; where the device fails, a front of the text at most.
 pub fn draw<G: Weigh + Copy + Drop, R: Read, W: Write, E: Write>(
     alloc: Global,
     weigher: &G,

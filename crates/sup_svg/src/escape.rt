@@ -6,8 +6,8 @@ ghost use Rattle.sup_svg.specs.Escapes.{escape_of, first_line};
 
 use std::alloc::{AllocError, Global};
 
-/// A text as it stands in XML: `&`, `<`, `>`, `'` and `"` are named, line feeds and the other bytes from ` ` to `~` stay, and all else is
-/// question marks.
+/// A text as it stands in XML: `&`, `<`, `>`, `'` and `"` are named, line feeds and the other bytes from ` ` to `~` stay, and all
+/// else is question marks.
 pub fn escaped(alloc: Global, text: &[u8]) -> Result<String, AllocError>
     ensures { IfOk result (λ s. string_bytes s ≡ flat_map escape_of text.now) }
 {

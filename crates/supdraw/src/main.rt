@@ -1,24 +1,37 @@
 //! The program `supdraw`: the picture of a script on standard input, as SVG.
 #![tactic(auto)]
 
-use std::env::{self, Env};
-use std::io;
-use std::process::ExitCode;
-use sup_supdraw::run_with;
+ghost use Rattle.std.specs.Process.{exit_status};
+ghost use Rattle.supdraw.specs.Started.{RunsStarted};
 
-// The words after the program's name, in their order.
-fn words_of<R: Env + AllocGlobal>(rt: &R) -> io::Result<Vec<String>> {
-    let words = env::args(rt)?.skip(1).collect(rt.alloc())?;
-    Ok(words)
-}
+use std::alloc::Global;
+use std::env::{self, Args};
+use std::io::{self, Read, Write};
+use std::process::ExitCode;
+use sup_supdraw::{run_with, words_of};
 
 fn main(rt: HostRuntime) -> ExitCode {
-    let status = run_with(
+    run_started(
         rt.alloc(),
-        words_of(&rt),
+        env::args(&rt),
         &mut rt.stdin(),
         &mut rt.stdout(),
         &mut rt.stderr(),
-    );
+    )
+}
+
+// Runs the program with the words behind its name, or tells why they can't be had, and ends with that status.
+fn run_started<R: Read, W: Write, E: Write>(
+    alloc: Global,
+    arguments: io::Result<Args>,
+    reader: &mut R,
+    writer: &mut W,
+    errors: &mut E,
+) -> ExitCode
+    ensures { RunsStarted R.remaining W.contents E.contents arguments reader.old reader.new
+        writer.old writer.new errors.old errors.new (exit_status result) }
+{
+    let words = words_of(alloc, arguments);
+    let status = run_with(alloc, words, reader, writer, errors);
     ExitCode::from(status)
 }

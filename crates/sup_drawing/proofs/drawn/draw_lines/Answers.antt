@@ -7,6 +7,7 @@ pub returns-clause-draws : goal.returns-clause-draws
 returns-clause-draws g c = record {
   sites = sites_of c.in_ok-world.world;
   opens = c.in_ok-world.ensures.shows;
+  stands = c.in_ok-world.ensures.stands;
   unfailed = c.in_ok-world.ensures.unfailed;
   after = sites_of c.play_lines.new.world;
   noted = noted_of c.play_lines.new.log;
