@@ -1,4 +1,4 @@
-use Rattle.std.proofs.Common.{◌≡◌, ◌∙◌, List, length, ap, Ok, vec_len}
+use Rattle.std.proofs.Common.{◌≡◌, ◌∙◌, length, ap, Ok, vec_len}
 use Rattle.std.proofs.lemmas.Iterator.Adapters.{fact_from_collect, YieldsList-from_skip, YieldsList-from_vec}
 use Rattle.std.specs.Vec.Iter.{into_iter_items, into_iter_len}
 use Rattle.sup_supdraw.proofs.words.words_of.Goals as goal
