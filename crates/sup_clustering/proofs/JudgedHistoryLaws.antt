@@ -79,7 +79,8 @@ names_make plan p = record { some = omega (arith, p.few.0); few = omega (arith, 
 can_judge : (g : Weigher) (plan : Plan) (hs : List History) → IsPlan plan → IsGiven g plan hs → CanJudge plan.nodes.items hs
 can_judge g plan hs p given = record { are_of = given.ran.nodes; named = names_make plan p }
 
-none_judged : (g : Weigher) (plan : Plan) (hs : List History) (fault : CertifyFault) → CanJudge plan.nodes.items hs → (¬ CanJudge plan.nodes.items hs) ⊎ IsNoRun g plan hs fault → IsNoRun g plan hs fault
+-- where they can be judged, they make no run
+pub none_judged : (g : Weigher) (plan : Plan) (hs : List History) (fault : CertifyFault) → CanJudge plan.nodes.items hs → (¬ CanJudge plan.nodes.items hs) ⊎ IsNoRun g plan hs fault → IsNoRun g plan hs fault
 none_judged g plan hs fault can (inl cannot) = absurd (cannot can)
 none_judged g plan hs fault can (inr none) = none
 

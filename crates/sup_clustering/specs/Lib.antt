@@ -1,3 +1,4 @@
 pub mod CertifiedPlans
 pub mod ClusterRuns
+pub mod OneVerdict
 pub mod Verdicts

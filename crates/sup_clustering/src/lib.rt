@@ -6,6 +6,7 @@
 
 pub mod certified;
 mod cluster;
+pub mod laws;
 mod verdict;
 
 pub use certified::plan_text;
