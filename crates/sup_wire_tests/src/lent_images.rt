@@ -2,18 +2,32 @@
 use crate::given::{IMAGE, OPENING, node};
 use crate::made::{alone, joined_kept, lent, opening, start};
 use std::process::Abort;
-use sup_wire::{Image, LentImage, encode_image, encode_lent_image};
+use sup_wire::{Heading, Image, LentImage, encode_image, encode_lent_image, image_text};
 
 fn expect_text(rt: &(impl Abort + AllocGlobal), image: &LentImage<'_>, wanted: &str) {
     let text = encode_lent_image(rt.alloc(), image).expect(rt, "room");
     assert!(rt; text.as_slice() == wanted.as_bytes(), "{wanted}");
 }
 
+// Its heading and its rows have that text too.
+fn expect_parts(rt: &(impl Abort + AllocGlobal), image: &LentImage<'_>, wanted: &str) {
+    let heading = Heading {
+        node: image.node,
+        boot: image.boot,
+        count: image.count,
+        context: image.context,
+    };
+    let text = image_text(rt.alloc(), &heading, &image.rows).expect(rt, "room");
+    assert!(rt; text.text() == wanted.as_bytes(), "{wanted}");
+}
+
 // A lent image has the text that its image has.
 fn expect_same(rt: &(impl Abort + AllocGlobal), image: &Image, wanted: &str) {
     let text = encode_image(rt.alloc(), image).expect(rt, "room");
     assert!(rt; text.as_slice() == wanted.as_bytes(), "{wanted}");
-    expect_text(rt, &lent(image).expect(rt, "room"), wanted);
+    let image = lent(image).expect(rt, "room");
+    expect_text(rt, &image, wanted);
+    expect_parts(rt, &image, wanted);
 }
 
 #[test]

@@ -1,6 +1,7 @@
-//! The tests of `sup_wire`, of images that are looked at (`sup_still`) and of the next image's text
-//! (`sup_image_text`), through their public calls. A crate with tests is proved twice, once without
-//! and once with them: here there is nothing to prove without them.
+//! The tests of `sup_wire`, of images that are looked at (`sup_still`), of the next image's text
+//! (`sup_image_text`) and of texts that are cut short (`sup_cut_texts`), through their public calls. A
+//! crate with tests is proved twice, once without and once with them: here there is nothing to prove
+//! without them.
 #![tactic(auto)]
 
 #[cfg(test)]
@@ -17,6 +18,8 @@ mod lent_images;
 mod made;
 #[cfg(test)]
 mod prefixes;
+#[cfg(test)]
+mod read_back;
 #[cfg(test)]
 mod refused;
 #[cfg(test)]
