@@ -1,15 +1,18 @@
 -- A talk of states is one of what a contract sees of them.
 use Rattle.std.proofs.Common.{ℕ, Bool, List, [], ◌∷◌, Result, Ok, Err, ap, inl, inr}
 use Rattle.sup_talk.specs.Hosts.{Seen}
-use Rattle.sup_talk.specs.Talking.{Answers, Lacks, Turn, Follows, IsCut, EndsSo, TalksFor}
+use Rattle.sup_talk.specs.Talking.{Answers, Lacks, Shows, Turn, Follows, IsCut, EndsSo, TalksFor}
 use Rattle.sup_talk.specs.declared.talking.TalkEnd.{TalkEnd}
 use Rattle.sup_talk.specs.declared.talking.TalkEnd.TheVariants.{Ended, Over, Spent}
 use Rattle.sup_talk.specs.declared.talking.TalkFault.{TalkFault}
 use Rattle.sup_talk.specs.declared.talking.TalkFault.TheVariants.{Device, OutOfMemory}
 
-module _ {S K : Type 0} (seen : S → K) (answers : Answers K) (lacks : Lacks K) (over : K → Bool) (most : ℕ) where
+module _ {S V K : Type 0} (seen : S → V) (answers : Answers V) (shows : Shows V K) (lacks : Lacks V) (over : V → Bool) (most : ℕ) where
   abbrev by : Answers S
   by a heard text b = answers (seen a) heard text (seen b)
+
+  abbrev beside : Shows S K
+  beside a keeper = shows (seen a) keeper
 
   abbrev without : Lacks S
   without a heard b = lacks (seen a) heard (seen b)
@@ -17,23 +20,25 @@ module _ {S K : Type 0} (seen : S → K) (answers : Answers K) (lacks : Lacks K)
   abbrev ends : S → Bool
   ends a = over (seen a)
 
-  follows : (s t : S) (turns : List Turn) → Follows by ends s turns t → Follows answers over (seen s) turns (seen t)
+  follows : (s t : S) (turns : List (Turn K)) → Follows by beside ends s turns t → Follows answers shows over (seen s) turns (seen t)
   follows s t [] e = ap seen e
-  follows s t (turn ∷ turns) h = (h.0, seen h.1, h.2, follows h.1 t turns h.3)
+  follows s t (turn ∷ turns) h = (h.0, seen h.1, h.2, h.3, follows h.1 t turns h.4)
 
-  cut : (s t : S) (a b : Seen) (fault : TalkFault) → IsCut by without most s t a b fault → IsCut answers lacks most (seen s) (seen t) a b fault
+  cut : (s t : S) (a b : Seen K) (fault : TalkFault) → IsCut by beside without most s t a b fault → IsCut answers shows lacks most (seen s) (seen t) a b fault
   cut s t a b Device (inl h) = inl (ap seen h.0, h.1, h.2)
   cut s t a b Device (inr h) = inr h
   cut s t a b OutOfMemory (inl h) = inl (ap seen h.0, h.1)
   cut s t a b OutOfMemory (inr h) = inr h
 
-  ended : (s t : S) (a b : Seen) (count : ℕ) (end : Result TalkEnd TalkFault) → EndsSo by without ends most s t a b count end → EndsSo answers lacks over most (seen s) (seen t) a b count end
+  ended : (s t : S) (a b : Seen K) (count : ℕ) (end : Result TalkEnd TalkFault)
+      → EndsSo by beside without ends most s t a b count end → EndsSo answers shows lacks over most (seen s) (seen t) a b count end
   ended s t a b count (Ok Ended) h = (ap seen h.0, h.1, h.2)
   ended s t a b count (Ok Over) h = (ap seen h.0, h.1, h.2)
   ended s t a b count (Ok Spent) h = (ap seen h.0, h.1, h.2)
   ended s t a b count (Err fault) h = (h.0, cut s t a b fault h.1)
 
-  pub talks-seen : (s t : S) (a b : Seen) (end : Result TalkEnd TalkFault) → TalksFor by without ends most s t a b end → TalksFor answers lacks over most (seen s) (seen t) a b end
+  pub talks-seen : (s t : S) (a b : Seen K) (end : Result TalkEnd TalkFault)
+      → TalksFor by beside without ends most s t a b end → TalksFor answers shows lacks over most (seen s) (seen t) a b end
   talks-seen s t a b end h = (
     h.0,
     seen h.1,
@@ -43,6 +48,7 @@ module _ {S K : Type 0} (seen : S → K) (answers : Answers K) (lacks : Lacks K)
   )
 
 -- the same, with the states first
-pub talks-as : {S K : Type 0} (s t : S) (seen : S → K) (answers : Answers K) (lacks : Lacks K) (over : K → Bool) (most : ℕ) (a b : Seen) (end : Result TalkEnd TalkFault)
-    → TalksFor {S = S} (λ x heard text y. answers (seen x) heard text (seen y)) (λ x heard y. lacks (seen x) heard (seen y)) (λ x. over (seen x)) most s t a b end → TalksFor {S = K} answers lacks over most (seen s) (seen t) a b end
-talks-as s t seen answers lacks over most a b end h = talks-seen seen answers lacks over most s t a b end h
+pub talks-as : {S V K : Type 0} (s t : S) (seen : S → V) (answers : Answers V) (shows : Shows V K) (lacks : Lacks V) (over : V → Bool) (most : ℕ) (a b : Seen K) (end : Result TalkEnd TalkFault)
+    → TalksFor {S = S} (λ x heard text y. answers (seen x) heard text (seen y)) (λ x keeper. shows (seen x) keeper) (λ x heard y. lacks (seen x) heard (seen y)) (λ x. over (seen x)) most s t a b end
+    → TalksFor {S = V} answers shows lacks over most (seen s) (seen t) a b end
+talks-as s t seen answers shows lacks over most a b end h = talks-seen seen answers shows lacks over most s t a b end h

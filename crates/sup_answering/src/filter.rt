@@ -162,9 +162,10 @@ impl<K: ImageKeeper, W: Weigh + Drop> Filter<K, W> {
     }
 }
 
-impl<K: ImageKeeper, W: Weigh + Drop> Answerer for Filter<K, W> {
+impl<K: ImageKeeper, W: Weigh + Drop> Answerer<K> for Filter<K, W> {
     ghost use Rattle.sup_station.specs.KeptStations.{keeper_of, kept_station_of};
     ghost use Rattle.sup_answering.specs.AnsweringNodes.{AnswersLine, LacksLine, known};
+    ghost use Rattle.sup_answering.specs.ServedHosts.{StandsBehind};
 
     ghost over = { λ f. K.lost (keeper_of f.station) };
 
@@ -173,6 +174,8 @@ impl<K: ImageKeeper, W: Weigh + Drop> Answerer for Filter<K, W> {
 
     ghost lacks = { λ s heard t. LacksLine W.weight_of (known s.name (kept_station_of K.kept s.station) s.peers.items (K.failures (keeper_of s.station)) (K.lost (keeper_of s.station))) heard
         (known t.name (kept_station_of K.kept t.station) t.peers.items (K.failures (keeper_of t.station)) (K.lost (keeper_of t.station))) };
+
+    ghost shows = { λ s keeper. StandsBehind K.kept K.failures K.lost (known s.name (kept_station_of K.kept s.station) s.peers.items (K.failures (keeper_of s.station)) (K.lost (keeper_of s.station))) keeper };
 
     fn answer(&mut self, line: Option<&[u8]>) -> Result<Vec<u8>, AllocError> {
         let asked = match line {
@@ -184,5 +187,9 @@ impl<K: ImageKeeper, W: Weigh + Drop> Answerer for Filter<K, W> {
 
     fn is_over(&self) -> bool {
         self.station.keeper().is_lost()
+    }
+
+    fn keeper(&self) -> &K {
+        self.station.keeper()
     }
 }

@@ -67,7 +67,7 @@ once_at (s ∷ old) (t ∷ new) h e name =
     subst (λ b. unwrap_or (option_map (λ (x : SeenNode). x.failures) (cond (is_named name t.name) (Some t) (find (λ (x : SeenNode). is_named name x.name) new))) 0
     ≤ unwrap_or (option_map (λ (x : SeenNode). x.failures) (cond b (Some s) (find (λ (x : SeenNode). is_named name x.name) old))) 0 + 1) (sym same)
     (elim (is_named name t.name) as (λ b. unwrap_or (option_map (λ (x : SeenNode). x.failures) (cond b (Some t) (find (λ (x : SeenNode). is_named name x.name) new))) 0
-    ≤ unwrap_or (option_map (λ (x : SeenNode). x.failures) (cond b (Some s) (find (λ (x : SeenNode). is_named name x.name) old))) 0 + 1) [ true ↦ h.0 | false ↦ rest ])
+    ≤ unwrap_or (option_map (λ (x : SeenNode). x.failures) (cond b (Some s) (find (λ (x : SeenNode). is_named name x.name) old))) 0 + 1) [ true ↦ h.0.1 | false ↦ rest ])
 
 abbrev pub FailedBy : List PlacedEntry → List SeenNode → Type 0
 FailedBy order sites = (name : Bytes) → failures_at sites name ≤ length (of_node name order)

@@ -9,4 +9,4 @@ mod running;
 
 pub use running::{run, run_bounded};
 pub use sup_driving::{Checkpoint, Quiet, Runner};
-pub use sup_posts::Request;
+pub use sup_posts::{Request, Requests};

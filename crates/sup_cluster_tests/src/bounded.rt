@@ -2,10 +2,10 @@
 use crate::given::{is_certified, join, linked, plan, push, start, told, wait_for};
 use std::process::Abort;
 use std::sync::atomic::{AtomicBool, Ordering};
-use sup_cluster::{Checkpoint, Quiet, run_bounded};
+use sup_cluster::{Checkpoint, Quiet, Requests, run_bounded};
 use sup_links::Verdict;
 use sup_placement::FlatWeigh;
-use sup_plan::Plan;
+use sup_plan::{Command, Plan};
 use sup_posts::RunFault;
 use sup_specs::NodeName;
 
@@ -83,13 +83,13 @@ impl Checkpoint for Lamps {
 
     ghost was_answered = { λ lamps node place. Unit {0} };
 
-    fn before(&self, node: &NodeName, place: u64) {
+    fn before(&self, node: &NodeName, place: u64, _command: &Command) {
         if node.as_str() == "a" && place == 2 {
             wait_for(&self.started);
         }
     }
 
-    fn answered(&self, node: &NodeName, place: u64) {
+    fn answered(&self, node: &NodeName, place: u64, _asks: &Requests) {
         match node.as_str() {
             "b" if place == STARTS => self.started.store(true, Ordering::SeqCst),
             "a" if place == PUSHES + 1 => self.pushed.store(true, Ordering::SeqCst),

@@ -2,10 +2,10 @@
 use crate::given::{Counted, count, is_certified, join, plan, ship, start, told, wait_for};
 use std::process::Abort;
 use std::sync::atomic::{AtomicBool, Ordering};
-use sup_cluster::{Checkpoint, Request, Runner, run};
+use sup_cluster::{Checkpoint, Request, Requests, Runner, run};
 use sup_local_sup::Effect;
 use sup_placement::FlatWeigh;
-use sup_plan::Plan;
+use sup_plan::{Command, Plan};
 use sup_specs::NodeName;
 
 // Whether b's first command was answered, and whether the runner was told to start a child at b.
@@ -20,7 +20,7 @@ impl Checkpoint for Lamps {
 
     ghost was_answered = { λ lamps node place. Unit {0} };
 
-    fn before(&self, node: &NodeName, place: u64) {
+    fn before(&self, node: &NodeName, place: u64, _command: &Command) {
         match (node.as_str(), place) {
             ("a", 1) => wait_for(&self.joined),
             ("b", 2) => wait_for(&self.started),
@@ -28,7 +28,7 @@ impl Checkpoint for Lamps {
         }
     }
 
-    fn answered(&self, node: &NodeName, place: u64) {
+    fn answered(&self, node: &NodeName, place: u64, _asks: &Requests) {
         if node.as_str() == "b" && place == 1 {
             self.joined.store(true, Ordering::SeqCst);
         }

@@ -46,9 +46,3 @@ abbrev pub of_certify : CertifyFault → ClusterFault
 of_certify judged.Stuck = Stuck
 of_certify (judged.Differs node place) = Differs node place
 of_certify judged.OutOfMemory = Job job.OutOfMemory
-
--- a judged run of threads, or why there is none
-abbrev pub judged_as : {R : Type 0} → Result (Result R CertifyFault) RunFault → Result R ClusterFault
-judged_as (Ok (Ok run)) = Ok run
-judged_as (Ok (Err fault)) = Err (of_certify fault)
-judged_as (Err fault) = Err (of_run fault)

@@ -2,3 +2,4 @@ pub mod Words
 pub mod Numbers
 pub mod Weighings
 pub mod Requests
+pub mod BadOptions

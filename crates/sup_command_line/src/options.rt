@@ -3,6 +3,7 @@
 ghost use Rattle.std.specs.Prelude.{◌≡◌, codes, option_map};
 ghost use Rattle.clap.specs.Words.{first_of, found_of, rows_of};
 ghost use Rattle.sup_replica.specs.Configs.{config_of};
+ghost use Rattle.sup_command_line.specs.BadOptions.{bad_in, bad_option_in, bad_word, is_within, number_choice, weigh};
 ghost use Rattle.sup_command_line.specs.Requests.{config_in, number_in, weighing_in};
 ghost use Rattle.sup_command_line.specs.Weighings.{weighing_of};
 
@@ -72,31 +73,55 @@ pub(crate) struct BadOption<'a> {
 }
 
 // The first option with a word that is no value of it, where there is one.
-pub(crate) fn bad_option_in<'a>(options: &ArgMatches<'a>) -> Option<BadOption<'a>> {
-    if weighing_in(options).is_none() {
-        return option_at(options, "weigh", "sha256|flat");
-    }
-    if !is_within(options, "intensity", 0, 1000) {
-        return option_at(options, "intensity", "0 to 1000");
-    }
-    if !is_within(options, "period", 1, 1_000_000) {
-        return option_at(options, "period", "1 to 1000000");
-    }
-    option_at(options, "buffer", "1 to 1024")
+#[tactic(auto, unfolding(crate::specs::BadOptions::bad_option_in))]
+pub(crate) fn bad_option_in<'a>(options: &ArgMatches<'a>) -> Option<BadOption<'a>>
+    ensures { option_map bad_word result ≡ bad_option_in (rows_of (found_of options.now)) }
+{
+    bad_weigher_in(options)
+        .or(bad_number_in(options, "intensity", "0 to 1000", 0, 1000))
+        .or(bad_number_in(options, "period", "1 to 1000000", 1, 1_000_000))
+        .or(bad_number_in(options, "buffer", "1 to 1024", 1, 1024))
 }
 
-fn is_within(options: &ArgMatches<'_>, name: &str, least: u32, most: u32) -> bool {
-    match number_in(options, name) {
-        Some(number) => least <= number && number <= most,
-        None => false,
+#[tactic(auto, unfolding(crate::specs::BadOptions::bad_in))]
+fn bad_weigher_in<'a>(options: &ArgMatches<'a>) -> Option<BadOption<'a>>
+    ensures { option_map bad_word result ≡ bad_in weigh (rows_of (found_of options.now)) }
+{
+    let word = word_in(options, "weigh")?;
+    match weighing_of(word) {
+        Some(_) => None,
+        None => Some(BadOption {
+            name: "weigh",
+            values: "sha256|flat",
+            word,
+        }),
     }
 }
 
-fn option_at<'a>(
+#[tactic(auto, unfolding(crate::specs::BadOptions::bad_in))]
+fn bad_number_in<'a>(
     options: &ArgMatches<'a>,
     name: &'static str,
     values: &'static str,
-) -> Option<BadOption<'a>> {
+    least: u32,
+    most: u32,
+) -> Option<BadOption<'a>>
+    ensures { option_map bad_word result
+        ≡ bad_in (number_choice name.now values.now least most) (rows_of (found_of options.now)) }
+{
     let word = word_in(options, name)?;
-    Some(BadOption { name, values, word })
+    if is_within(least, most, word) {
+        None
+    } else {
+        Some(BadOption { name, values, word })
+    }
+}
+
+fn is_within(least: u32, most: u32, word: &str) -> bool
+    ensures { result ≡ is_within least most word.now }
+{
+    match number_of(word) {
+        Some(number) => least <= number && number <= most,
+        None => false,
+    }
 }

@@ -1,7 +1,8 @@
 //! From words to what they ask for.
 
-ghost use Rattle.std.specs.Prelude.{◌≡◌, ◌≢◌, ◌↔◌, [], IfOk, IfErr, IsTrue, OnOk, map, option_map, codes};
+ghost use Rattle.std.specs.Prelude.{◌≡◌, ◌≢◌, ◌↔◌, [], IfOk, IfErr, IsTrue, OnOk, map, option_map, codes, string_bytes};
 ghost use Rattle.clap.specs.Words.{fault_of, found_of, kind_of, rows_of, subcommand_of, subcommand_rows_of};
+ghost use Rattle.sup_command_line.specs.BadOptions.{bad_option_of, bad_value_text, bad_word, bad_word_text};
 ghost use Rattle.sup_command_line.specs.Requests.{ReadsTo, clustering_in, inspection_in, placing_in, request_in, request_of, simulation_in};
 ghost use Rattle.sup_command_line.specs.Words.{supctl_app};
 
@@ -59,17 +60,26 @@ fn bad_value(alloc: Global, matches: &ArgMatches<'_>) -> Result<Error, AllocErro
 }
 
 // Which option has a value that it doesn't take, and which it takes.
-fn bad_value_text(alloc: Global, matches: &ArgMatches<'_>) -> Result<String, AllocError> {
+fn bad_value_text(alloc: Global, matches: &ArgMatches<'_>) -> Result<String, AllocError>
+    ensures { IfOk result (λ text. string_bytes text
+        ≡ bad_value_text (bad_option_of (subcommand_rows_of matches.now))) }
+{
     match bad_option_of(matches) {
-        Some(bad) => {
-            let BadOption { name, values, word } = bad;
-            format!(in alloc; "invalid value '{word}' for '--{name} <{values}>'")
-        }
+        Some(bad) => bad_word_text(alloc, bad),
         None => String::from_str(alloc, "invalid value for an option"),
     }
 }
 
-fn bad_option_of<'a>(matches: &ArgMatches<'a>) -> Option<BadOption<'a>> {
+fn bad_word_text(alloc: Global, bad: BadOption<'_>) -> Result<String, AllocError>
+    ensures { IfOk result (λ text. string_bytes text ≡ bad_word_text (bad_word bad.entry)) }
+{
+    let BadOption { name, values, word } = bad;
+    format!(in alloc; "invalid value '{word}' for '--{name} <{values}>'")
+}
+
+fn bad_option_of<'a>(matches: &ArgMatches<'a>) -> Option<BadOption<'a>>
+    ensures { option_map bad_word result ≡ bad_option_of (subcommand_rows_of matches.now) }
+{
     let (_, options) = command_in(matches)?;
     bad_option_in(options)
 }

@@ -4,9 +4,9 @@
 
 ghost use Rattle.std.specs.Prelude.{◌≡◌, ◌⊎◌, ◌<◌, length, Err};
 ghost use Rattle.sup_wire.specs.declared.fault.WireFault.TheVariants.{NotJson, OutOfMemory};
-ghost use Rattle.sup_wire.specs.Drafts.{IsDraftOf, IsDraftOfImage};
+ghost use Rattle.sup_wire.specs.Drafts.{IsDraftOf, IsDraftOfImage, SaysMessage, SaysImage};
 ghost use Rattle.sup_wire.specs.Faults.{IsTextOf, IsInRange, IsImageInRange};
-ghost use Rattle.sup_cut_texts.specs.Cuts.{AreFrontsUnread, AreFrontsMute};
+ghost use Rattle.sup_cut_texts.specs.Cuts.{AreFrontsUnread, AreFrontsMute, AreFrontsRefused};
 
 use std::alloc::Global;
 use sup_wire::{Image, Message, WireFault, decode, decode_image};
@@ -21,6 +21,12 @@ pub fn a_text_cut_short_is_no_json()
 pub fn a_text_cut_short_says_nothing()
     ensures message { AreFrontsMute IsDraftOf IsInRange }
     ensures image { AreFrontsMute IsDraftOfImage IsImageInRange }
+{}
+
+/// Of all that `decode` may answer by its clauses, or `decode_image`, two answers are left for it.
+pub fn a_text_cut_short_is_refused()
+    ensures message { AreFrontsRefused SaysMessage IsDraftOf IsInRange }
+    ensures image { AreFrontsRefused SaysImage IsDraftOfImage IsImageInRange }
 {}
 
 /// The first bytes of a message's text, but not all, are refused as no JSON, unless memory runs out.

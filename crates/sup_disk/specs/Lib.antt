@@ -1,2 +1,3 @@
 pub mod Crashes
 pub mod Copies
+pub mod Faults

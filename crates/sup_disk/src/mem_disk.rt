@@ -1,7 +1,8 @@
 //! A disk in memory, whose calls fail and whose power goes as it is told.
 
-ghost use Rattle.std.specs.Prelude.{◌≡◌, false, Some, None, IfOk, OnOk, OnErr, if◌then◌else◌};
+ghost use Rattle.std.specs.Prelude.{◌≡◌, ◌≢◌, ◌⊎◌, true, false, Some, None, IfOk, IfErr, IsOk, OnOk, OnErr, if◌then◌else◌};
 ghost use Rattle.sup_disk.specs.Copies.{copied};
+ghost use Rattle.sup_disk.specs.Faults.{MeetsFault, WantsMemory, renamed};
 
 use crate::disk::Disk;
 use std::alloc::Global;
@@ -66,6 +67,7 @@ impl MemDisk {
         ensures flushed { OnOk result (self.new.is_flushed ≡ false) }
         ensures next { OnOk result (self.new.next ≡ self.old.next) }
         ensures refused { OnErr result (self.new ≡ self.old) }
+        ensures memory { IfErr result WantsMemory }
     {
         let shown = self.left_over(is_ahead)?;
         let safe = copy_of(self.alloc, &shown)?;
@@ -77,7 +79,8 @@ impl MemDisk {
     }
 
     fn left_over(&self, is_ahead: bool) -> io::Result<Option<Vec<u8>>>
-        ensures { IfOk result (λ copy. copied copy ≡ (if is_ahead then copied self.now.shown else copied self.now.safe)) }
+        ensures copy { IfOk result (λ copy. copied copy ≡ (if is_ahead then copied self.now.shown else copied self.now.safe)) }
+        ensures memory { IfErr result WantsMemory }
     {
         if is_ahead {
             copy_of(self.alloc, &self.shown)
@@ -89,7 +92,8 @@ impl MemDisk {
 
 // A copy of bytes that may be there.
 fn copy_of(alloc: Global, bytes: &Option<Vec<u8>>) -> io::Result<Option<Vec<u8>>>
-    ensures { IfOk result (λ copy. copied copy ≡ copied bytes.now) }
+    ensures copy { IfOk result (λ copy. copied copy ≡ copied bytes.now) }
+    ensures memory { IfErr result WantsMemory }
 {
     match bytes {
         Some(bytes) => Ok(Some(bytes.to_vec(alloc)?)),
@@ -109,7 +113,13 @@ impl Disk for MemDisk {
 
     ghost named = { λ d bytes. copied d.shown ≡ Some bytes };
 
-    fn write_beside(&mut self, bytes: &[u8]) -> io::Result<()> {
+    fn write_beside(&mut self, bytes: &[u8]) -> io::Result<()>
+        ensures beside { OnOk result (copied self.new.beside ≡ Some bytes.now) }
+        ensures ok { OnOk result (self.new ≡ record self.old { beside = self.new.beside; is_flushed = false }) }
+        ensures err { OnErr result (self.new ≡ self.old) }
+        ensures fault { self.old.next ≡ Next.WriteFails → MeetsFault result }
+        ensures memory { self.old.next ≢ Next.WriteFails → IfErr result WantsMemory }
+    {
         if self.next == Next::WriteFails {
             return Err(io::Error::from(ErrorKind::Other));
         }
@@ -119,7 +129,12 @@ impl Disk for MemDisk {
         Ok(())
     }
 
-    fn flush_beside(&mut self, _bytes: &[u8]) -> io::Result<()> {
+    fn flush_beside(&mut self, _bytes: &[u8]) -> io::Result<()>
+        ensures ok { OnOk result (self.new ≡ record self.old { is_flushed = true }) }
+        ensures err { OnErr result (self.new ≡ self.old) }
+        ensures fault { self.old.next ≡ Next.FlushFails → MeetsFault result }
+        ensures holds { self.old.next ≢ Next.FlushFails → IsOk result }
+    {
         if self.next == Next::FlushFails {
             return Err(io::Error::from(ErrorKind::Other));
         }
@@ -127,7 +142,13 @@ impl Disk for MemDisk {
         Ok(())
     }
 
-    fn rename(&mut self, _bytes: &[u8]) -> io::Result<()> {
+    fn rename(&mut self, _bytes: &[u8]) -> io::Result<()>
+        ensures ok { OnOk result (self.new ≡ renamed self.old) }
+        ensures fault { self.old.next ≡ Next.RenameFails → MeetsFault result }
+        ensures untold { self.old.next ≡ Next.RenameIsUntold → MeetsFault result }
+        ensures err { OnErr result (((self.old.next ≡ Next.RenameFails) × (self.new ≡ self.old))
+            ⊎ ((self.old.next ≡ Next.RenameIsUntold) × (self.new ≡ renamed self.old))) }
+    {
         if self.next == Next::RenameFails {
             return Err(io::Error::from(ErrorKind::Other));
         }
@@ -138,7 +159,13 @@ impl Disk for MemDisk {
         Ok(())
     }
 
-    fn flush_folder(&mut self, _bytes: &[u8]) -> io::Result<()> {
+    fn flush_folder(&mut self, _bytes: &[u8]) -> io::Result<()>
+        ensures safe { OnOk result (copied self.new.safe ≡ copied self.old.shown) }
+        ensures ok { OnOk result (self.new ≡ record self.old { safe = self.new.safe }) }
+        ensures err { OnErr result (self.new ≡ self.old) }
+        ensures fault { self.old.next ≡ Next.FolderFails → MeetsFault result }
+        ensures memory { self.old.next ≢ Next.FolderFails → IfErr result WantsMemory }
+    {
         if self.next == Next::FolderFails {
             return Err(io::Error::from(ErrorKind::Other));
         }
@@ -147,9 +174,16 @@ impl Disk for MemDisk {
         Ok(())
     }
 
-    fn read(&mut self, alloc: Global) -> io::Result<Option<Vec<u8>>> {
-        let copy = copy_of(self.alloc, &self.shown)?;
-        self.safe = copy;
-        copy_of(alloc, &self.shown)
+    fn read(&mut self, alloc: Global) -> io::Result<Option<Vec<u8>>>
+        ensures shown { IfOk result (λ bytes. copied bytes ≡ copied self.old.shown) }
+        ensures safe { OnOk result (copied self.new.safe ≡ copied self.old.shown) }
+        ensures ok { OnOk result (self.new ≡ record self.old { safe = self.new.safe }) }
+        ensures err { OnErr result (self.new ≡ self.old) }
+        ensures memory { IfErr result WantsMemory }
+    {
+        let bytes = copy_of(alloc, &self.shown)?;
+        let safe = copy_of(self.alloc, &self.shown)?;
+        self.safe = safe;
+        Ok(bytes)
     }
 }

@@ -39,10 +39,10 @@ impl<'a, R: Wait, W: Weigh, N: Runner, C: Checkpoint> Field<'a, R, W, N, C> {
         ensures stood { OnOk result (stood_by C.was_before C.was_answered self.now.checkpoint.now post.now.name place) }
         ensures fault { IfErr result (λ f. StopsCalling (bound_of post.now.gate) (view_of seat.new) f ⊎ StopsPutting wires.new f) }
     {
-        self.checkpoint.before(&post.name, place);
+        self.checkpoint.before(&post.name, place, &command);
         let Command { node: _, act, now } = command;
         let requests = post.call(self.rt, self.alloc, seat, act, now, self.weigher)?;
-        self.checkpoint.answered(&post.name, place);
+        self.checkpoint.answered(&post.name, place, &requests);
         let shipped = self.ship(post, seat, shipped, wires)?;
         self.act_all(post, seat, requests, now)?;
         Ok(shipped)

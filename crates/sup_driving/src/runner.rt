@@ -3,7 +3,8 @@ ghost use Rattle.std.specs.Prelude.{◌≡◌, ℕ, Bool, true};
 ghost use Rattle.sup_specs.specs.Values.{Bytes};
 ghost use Rattle.sup_local_sup.specs.declared.effect.Effect.{Effect};
 
-use sup_posts::Request;
+use sup_plan::Command;
+use sup_posts::{Request, Requests};
 use sup_specs::NodeName;
 
 /// Does what nodes' answers ask to be done with their children. Several threads tell it of one node, and between threads there is no order:
@@ -29,12 +30,12 @@ pub trait Checkpoint {
     /// The same of the command's answer.
     ghost was_answered: { Self → Bytes → ℕ → Type 0 };
 
-    /// Before the node's command at this place, from 1.
-    fn before(&self, node: &NodeName, place: u64)
+    /// Before the node's command at this place, from 1. It is lent the command, which the call then uses up.
+    fn before(&self, node: &NodeName, place: u64, command: &Command)
         ensures { was_before self.now node.now place };
 
-    /// After that command was answered.
-    fn answered(&self, node: &NodeName, place: u64)
+    /// After that command was answered. It is lent what the answer asks for, which only the call makes; then the runner is told of it.
+    fn answered(&self, node: &NodeName, place: u64, asks: &Requests)
         ensures { was_answered self.now node.now place };
 }
 
@@ -54,7 +55,7 @@ impl Checkpoint for Quiet {
 
     ghost was_answered = { λ quiet node place. Unit {0} };
 
-    fn before(&self, _node: &NodeName, _place: u64) {}
+    fn before(&self, _node: &NodeName, _place: u64, _command: &Command) {}
 
-    fn answered(&self, _node: &NodeName, _place: u64) {}
+    fn answered(&self, _node: &NodeName, _place: u64, _asks: &Requests) {}
 }

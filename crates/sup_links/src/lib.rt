@@ -32,5 +32,5 @@ mod sending;
 pub use images::image;
 pub use link_in::{LinkIn, PutFault, Sent};
 pub use link_out::{Closed, LinkOut};
-pub use links::{MAX_CAPACITY, link};
+pub use links::{MAX_CAPACITY, a_link_has_room_for_1024_messages_at_most, link};
 pub use script::{LinkScript, Verdict};

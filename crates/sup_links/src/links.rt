@@ -11,6 +11,11 @@ use std::alloc::{AllocError, Global};
 /// The greatest capacity of a link, in messages on their way.
 pub const MAX_CAPACITY: usize = 1024;
 
+/// A link has room for 1,024 messages at most.
+pub fn a_link_has_room_for_1024_messages_at_most()
+    ensures { MAX_CAPACITY ≡ 1024 }
+{}
+
 /// A link with this script, with room for `capacity` messages on their way, from 1 to [`MAX_CAPACITY`].
 ///
 /// # Errors

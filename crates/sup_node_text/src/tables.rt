@@ -6,7 +6,7 @@ ghost use Rattle.sup_tables.specs.Rows.{children, members, names};
 ghost use Rattle.sup_tables.specs.Readers.{eligible, winners};
 ghost use Rattle.sup_tables.specs.Stored.{child_row, member_row, name_row};
 ghost use Rattle.sup_node.specs.Contents.{where_told};
-ghost use Rattle.sup_node.specs.Whereabouts.{where_child, where_is};
+ghost use Rattle.sup_node.specs.Whereabouts.{where_child};
 ghost use Rattle.sup_node_text.specs.Lines.{IsTextOf, name_line};
 ghost use Rattle.sup_node_text.specs.Shown.{child_lines, loser_lines, member_lines, name_lines, tables_text};
 
@@ -194,7 +194,7 @@ fn name_line<W: Weigh>(
 }
 
 // Where a name leads that stands for this child.
-pub(crate) fn lead_of<'a, W: Weigh>(
+fn lead_of<'a, W: Weigh>(
     weigher: &W,
     hosts: &[NodeName],
     tables: &Tables,
@@ -209,21 +209,5 @@ pub(crate) fn lead_of<'a, W: Weigh>(
     match place(weigher, hosts, id) {
         None => Whereis::Unplaced(id),
         Some(member) => Whereis::On(id, member),
-    }
-}
-
-// Where a name leads.
-pub(crate) fn lead_at<'a, W: Weigh>(
-    weigher: &W,
-    hosts: &[NodeName],
-    tables: &'a Tables,
-    name: &Name,
-) -> Whereis<'a>
-    requires { hosts.now ≡ eligible tables.now.rows }
-    ensures { where_told result ≡ where_is W.weight_of tables.now.rows name.now }
-{
-    match tables.name(name) {
-        None => Whereis::Unknown,
-        Some((_, id)) => lead_of(weigher, hosts, tables, id),
     }
 }

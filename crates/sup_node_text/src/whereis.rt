@@ -5,7 +5,6 @@ ghost use Rattle.sup_node_text.specs.Shown.{shown_at, where_text};
 
 use crate::place::LeadText;
 use crate::show::down_text;
-use crate::tables::lead_at;
 use std::alloc::{AllocError, Global};
 use sup_node::Node;
 use sup_placement::Weigh;
@@ -29,9 +28,12 @@ pub fn where_text<W: Weigh>(
     let Some(node) = node else {
         return down_text(alloc, at);
     };
-    let tables = node.tables();
-    let hosts = tables.eligible()?;
-    let lead = LeadText(lead_at(weigher, &hosts, tables, name));
-    let name = name.as_str();
-    format!(in alloc; "{name} {lead}\n")
+    match node.whereis(name, weigher) {
+        Err(refused) => Err(refused),
+        Ok(lead) => {
+            let lead = LeadText(lead);
+            let name = name.as_str();
+            format!(in alloc; "{name} {lead}\n")
+        }
+    }
 }

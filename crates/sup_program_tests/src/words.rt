@@ -1,5 +1,5 @@
 //! The words that the program is started with.
-use std::env::{Env, FillError};
+use std::env::{self, Env, FillError};
 use std::io::ErrorKind;
 use std::process::Abort;
 use std::sync::Wait;
@@ -34,7 +34,7 @@ impl Env for Started<'_> {
 #[test]
 fn the_words_are_all_that_come_after_the_name(rt: HostRuntime) {
     let started = Started(&[b"supctl", b"simulate", b"--weigh", b"flat", b"more"]);
-    let words = words_of(&(started, rt.alloc()));
+    let words = words_of(rt.alloc(), env::args(&(started, rt.alloc())));
     assert!(rt; words.is_ok());
     let words = words.unwrap_or(Vec::new(rt.alloc()));
     let wanted = ["simulate", "--weigh", "flat", "more"];
@@ -46,16 +46,16 @@ fn the_words_are_all_that_come_after_the_name(rt: HostRuntime) {
 
 #[test]
 fn a_name_alone_has_no_words(rt: HostRuntime) {
-    let words = words_of(&(Started(&[b"supctl"]), rt.alloc()));
+    let words = words_of(rt.alloc(), env::args(&(Started(&[b"supctl"]), rt.alloc())));
     assert!(rt; words.is_ok_and(|words| words.is_empty()));
-    let words = words_of(&(Started(&[]), rt.alloc()));
+    let words = words_of(rt.alloc(), env::args(&(Started(&[]), rt.alloc())));
     assert!(rt; words.is_ok_and(|words| words.is_empty()));
 }
 
 #[test]
 fn a_word_that_is_no_text_is_a_fault(rt: HostRuntime) {
     let started = Started(&[b"supctl", b"simulate", b"\xff"]);
-    let fault = words_of(&(started, rt.alloc())).err();
+    let fault = words_of(rt.alloc(), env::args(&(started, rt.alloc()))).err();
     assert!(rt; fault.is_some_and(|fault| fault.kind() == ErrorKind::InvalidData));
 }
 
@@ -67,7 +67,7 @@ fn expect_started(
     output: &[u8],
     errors: &[u8],
 ) {
-    let words = words_of(&(Started(arguments), rt.alloc()));
+    let words = words_of(rt.alloc(), env::args(&(Started(arguments), rt.alloc())));
     let mut reader = b"nodes a\nshow a\n".as_slice();
     let mut written = Vec::new(rt.alloc());
     let mut told = Vec::new(rt.alloc());

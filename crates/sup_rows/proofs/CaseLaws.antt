@@ -1,6 +1,6 @@
 -- What came of a case.
-use Rattle.std.proofs.Common.{◌≡◌, ℕ, ◌↔◌, Bool, IsTrue, List, [], Result, Ok, Err, IfOk, subst}
-use Rattle.sup_rows.specs.Outcomes.{IsSame}
+use Rattle.std.proofs.Common.{◌≡◌, ℕ, Bool, List, [], Option, Result, Ok, Err, IfOk, subst}
+use Rattle.sup_rows.specs.Outcomes.{TellsOutcome}
 use Rattle.sup_rows.specs.Plays.{CameOfRun, JudgesCase}
 use Rattle.sup_rows.specs.declared.case.Case.{Case}
 use Rattle.sup_rows.specs.declared.outcome.Outcome.{Outcome}
@@ -12,7 +12,7 @@ over_input Runs given input before errors same none untold runs =
     subst (λ a. Runs a [] []) same (subst (λ b. Runs given b []) none (subst (λ c. Runs given before c) untold runs))
 
 -- what is told of an outcome that came of the case's run judges the case
-pub judges : {E : Type 0} (case : Case) (came : Outcome) (told : Result Bool E)
-    → CameOfRun case.input.items came → IfOk told (λ well. IsTrue well ↔ IsSame case.wanted came) → IfOk told (JudgesCase case)
-judges case came (Ok well) ran judged = record { came = came; of_run = ran; judged = judged }
-judges case came (Err error) ran judged = tt
+pub judges : {E : Type 0} (name : List ℕ) (case : Case) (came : Outcome) (before after : Option (List ℕ)) (told : Result Bool E)
+    → CameOfRun case.input.items came → IfOk told (TellsOutcome name case.wanted came before after) → IfOk told (JudgesCase name case before after)
+judges name case came before after (Ok well) ran tells = record { came = came; of_run = ran; tells = tells }
+judges name case came before after (Err error) ran tells = tt

@@ -1,11 +1,11 @@
 -- What comes of a case.
-use Rattle.std.specs.Prelude.{◌≡◌, ◌⊎◌, ◌↔◌, ℕ, Bool, IsTrue, List, [], ◌++◌, Some, codes, decimal, length, string_bytes}
+use Rattle.std.specs.Prelude.{◌≡◌, ◌≢◌, ◌⊎◌, ℕ, Bool, List, [], ◌++◌, Option, Some, codes, decimal, length, string_bytes}
 use Rattle.sup_supctl.specs.Runs.{RunsAll}
-use Rattle.sup_rows.specs.Outcomes.{IsSame}
+use Rattle.sup_rows.specs.Outcomes.{TellsOutcome}
 use Rattle.sup_rows.specs.declared.case.Case.{Case}
 use Rattle.sup_rows.specs.declared.outcome.Outcome.{Outcome}
 
--- It came of a run of the program over this input, with some words. In place of what `clap` told of words, `usage` may stand.
+-- It came of a run of the program over this input, with some words. In place of what `clap` told of words, `usage` may stand, if it told anything.
 pub record CameOfRun (input : List ℕ) (came : Outcome) : Type 0 where
   pub words : List (List ℕ)
   pub left : List ℕ
@@ -13,10 +13,10 @@ pub record CameOfRun (input : List ℕ) (came : Outcome) : Type 0 where
   pub status : ℕ
   pub runs : RunsAll Some Some Some words input left [] came.output.items [] told status
   pub shown : string_bytes came.status ≡ decimal status ++ codes "\n"
-  pub errors : (came.errors.items ≡ told) ⊎ ((status ≡ 2) × (length left ≡ length input) × (came.errors.items ≡ codes "usage\n"))
+  pub errors : (came.errors.items ≡ told) ⊎ ((status ≡ 2) × (length left ≡ length input) × (told ≢ []) × (came.errors.items ≡ codes "usage\n"))
 
--- What came of the case is what was wanted, or isn't.
-pub record JudgesCase (case : Case) (well : Bool) : Type 0 where
+-- What came of the case is what was wanted, or isn't, and so it is told.
+pub record JudgesCase (name : List ℕ) (case : Case) (before after : Option (List ℕ)) (well : Bool) : Type 0 where
   pub came : Outcome
   pub of_run : CameOfRun case.input.items came
-  pub judged : IsTrue well ↔ IsSame case.wanted came
+  pub tells : TellsOutcome name case.wanted came before after well

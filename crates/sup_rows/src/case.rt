@@ -1,6 +1,6 @@
 //! A run of the program: what it is given, and what has to come of it.
 
-ghost use Rattle.std.specs.Prelude.{◌≡◌, ◌⊎◌, IfOk, codes};
+ghost use Rattle.std.specs.Prelude.{◌≡◌, ◌≢◌, ◌⊎◌, [], IfOk, codes};
 ghost use Rattle.sup_rows.specs.Plays.{CameOfRun};
 
 use crate::outcome::Outcome;
@@ -66,7 +66,7 @@ impl Case {
 // What a run told. `clap` words why it refuses words: any reason will do, if nothing was read.
 fn told_of(status: u8, left: usize, given: usize, mut errors: Vec<u8>) -> io::Result<Vec<u8>>
     ensures { IfOk result (λ told. (told.items ≡ errors.items)
-        ⊎ ((status ≡ USAGE) × (left ≡ given) × (told.items ≡ codes "usage\n"))) }
+        ⊎ ((status ≡ USAGE) × (left ≡ given) × (errors.items ≢ []) × (told.items ≡ codes "usage\n"))) }
 {
     if status == USAGE && left == given && !errors.is_empty() {
         errors.clear();

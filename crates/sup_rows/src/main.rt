@@ -8,15 +8,15 @@
 #![tactic(auto)]
 
 ghost use Rattle.std.specs.Io.KnownBytes.{Appends};
-ghost use Rattle.std.specs.Prelude.{◌++◌, ◌↔◌, IfOk, IsTrue, codes};
-ghost use Rattle.sup_rows.specs.Outcomes.{IsSame};
+ghost use Rattle.std.specs.Prelude.{IfOk, OnOk};
+ghost use Rattle.sup_rows.specs.Outcomes.{TellsOutcome, difference_text, part_of};
 ghost use Rattle.sup_rows.specs.Plays.{JudgesCase};
 
 mod case;
 mod outcome;
 
 use case::Case;
-use outcome::Outcome;
+use outcome::{Difference, Outcome};
 use std::alloc::Global;
 use std::fs;
 use std::io::{self, Write};
@@ -44,9 +44,7 @@ fn goes_well<T: Threads + Wait + Sync, W: Write>(
     case: &Case,
     writer: &mut W,
 ) -> io::Result<bool>
-    ensures judges { IfOk result (JudgesCase case.now) }
-    ensures told { IfOk result (λ well. IsTrue well
-        → Appends (W.contents writer.old) (W.contents writer.new) (name.now ++ codes " ok\n")) }
+    ensures { IfOk result (JudgesCase name.now case.now (W.contents writer.old) (W.contents writer.new)) }
 {
     let came = case.play(rt, alloc)?;
     tell(name, &case.wanted, &came, writer)
@@ -54,17 +52,31 @@ fn goes_well<T: Threads + Wait + Sync, W: Write>(
 
 // Tells how a case went of which this was wanted and that came, and whether these are the same.
 fn tell<W: Write>(name: &str, wanted: &Outcome, came: &Outcome, writer: &mut W) -> io::Result<bool>
-    ensures well { IfOk result (λ well. IsTrue well ↔ IsSame wanted.now came.now) }
-    ensures told { IfOk result (λ well. IsTrue well
-        → Appends (W.contents writer.old) (W.contents writer.new) (name.now ++ codes " ok\n")) }
+    ensures { IfOk result (TellsOutcome name.now wanted.now came.now (W.contents writer.old) (W.contents writer.new)) }
 {
     let Some(difference) = wanted.difference(came) else {
         writeln!(writer, "{name} ok")?;
         return Ok(true);
     };
-    writeln!(writer, "{name} differs in {}, wanted:", difference.part)?;
-    writer.write_all(difference.wanted)?;
-    writer.write_all(b"came:\n")?;
-    writer.write_all(difference.came)?;
+    tell_difference(name, difference, writer)?;
     Ok(false)
+}
+
+// Tells in which part a case differs, and how.
+fn tell_difference<W: Write>(
+    name: &str,
+    difference: Difference<'_>,
+    writer: &mut W,
+) -> io::Result<()>
+    ensures { OnOk result (Appends (W.contents writer.old) (W.contents writer.new) (difference_text name.now (part_of difference.entry))) }
+{
+    let Difference { part, wanted, came } = difference;
+    writer.write_all(name.as_bytes())?;
+    writer.write_all(b" differs in ")?;
+    writer.write_all(part.as_bytes())?;
+    writer.write_all(b", wanted:\n")?;
+    writer.write_all(wanted)?;
+    writer.write_all(b"came:\n")?;
+    writer.write_all(came)?;
+    Ok(())
 }

@@ -19,13 +19,12 @@ pub(crate) struct Difference<'a> {
 }
 
 impl Outcome {
-    ghost use Rattle.sup_rows.specs.Outcomes.{IsFirstDifference, IsSame, parts_of};
+    ghost use Rattle.sup_rows.specs.Outcomes.{IsFirstDifference, IsSame, part_of, parts_of};
 
     /// The first part in which what came isn't this.
     pub(crate) fn difference<'a>(&'a self, came: &'a Outcome) -> Option<Difference<'a>>
         ensures none { IfNone result (IsSame self.now came.now) }
-        ensures first { IfSome result (λ d. IsFirstDifference (parts_of self.now came.now)
-            record { name = d.part.now; wanted = d.wanted.now; came = d.came.now }) }
+        ensures first { IfSome result (λ d. IsFirstDifference (parts_of self.now came.now) (part_of d)) }
     {
         let status = compare("status", self.status.as_bytes(), came.status.as_bytes());
         if status.is_some() {

@@ -3,6 +3,7 @@ ghost use Rattle.std.specs.Prelude.{◌≡◌, length, All, Some, map, slice_get
 ghost use Rattle.std.specs.List.{AllZip};
 ghost use Rattle.sup_posts.specs.Jobs.{IsSeatAt, IsLane};
 ghost use Rattle.sup_posts.specs.declared.shared_node.SharedNode.{SharedNode};
+ghost use Rattle.sup_plan.specs.Plans.{IsPlan};
 ghost use Rattle.sup_run_ends.specs.Passes.{IsFirst, IsFresh, HaveWhole, dealt_by, dealt_in, of_lane};
 ghost use Rattle.sup_run_ends.specs.Steps.{IsSeatOf, IsLaneTo, IsRowOf, IsDriveOf, LeadsToItsNode, places};
 
@@ -114,8 +115,8 @@ fn make_drive<W: Weigh>(
     })
 }
 
-/// What the drivers are given, in the order of their nodes, where `seats` are the first passes of these nodes' gates. The passes of a gate
-/// that are among it have all of the gate together.
+/// What the drivers of a plan that can be run are given, in the order of their nodes, where `seats` are the first passes of these nodes'
+/// gates. The passes of a gate that are among it have all of the gate together.
 ///
 /// # Errors
 ///
@@ -126,6 +127,7 @@ pub fn make_drives<W: Weigh>(
     posts: &[SharedNode<W>],
     seats: Vec<Seat<W>>,
 ) -> Result<Vec<Drive<W>>, AllocError>
+    requires runs { IsPlan plan.now }
     requires seats { AllZip IsSeatOf posts.now seats.items }
     requires first { All IsFirst seats.items }
     ensures drives { IfOk result (λ drives. AllZip (IsDriveOf plan.now posts.now) posts.now drives.items) }

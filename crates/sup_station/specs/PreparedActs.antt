@@ -95,11 +95,12 @@ IsPlanFor g (Some n) (Changes p) = FitsNode g n p.change
 IsPlanFor g n (Stops done) = Unit {0}
 IsPlanFor g n (Runs state done) = (1 ≤ (station_in state).node.supervisor.boot) × (keeps_placed g (station_in state).node ≡ true)
 
--- what a commit asks of the station
+-- what a commit asks of the station: it answers some act so
 pub record IsReadyFor (g : Weigher) (s : KeptStation) (p : Prepared) : Type 0 where
   pub plan : IsPlanFor g s.node p.next
   pub saved : saves_in p.next ≡ is_saved p
   pub rows : SavesRows (rows_known (node_after s.node p.next)) p.text
+  pub answer : (act : Act) × (now : ℕ) × AnswersAct g s act now (Ok (done_of p)) (after s p)
 
 -- what is made ready of an act: its answer, what the station becomes, and what it may be refused for yet
 pub record IsPreparedFor (g : Weigher) (s : KeptStation) (act : Act) (now : ℕ) (p : Prepared) : Type 0 where

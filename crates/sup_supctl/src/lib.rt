@@ -1,5 +1,8 @@
-//! The program `supctl` but for its `main`: from its words and its input to its output and status.
+//! The program `supctl` but for its `main`: from its arguments and its input to its output and status.
 #![tactic(auto)]
 
 pub mod run;
+pub mod started;
 pub mod words;
+
+pub use started::run_started;

@@ -1,26 +1,32 @@
 //! The words that the program was started with.
 
-ghost use Rattle.std.specs.Prelude.{◌≡◌, ◌≢◌, IfErr, IfOk, map, string_bytes};
+ghost use Rattle.std.specs.Prelude.{◌≡◌, ◌≢◌, drop, IfErr, IfOk, map, string_bytes};
 ghost use Rattle.std.specs.IoError.{error_kind};
+ghost use Rattle.std.specs.Vec.Iter.{into_iter_items};
 ghost use Rattle.sup_program.specs.PerformedRequests.{TellsUsage, WantsMemory};
 ghost use Rattle.sup_supctl.specs.Runs.{no_text_line, RunsAll, RunsWithout};
 
 use crate::run::run;
 use std::alloc::Global;
-use std::env::{self, Env};
+use std::env::Args;
 use std::io::{self, ErrorKind, Read, Write};
 use std::sync::Wait;
 use std::thread::Threads;
 use sup_jobs::{Ended, put_all};
 use sup_program::run::{USAGE, want_of_memory};
 
-/// The words after the program's name, in their order: so it is in code, and no clause says it.
+/// The words after the program's name, which is the first of its arguments.
 ///
 /// # Errors
 ///
-/// Where a word, or the program's name, is no UTF-8 (`ErrorKind::InvalidData`), or memory was refused (`ErrorKind::OutOfMemory`).
-pub fn words_of<R: Env + AllocGlobal>(rt: &R) -> io::Result<Vec<String>> {
-    let words = env::args(rt)?.skip(1).collect(rt.alloc())?;
+/// That of the arguments, or `ErrorKind::OutOfMemory` where memory was refused to the words.
+pub fn words_of(alloc: Global, arguments: io::Result<Args>) -> io::Result<Vec<String>>
+    ensures words { IfOk arguments (λ given. IfOk result (λ words. words.items ≡ drop 1 (into_iter_items given))) }
+    ensures memory { IfOk arguments (λ _. IfErr result (λ error. error_kind error ≡ ErrorKind.OutOfMemory)) }
+    ensures error { IfErr arguments (λ error. result ≡ Err error) }
+{
+    let given = arguments?;
+    let words = given.skip(1).collect(alloc)?;
     Ok(words)
 }
 

@@ -19,7 +19,7 @@ use Rattle.sup_talk.specs.declared.talking.TalkFault.{TalkFault}
 use Rattle.sup_talk.specs.declared.talking.TalkFault.TheVariants.{Device as Broken, OutOfMemory as Wanting}
 use Rattle.sup_answering.specs.AnsweringNodes.{AnsweringNode, RisesWhere}
 use Rattle.sup_answering.specs.BegunNodes.{BeginsNode, FailsAtSave, IsNoBegin, IsUnkept, LeavesKept, Standing, standing_of}
-use Rattle.sup_answering.specs.ServedHosts.{ServesHost}
+use Rattle.sup_answering.specs.ServedHosts.{ServesHost, StandsBehind}
 use Rattle.sup_answering.specs.declared.begin.BeginFault.{BeginFault}
 use Rattle.sup_answering.specs.declared.begin.BeginFault.TheVariants.{BadImage, OthersImage, Refused, NoMemory}
 use Rattle.sup_supd.specs.declared.left.Left.{Left}
@@ -81,25 +81,28 @@ pub record StaysUnbegun (weigher : Weigher) (is_new readable : Bool) (name : Byt
   pub counted : RisesWhere (IsUnkept fault) keeper.failures left.failures
   pub order : is_new ≡ false → readable ≡ true → IsUnkept fault → FailsAtSave weigher name config keeper.stands.kept
 
--- the node began, and served its host until this end; and its keeper is left as it was then
-pub record ServedUntil (weigher : Weigher) (most : ℕ) (is_new : Bool) (name : Bytes) (config : Config) (keeper left : KeeperSeen) (before after : Seen) (end : Result TalkEnd TalkFault) : Type 0 where
+-- the keeper, where this is what a contract sees of it, stands behind the node
+abbrev pub Backs : {K : Type 0} → (K → KeeperSeen) → AnsweringNode → K → Type 0
+Backs seen node keeper = StandsBehind (λ k. (seen k).stands.kept) (λ k. (seen k).failures) (λ k. (seen k).lost) node keeper
+
+-- The node began, and served its host until this end. With each text that the host was told, the first too, it was shown the keeper, which
+-- stood behind the node as the text left it; and so is the keeper left behind the node at its end.
+pub record ServedUntil {K : Type 0} (weigher : Weigher) (seen : K → KeeperSeen) (most : ℕ) (is_new : Bool) (name : Bytes) (config : Config) (keeper left : K) (before after : Seen K) (end : Result TalkEnd TalkFault) : Type 0 where
   pub first : List ℕ
   pub begun : AnsweringNode
   pub last : AnsweringNode
   pub named : begun.name ≡ name
   pub alone : begun.peers ≡ []
-  pub begins : BeginsNode weigher is_new name config keeper.stands.kept begun.kept_station first
-  pub uncounted : begun.failures ≡ keeper.failures
-  pub serves : ServesHost weigher most begun last first before after end
-  pub kept : left.stands.kept ≡ last.kept_station.kept
-  pub failed : left.failures ≡ last.failures
-  pub lost : left.lost ≡ last.lost
+  pub begins : BeginsNode weigher is_new name config (seen keeper).stands.kept begun.kept_station first
+  pub uncounted : begun.failures ≡ (seen keeper).failures
+  pub serves : ServesHost weigher (Backs seen) most begun last first before after end
+  pub leaves : Backs seen last left
 
 -- How a node's run ends, over a keeper that can be read or may not be: it didn't begin, and its host was told nothing; or it served.
-abbrev pub RunsTo : Weigher → ℕ → Bool → Bool → Bytes → Config → KeeperSeen → KeeperSeen → Seen → Seen → Option (List ℕ) → Option (List ℕ) → Ended → Type 0
-RunsTo weigher most is_new readable name config keeper left before after errors_before errors_written ended =
-    ((fault : BeginFault) × StaysUnbegun weigher is_new readable name config keeper left fault × (after ≡ before) × IsToldAs (fault_told fault) errors_before errors_written ended)
-    ⊎ ((end : Result TalkEnd TalkFault) × ServedUntil weigher most is_new name config keeper left before after end × IsToldAs (end_told end) errors_before errors_written ended)
+abbrev pub RunsTo : {K : Type 0} → Weigher → (K → KeeperSeen) → ℕ → Bool → Bool → Bytes → Config → K → K → Seen K → Seen K → Option (List ℕ) → Option (List ℕ) → Ended → Type 0
+RunsTo weigher seen most is_new readable name config keeper left before after errors_before errors_written ended =
+    ((fault : BeginFault) × StaysUnbegun weigher is_new readable name config (seen keeper) (seen left) fault × (after ≡ before) × IsToldAs (fault_told fault) errors_before errors_written ended)
+    ⊎ ((end : Result TalkEnd TalkFault) × ServedUntil weigher seen most is_new name config keeper left before after end × IsToldAs (end_told end) errors_before errors_written ended)
 
 -- there is no file yet
 abbrev pub is_unfiled : What → Bool

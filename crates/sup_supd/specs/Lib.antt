@@ -1,2 +1,4 @@
 pub mod Words
 pub mod Ends
+pub mod Reasons
+pub mod Started

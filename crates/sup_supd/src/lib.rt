@@ -1,12 +1,15 @@
-//! The program `supd` but for its `main`: from its words, its host and its file to its status.
+//! The program `supd` but for its `main`: from its arguments, its streams and its images to its status.
 #![tactic(auto)]
 
+pub mod images;
 pub mod left;
 pub mod node;
 pub mod program;
 pub mod settings;
+pub mod unserved;
 
+pub use images::Images;
 pub use left::Left;
 pub use node::{run_filed, run_node};
-pub use program::run;
+pub use program::run_started;
 pub use settings::{Settings, read_settings};

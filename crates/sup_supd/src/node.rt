@@ -23,9 +23,10 @@ use sup_talk::{Host, LINE_LIMIT, TalkEnd, TalkFault};
 /// Runs a node of this name until its host says no more or a fault ends it: if `is_new` one that was just made, whatever its keeper
 /// keeps, or else its next boot from that. Tells the error writer why, and answers that with the exit status: 0, or 1 where what is kept
 /// is no image for this node, or one without a next boot, and 3 where the device, the keeper or memory ended it, or `u64::MAX` lines
-/// were answered. The keeper is left as the node had it at its end. Where the node didn't begin, it keeps what it kept, or, if memory
-/// was refused to the first answer, what was saved by then.
-pub fn run_node<K: ImageKeeper, H: Host, E: Write>(
+/// were answered. With each answer the host is shown this keeper, by which what the answer tells is kept already; it is left as the node
+/// had it at its end. Where the node didn't begin, it keeps what it kept, or, if memory was refused to the first answer, what was saved by
+/// then.
+pub fn run_node<K: ImageKeeper, H: Host<K>, E: Write>(
     alloc: Global,
     name: NodeName,
     config: Config,
@@ -35,9 +36,8 @@ pub fn run_node<K: ImageKeeper, H: Host, E: Write>(
     host: &mut H,
     errors: &mut E,
 ) -> (Ended, Left<K>)
-    ensures { RunsTo (weight_of weighing) LINE_LIMIT is_new (K.readable keeper) name config (seen_of K.kept K.found K.failures K.lost keeper)
-        (seen_of K.kept K.found K.failures K.lost (left_keeper result.1)) (H.seen host.old) (H.seen host.new)
-        (E.contents errors.old) (E.contents errors.new) result.0 }
+    ensures { RunsTo (weight_of weighing) (seen_of K.kept K.found K.failures K.lost) LINE_LIMIT is_new (K.readable keeper) name config
+        keeper (left_keeper result.1) (H.seen host.old) (H.seen host.new) (E.contents errors.old) (E.contents errors.new) result.0 }
 {
     match weighing {
         Weighing::Sha256 => {
@@ -63,7 +63,7 @@ pub fn run_node<K: ImageKeeper, H: Host, E: Write>(
 }
 
 /// The same with what a keeper over a disk keeps: the node is new where there is no file yet, and only there.
-pub fn run_filed<D: Disk, H: Host, E: Write>(
+pub fn run_filed<D: Disk, H: Host<DiskKeeper<D>>, E: Write>(
     alloc: Global,
     name: NodeName,
     config: Config,
@@ -72,14 +72,14 @@ pub fn run_filed<D: Disk, H: Host, E: Write>(
     host: &mut H,
     errors: &mut E,
 ) -> (Ended, Left<DiskKeeper<D>>)
-    ensures { RunsTo (weight_of weighing) LINE_LIMIT (is_unfiled keeper.copy) true name config (file_seen keeper) (file_seen (left_keeper result.1))
-        (H.seen host.old) (H.seen host.new) (E.contents errors.old) (E.contents errors.new) result.0 }
+    ensures { RunsTo (weight_of weighing) file_seen LINE_LIMIT (is_unfiled keeper.copy) true name config
+        keeper (left_keeper result.1) (H.seen host.old) (H.seen host.new) (E.contents errors.old) (E.contents errors.new) result.0 }
 {
     let is_new = keeper.is_new();
     run_node(alloc, name, config, weighing, keeper, is_new, host, errors)
 }
 
-fn run_by<K: ImageKeeper, W: Weigh + Drop, H: Host, E: Write>(
+fn run_by<K: ImageKeeper, W: Weigh + Drop, H: Host<K>, E: Write>(
     alloc: Global,
     name: NodeName,
     config: Config,
@@ -89,9 +89,8 @@ fn run_by<K: ImageKeeper, W: Weigh + Drop, H: Host, E: Write>(
     host: &mut H,
     errors: &mut E,
 ) -> (Ended, Station<K, W>)
-    ensures { RunsTo W.weight_of LINE_LIMIT is_new (K.readable keeper) name config (seen_of K.kept K.found K.failures K.lost keeper)
-        (seen_of K.kept K.found K.failures K.lost (keeper_of result.1)) (H.seen host.old) (H.seen host.new)
-        (E.contents errors.old) (E.contents errors.new) result.0 }
+    ensures { RunsTo W.weight_of (seen_of K.kept K.found K.failures K.lost) LINE_LIMIT is_new (K.readable keeper) name config
+        keeper (keeper_of result.1) (H.seen host.old) (H.seen host.new) (E.contents errors.old) (E.contents errors.new) result.0 }
 {
     match begin(alloc, name, config, keeper, is_new, weigher) {
         Ok(begun) => {

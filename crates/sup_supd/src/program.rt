@@ -1,133 +1,178 @@
-//! The program's run over the system's streams and file system, of which contracts say nothing.
+//! The program's run, from its arguments, its streams and its images to its status.
 
+ghost use Rattle.std.specs.Prelude.{◌≡◌, drop, Some, IfNone, IfOk, IfSome, map, string_bytes};
+ghost use Rattle.std.specs.Vec.Iter.{into_iter_items};
+ghost use Rattle.sup_lines.specs.Words.{texts};
+ghost use Rattle.sup_talk.specs.Hosts.{seen_of};
+ghost use Rattle.sup_supd.specs.Started.{EndsUnserved, RunsArguments, RunsSet, RunsStarted, new_host, words_in};
+ghost use Rattle.sup_supd.specs.Words.{set_of, settings_of};
+
+use crate::images::Images;
 use crate::node::run_filed;
 use crate::settings::{Settings, read_settings};
-use std::alloc::Global;
-use std::env;
-use std::io::{self, BufReader, ErrorKind, Write};
-use sup_disk::{DiskKeeper, FileLock, LockFault, SystemDisk, Unopened};
-use sup_jobs::{Fault, put_all, report};
-use sup_talk::Streams;
+use crate::unserved::{Unserved, refuse, why_for, why_unlocked};
+use std::alloc::{AllocError, Global};
+use std::env::Args;
+use std::io::{self, BufReader, Read, Write};
+use sup_disk::DiskKeeper;
+use sup_jobs::Ended;
+use sup_talk::{Host, Streams};
 
-/// The exit status where the words are refused.
-pub const USAGE: u8 = 2;
-
-/// What is told where the words are refused.
-const USAGE_LINE: &str =
-    "usage: supd NAME --image FILE [--weigh sha256|flat] [--intensity N] [--period N] [--buffer N]\n";
-
-/// Why a node's file isn't served.
-#[derive(Clone, Copy, Debug, PartialEq, Eq)]
-enum Unserved {
-    /// The words set no node.
-    Words,
-    /// Another process serves the image.
-    Taken,
-    Device,
-    OutOfMemory,
-}
-
-impl From<io::Error> for Unserved {
-    fn from(error: io::Error) -> Unserved {
-        match error.kind() {
-            ErrorKind::OutOfMemory => Unserved::OutOfMemory,
-            _ => Unserved::Device,
+/// Runs the node that the words after the program's name set, until its host, who speaks by the reader and hears by the writer, says
+/// no more. Answers the exit status, and what is left of the streams, if memory for a buffer was there: 0, or 1 where what is kept is no
+/// image for this node, or one without a next boot, `USAGE` where the words are refused, and 3 where the streams, the image or memory
+/// ended it, or another process serves the image. The image's lock is held until the node has ended.
+pub fn run_started<I: Images, R: Read + Drop, W: Write + Drop, E: Write>(
+    alloc: Global,
+    arguments: io::Result<Args>,
+    images: &I,
+    reader: R,
+    writer: W,
+    errors: &mut E,
+) -> (u8, Option<Streams<BufReader<R>, W>>)
+    ensures runs { IfSome result.1 (λ host. RunsStarted I.locks I.opens images.now arguments
+        (seen_of (new_host (R.remaining reader) (W.contents writer))) (seen_of host)
+        (E.contents errors.old) (E.contents errors.new) result.0) }
+    ensures memory { IfNone result.1 (EndsUnserved Unserved.OutOfMemory
+        (E.contents errors.old) (E.contents errors.new) result.0) }
+{
+    match streams_of(alloc, reader, writer) {
+        Ok(mut host) => {
+            let ended = run_arguments(alloc, arguments, images, &mut host, errors);
+            (ended.status, Some(host))
+        }
+        Err(_) => {
+            let ended = refuse(errors, Unserved::OutOfMemory);
+            (ended.status, None)
         }
     }
 }
 
-/// Runs the node that the program's words set, until its host says no more, and answers the exit status: 0, or 1 where what is kept is
-/// no image for this node, or one without a next boot, `USAGE` where the words are refused, and 3 where the streams, the file or memory
-/// ended it, or another process serves the image.
-pub fn run(rt: &HostRuntime) -> u8 {
-    match serve_words(rt) {
-        Ok(status) => status,
-        Err(why) => refuse(&mut rt.stderr(), why),
-    }
+#[tactic(auto, using(crate::proofs::NewHosts::unbuffered))]
+fn streams_of<R: Read + Drop, W: Write + Drop>(
+    alloc: Global,
+    reader: R,
+    writer: W,
+) -> io::Result<Streams<BufReader<R>, W>>
+    ensures { IfOk result (λ host. host ≡ new_host (R.remaining reader) (W.contents writer)) }
+{
+    let reader = BufReader::new(alloc, reader)?;
+    Ok(Streams::new(reader, writer))
 }
 
-fn serve_words(rt: &HostRuntime) -> Result<u8, Unserved> {
-    let words = words_of(rt)?;
-    let mut texts = Vec::new(rt.alloc());
-    for word in &words {
-        if texts.push(word.as_str()).is_err() {
-            return Err(Unserved::OutOfMemory);
+fn run_arguments<I: Images, H: Host<DiskKeeper<I::Disk>>, E: Write>(
+    alloc: Global,
+    arguments: io::Result<Args>,
+    images: &I,
+    host: &mut H,
+    errors: &mut E,
+) -> Ended
+    ensures { RunsArguments I.locks I.opens images.now arguments (H.seen host.old) (H.seen host.new)
+        (E.contents errors.old) (E.contents errors.new) result }
+{
+    match arguments {
+        Ok(arguments) => run_given(alloc, arguments, images, host, errors),
+        Err(error) => {
+            let why = why_for(&error, Unserved::Words);
+            refuse(errors, why)
         }
     }
-    match read_settings(texts.as_slice()) {
-        Some(settings) => serve_image(rt, settings),
-        None => Err(Unserved::Words),
+}
+
+fn run_given<I: Images, H: Host<DiskKeeper<I::Disk>>, E: Write>(
+    alloc: Global,
+    arguments: Args,
+    images: &I,
+    host: &mut H,
+    errors: &mut E,
+) -> Ended
+    ensures { RunsSet I.locks I.opens images.now (settings_of (words_in arguments)) (H.seen host.old) (H.seen host.new)
+        (E.contents errors.old) (E.contents errors.new) result }
+{
+    match words_of(alloc, arguments) {
+        Ok(words) => run_words(alloc, words.as_slice(), images, host, errors),
+        Err(_) => refuse(errors, Unserved::OutOfMemory),
     }
 }
 
-// The words after the program's name. Words that are no text set no node.
-fn words_of(rt: &HostRuntime) -> Result<Vec<String>, Unserved> {
-    let words = match env::args(rt) {
-        Ok(words) => words,
-        Err(error) if error.kind() == ErrorKind::OutOfMemory => return Err(Unserved::OutOfMemory),
-        Err(_) => return Err(Unserved::Words),
-    };
-    match words.skip(1).collect(rt.alloc()) {
-        Ok(words) => Ok(words),
-        Err(_) => Err(Unserved::OutOfMemory),
+// The words after the program's name, which is the first of its arguments.
+fn words_of(alloc: Global, arguments: Args) -> Result<Vec<String>, AllocError>
+    ensures { IfOk result (λ words. words.items ≡ drop 1 (into_iter_items arguments)) }
+{
+    let words = arguments.skip(1).collect(alloc)?;
+    Ok(words)
+}
+
+fn run_words<I: Images, H: Host<DiskKeeper<I::Disk>>, E: Write>(
+    alloc: Global,
+    words: &[String],
+    images: &I,
+    host: &mut H,
+    errors: &mut E,
+) -> Ended
+    ensures { RunsSet I.locks I.opens images.now (settings_of (map string_bytes words.now)) (H.seen host.old) (H.seen host.new)
+        (E.contents errors.old) (E.contents errors.new) result }
+{
+    match texts_of(alloc, words) {
+        Ok(texts) => run_texts(alloc, texts.as_slice(), images, host, errors),
+        Err(_) => refuse(errors, Unserved::OutOfMemory),
     }
 }
 
-fn serve_image(rt: &HostRuntime, settings: Settings<'_>) -> Result<u8, Unserved> {
-    let alloc = rt.alloc();
+fn texts_of<'a>(alloc: Global, words: &'a [String]) -> Result<Vec<&'a str>, AllocError>
+    ensures { IfOk result (λ found. texts found.items ≡ map string_bytes words.entry.now) }
+{
+    let mut texts = Vec::new(alloc);
+    for word in words {
+        texts.push(word.as_str())?;
+    }
+    Ok(texts)
+}
+
+fn run_texts<I: Images, H: Host<DiskKeeper<I::Disk>>, E: Write>(
+    alloc: Global,
+    words: &[&str],
+    images: &I,
+    host: &mut H,
+    errors: &mut E,
+) -> Ended
+    ensures { RunsSet I.locks I.opens images.now (settings_of (texts words.now)) (H.seen host.old) (H.seen host.new)
+        (E.contents errors.old) (E.contents errors.new) result }
+{
+    match read_settings(words) {
+        Some(settings) => run_set(alloc, settings, images, host, errors),
+        None => refuse(errors, Unserved::Words),
+    }
+}
+
+fn run_set<I: Images, H: Host<DiskKeeper<I::Disk>>, E: Write>(
+    alloc: Global,
+    settings: Settings<'_>,
+    images: &I,
+    host: &mut H,
+    errors: &mut E,
+) -> Ended
+    ensures { RunsSet I.locks I.opens images.now (Some (set_of settings.entry)) (H.seen host.old) (H.seen host.new)
+        (E.contents errors.old) (E.contents errors.new) result }
+{
     // It is held until the node has ended.
-    let _lock = match FileLock::beside(alloc, rt, settings.image) {
+    let _lock = match images.lock(alloc, settings.image) {
         Ok(lock) => lock,
-        Err(LockFault::Taken) => return Err(Unserved::Taken),
-        Err(LockFault::Device) => return Err(Unserved::Device),
-        Err(LockFault::OutOfMemory) => return Err(Unserved::OutOfMemory),
+        Err(fault) => return refuse(errors, why_unlocked(fault)),
     };
-    let keeper = keeper_at(alloc, rt, settings.image)?;
-    let Ok(reader) = BufReader::new(alloc, rt.stdin()) else {
-        return Err(Unserved::OutOfMemory);
+    let keeper = match images.open(alloc, settings.image) {
+        Ok(keeper) => keeper,
+        Err(error) => return refuse(errors, why_for(&error, Unserved::Device)),
     };
-    let mut host = Streams::new(reader, rt.stdout());
-    let (ended, _left) = run_filed(
+    let ran = run_filed(
         alloc,
         settings.name,
         settings.config,
         settings.weighing,
         keeper,
-        &mut host,
-        &mut rt.stderr(),
+        host,
+        errors,
     );
-    Ok(ended.status)
-}
-
-fn keeper_at(
-    alloc: Global,
-    rt: &HostRuntime,
-    path: &str,
-) -> Result<DiskKeeper<SystemDisk<HostRuntime>>, Unserved> {
-    let Ok(handle) = rt.clone() else {
-        return Err(Unserved::OutOfMemory);
-    };
-    let disk = match SystemDisk::at(alloc, handle, path) {
-        Ok(disk) => disk,
-        Err(_) => return Err(Unserved::OutOfMemory),
-    };
-    match DiskKeeper::open(alloc, disk) {
-        Ok(keeper) => Ok(keeper),
-        Err(unopened) => {
-            let Unopened { error, disk: _ } = unopened;
-            Err(Unserved::from(error))
-        }
-    }
-}
-
-// Tells why there is no node, and answers the exit status. Faults of the error writer are passed over.
-fn refuse<E: Write>(errors: &mut E, why: Unserved) -> u8 {
-    let (status, told) = match why {
-        Unserved::Words => (USAGE, put_all(errors, USAGE_LINE.as_bytes())),
-        Unserved::Taken => (3, put_all(errors, b"image in use\n")),
-        Unserved::Device => (3, report(errors, Fault::Device)),
-        Unserved::OutOfMemory => (3, report(errors, Fault::OutOfMemory)),
-    };
-    let _ = told;
-    status
+    let (ended, _left) = ran;
+    ended
 }

@@ -1,7 +1,10 @@
 //! Stories of a keeper over a disk.
 
 use std::process::Abort;
-use sup_disk::{Disk, DiskKeeper, FileLock, ImageKeeper, LockFault, MemDisk, Next, SystemDisk};
+use sup_disk::{
+    Disk, DiskKeeper, FileLock, ImageKeeper, LockFault, MemDisk, Next, ReplaceFault, SystemDisk,
+    replace_on,
+};
 use sup_keeper::{KeepFault, Keeper};
 
 /// A keeper of what this disk has. It ends the test where none can be opened.
@@ -33,6 +36,16 @@ fn left_by(rt: &(impl Abort + AllocGlobal), disk: &MemDisk, is_ahead: bool) -> V
         Some(bytes) => bytes.to_vec(rt.alloc()).expect(rt, "room"),
         None => Vec::new(rt.alloc()),
     }
+}
+
+// A disk whose file had `one`, and whose rename of `two` was done and not flushed, by this fault, which is over.
+fn renamed_unflushed(rt: &(impl Abort + AllocGlobal), fault: Next) -> MemDisk {
+    let mut disk = MemDisk::new(rt.alloc());
+    assert_eq!(rt; replace_on(&mut disk, b"one"), Ok(()));
+    disk.next = fault;
+    assert_eq!(rt; replace_on(&mut disk, b"two"), Err(ReplaceFault::Unsure));
+    disk.next = Next::Holds;
+    disk
 }
 
 #[test]
@@ -94,6 +107,27 @@ fn a_loss_of_power_leaves_what_the_disk_had_and_nothing_beside_it(rt: HostRuntim
     assert!(rt; disk.lose_power(false).is_ok());
     assert_eq!(rt; left_by(&rt, &disk, true).as_slice(), b"old".as_slice());
     assert!(rt; disk.beside.is_none());
+}
+
+#[test]
+fn a_rename_that_was_not_flushed_is_read_and_flushed_as_long_as_the_power_stays(rt: HostRuntime) {
+    for fault in [Next::RenameIsUntold, Next::FolderFails] {
+        let keeper = opened(&rt, renamed_unflushed(&rt, fault));
+        assert_eq!(rt; keeper.stored(), b"two".as_slice());
+        assert_eq!(rt;
+            left_by(&rt, keeper.disk(), false).as_slice(),
+            b"two".as_slice()
+        );
+    }
+}
+
+#[test]
+fn a_rename_that_was_not_flushed_is_read_or_undone_once_the_power_went(rt: HostRuntime) {
+    for (is_ahead, left) in [(false, "one"), (true, "two")] {
+        let mut disk = renamed_unflushed(&rt, Next::FolderFails);
+        assert!(rt; disk.lose_power(is_ahead).is_ok());
+        assert_eq!(rt; opened(&rt, disk).stored(), left.as_bytes());
+    }
 }
 
 #[test]

@@ -96,12 +96,14 @@ pub struct Echo {
     pub is_over: bool,
 }
 
-impl Answerer for Echo {
+impl Answerer<bool> for Echo {
     ghost over = { λ e. e.is_over };
 
     ghost answers = { λ _ _ _ _. Unit {0} };
 
     ghost lacks = { λ _ _ _. Unit {0} };
+
+    ghost shows = { λ _ _. Unit {0} };
 
     fn answer(&mut self, line: Option<&[u8]>) -> Result<Vec<u8>, AllocError> {
         match line {
@@ -123,5 +125,9 @@ impl Answerer for Echo {
 
     fn is_over(&self) -> bool {
         self.is_over
+    }
+
+    fn keeper(&self) -> &bool {
+        &self.is_over
     }
 }

@@ -8,7 +8,10 @@ mod asked;
 #[cfg(test)]
 mod disks;
 pub mod fakes;
+#[cfg(test)]
+mod images;
 pub mod later_disk;
+pub mod noting;
 #[cfg(test)]
 mod runs;
 #[cfg(test)]

@@ -2,10 +2,11 @@
 
 use crate::disks::opened;
 use crate::later_disk::LaterDisk;
+use crate::noting::{Note, Noting};
 use std::process::Abort;
 use sup_command_line::Weighing;
 use sup_disk::{Disk, DiskKeeper, ImageKeeper, MemDisk, Next};
-use sup_jobs::Ended;
+use sup_jobs::{Ended, Questions};
 use sup_replica::Config;
 use sup_specs::NodeName;
 use sup_supd::{Left, run_filed};
@@ -197,6 +198,58 @@ ok boot 1
         \"rows\":[],\"v\":2}"
             .as_slice()
     );
+}
+
+// What a host notes that says these lines to a new node over this disk.
+fn noted<'a, D: Disk>(rt: &(impl Abort + AllocGlobal), disk: D, lines: &'a [u8]) -> Noting<'a> {
+    let alloc = rt.alloc();
+    let mut host = Noting {
+        alloc,
+        lines,
+        questions: Questions::at_most(u64::MAX),
+        notes: Vec::new(alloc),
+        is_short: false,
+    };
+    let _ = run_filed(
+        alloc,
+        NodeName::parse("a").expect(rt, "a name"),
+        Config::new(1, 5, 64).expect(rt, "settings"),
+        Weighing::Flat,
+        opened(rt, disk),
+        &mut host,
+        &mut Vec::new(alloc),
+    );
+    host
+}
+
+// Expects that the image that a host was told is what was kept at the answer before.
+fn expect_image(rt: &(impl Abort + AllocGlobal), told: &Note, image: &Note) {
+    let mut text = told.kept.to_vec(rt.alloc()).expect(rt, "room");
+    text.extend_from_slice(b"\n\n").expect(rt, "room");
+    assert_eq!(rt; image.text.as_slice(), text.as_slice());
+}
+
+#[test]
+fn what_a_host_is_told_is_kept_by_then(rt: HostRuntime) {
+    let disk = LaterDisk {
+        holds: 2,
+        fails_late: false,
+    };
+    let host = noted(&rt, disk, b"image\njoin\nimage\nstart web\nimage\n");
+    assert!(rt; !host.is_short);
+    match host.notes.as_slice() {
+        [boot, at_boot, joined, at_join, refused, at_refusal] => {
+            assert_eq!(rt; joined.text.as_slice(), b"ok (a,1)\n\n".as_slice());
+            assert_eq!(rt;
+                refused.text.as_slice(),
+                b"refused 16 KeepFailed\n\n".as_slice()
+            );
+            expect_image(&rt, boot, at_boot);
+            expect_image(&rt, joined, at_join);
+            expect_image(&rt, refused, at_refusal);
+        }
+        _ => rt.panic("six answers"),
+    }
 }
 
 #[test]

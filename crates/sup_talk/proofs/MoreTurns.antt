@@ -5,19 +5,19 @@ use Rattle.std.proofs.KnownBytes.{Consumes-trans, Appends-trans, Consumes-nil, A
 use Rattle.std.proofs.lemmas.Grind.{flat_map-append}
 use Rattle.std.proofs.lemmas.List.Elements.{All-append, All-cons, All-nil}
 use Rattle.sup_talk.specs.Hosts.{Seen, Event, Heard, Told, Passes, Exchanges}
-use Rattle.sup_talk.specs.Talking.{Answers, Lacks, Turn, Follows, Talks, IsHeard, Replies, Rounds, taken_by, said_by, events_of}
+use Rattle.sup_talk.specs.Talking.{Answers, Lacks, Shows, Turn, Follows, Talks, IsHeard, Replies, Rounds, taken_by, said_by, events_of}
 
-pub Passes-trans : (a b c : Option (List Event)) (es fs : List Event) → Passes a b es → Passes b c fs → Passes a c (es ++ fs)
+pub Passes-trans : {K : Type 0} (a b c : Option (List (Event K))) (es fs : List (Event K)) → Passes a b es → Passes b c fs → Passes a c (es ++ fs)
 Passes-trans None b c es fs p q = tt
 Passes-trans (Some x) None c es fs p q = absurd p
 Passes-trans (Some x) (Some y) None es fs p q = absurd q
 Passes-trans (Some x) (Some y) (Some z) es fs p q = q ∙ ap (λ l. l ++ fs) p ∙ append_assoc x es fs
 
-pub Passes-nil : (a : Option (List Event)) → Passes a a []
+pub Passes-nil : {K : Type 0} (a : Option (List (Event K))) → Passes a a []
 Passes-nil None = tt
 Passes-nil (Some x) = sym (append-nil x)
 
-pub Exchanges-trans : (a b c : Seen) (taken taken' said said' : List ℕ) (events events' : List Event)
+pub Exchanges-trans : {K : Type 0} (a b c : Seen K) (taken taken' said said' : List ℕ) (events events' : List (Event K))
     → Exchanges a b taken said events → Exchanges b c taken' said' events' → Exchanges a c (taken ++ taken') (said ++ said') (events ++ events')
 Exchanges-trans a b c taken taken' said said' events events' p q = record {
   consumes = Consumes-trans a.unread b.unread c.unread taken taken' p.consumes q.consumes;
@@ -25,70 +25,72 @@ Exchanges-trans a b c taken taken' said said' events events' p q = record {
   passes = Passes-trans a.past b.past c.past events events' p.passes q.passes;
 }
 
-pub Exchanges-none : (a : Seen) → Exchanges a a [] [] []
+pub Exchanges-none : {K : Type 0} (a : Seen K) → Exchanges a a [] [] []
 Exchanges-none a = record {
   consumes = Consumes-nil a.unread;
   appends = Appends-nil a.written;
   passes = Passes-nil a.past;
 }
 
-pub Follows-more : {S : Type 0} (answers : Answers S) (over : S → Bool) (s t u : S) (turns : List Turn) (turn : Turn)
-    → Follows answers over s turns t → over t ≡ false → answers t turn.heard turn.said u → Follows answers over s (turns ++ (turn ∷ [])) u
-Follows-more answers over s t u [] turn before on more =
-    (subst (λ x. over x ≡ false) (sym before) on, u, subst (λ x. answers x turn.heard turn.said u) (sym before) more, refl)
-Follows-more answers over s t u (first ∷ turns) turn before on more =
-    (before.0, before.1, before.2, Follows-more answers over before.1 t u turns turn before.3 on more)
+pub Follows-more : {S K : Type 0} (answers : Answers S) (shows : Shows S K) (over : S → Bool) (s t u : S) (turns : List (Turn K)) (turn : Turn K)
+    → Follows answers shows over s turns t → over t ≡ false → answers t turn.heard turn.said u → shows u turn.keeper → Follows answers shows over s (turns ++ (turn ∷ [])) u
+Follows-more answers shows over s t u [] turn before on more shown =
+    (subst (λ x. over x ≡ false) (sym before) on, u, subst (λ x. answers x turn.heard turn.said u) (sym before) more, shown, refl)
+Follows-more answers shows over s t u (first ∷ turns) turn before on more shown =
+    (before.0, before.1, before.2, before.3, Follows-more answers shows over before.1 t u turns turn before.4 on more shown)
 
-pub Talks-none : {S : Type 0} (answers : Answers S) (over : S → Bool) (most : ℕ) (s : S) (seen : Seen) → Talks answers over most s s seen seen []
-Talks-none answers over most s seen = record {
+pub Talks-none : {S K : Type 0} (answers : Answers S) (shows : Shows S K) (over : S → Bool) (most : ℕ) (s : S) (seen : Seen K) → Talks answers shows over most s s seen seen []
+Talks-none answers shows over most s seen = record {
   follows = refl;
   heard = All-nil (λ turn. IsHeard most turn.taken turn.heard);
   exchanges = Exchanges-none seen;
 }
 
-pub Talks-more : {S : Type 0} (answers : Answers S) (over : S → Bool) (most : ℕ) (s t u : S) (a b c : Seen) (turns : List Turn) (turn : Turn)
-    → Talks answers over most s t a b turns → over t ≡ false
-    → IsHeard most turn.taken turn.heard → answers t turn.heard turn.said u → Exchanges b c turn.taken turn.said (Heard turn.heard ∷ Told turn.said ∷ [])
-    → Talks answers over most s u a c (turns ++ (turn ∷ []))
-Talks-more answers over most s t u a b c turns turn before on heard answered exchanged = record {
-  follows = Follows-more answers over s t u turns turn before.follows on answered;
+pub Talks-more : {S K : Type 0} (answers : Answers S) (shows : Shows S K) (over : S → Bool) (most : ℕ) (s t u : S) (a b c : Seen K) (turns : List (Turn K)) (turn : Turn K)
+    → Talks answers shows over most s t a b turns → over t ≡ false
+    → IsHeard most turn.taken turn.heard → answers t turn.heard turn.said u → shows u turn.keeper
+    → Exchanges b c turn.taken turn.said (Heard turn.heard ∷ Told turn.said turn.keeper ∷ [])
+    → Talks answers shows over most s u a c (turns ++ (turn ∷ []))
+Talks-more answers shows over most s t u a b c turns turn before on heard answered shown exchanged = record {
+  follows = Follows-more answers shows over s t u turns turn before.follows on answered shown;
   heard = All-append (λ turn. IsHeard most turn.taken turn.heard) turns (turn ∷ []) before.heard (All-cons (λ turn. IsHeard most turn.taken turn.heard) turn [] heard (All-nil (λ turn. IsHeard most turn.taken turn.heard)));
   exchanges =
       let taken = flat_map-append (λ turn. turn.taken) turns (turn ∷ []) ∙ ap (λ l. taken_by turns ++ l) (append-nil turn.taken) in
       let said = flat_map-append (λ turn. turn.said) turns (turn ∷ []) ∙ ap (λ l. said_by turns ++ l) (append-nil turn.said) in
-      let events = flat_map-append (λ turn. Heard turn.heard ∷ Told turn.said ∷ []) turns (turn ∷ []) in
+      let events = flat_map-append (λ turn. Heard turn.heard ∷ Told turn.said turn.keeper ∷ []) turns (turn ∷ []) in
       subst (λ x. Exchanges a c x (said_by (turns ++ (turn ∷ []))) (events_of (turns ++ (turn ∷ [])))) (sym taken)
       (subst (λ x. Exchanges a c (taken_by turns ++ turn.taken) x (events_of (turns ++ (turn ∷ [])))) (sym said)
       (subst (λ x. Exchanges a c (taken_by turns ++ turn.taken) (said_by turns ++ turn.said) x) (sym events)
-      (Exchanges-trans a b c (taken_by turns) turn.taken (said_by turns) turn.said (events_of turns) (Heard turn.heard ∷ Told turn.said ∷ []) before.exchanges exchanged)));
+      (Exchanges-trans a b c (taken_by turns) turn.taken (said_by turns) turn.said (events_of turns) (Heard turn.heard ∷ Told turn.said turn.keeper ∷ []) before.exchanges exchanged)));
 }
 
-one-more : (turns : List Turn) (turn : Turn) → length (turns ++ (turn ∷ [])) ≡ length turns + 1
+one-more : {K : Type 0} (turns : List (Turn K)) (turn : Turn K) → length (turns ++ (turn ∷ [])) ≡ length turns + 1
 one-more turns turn = length-append turns (turn ∷ [])
 
 -- with one round more that was a turn
-pub Talks-round : {S : Type 0} (answers : Answers S) (lacks : Lacks S) (over : S → Bool) (most : ℕ) (s t u : S) (a b c : Seen) (count : ℕ) (go : Bool)
-    → ((turns : List Turn) × Talks answers over most s t a b turns × (length turns ≡ count))
-    → over t ≡ false → go ≡ true → Rounds answers lacks most t u b c (Ok go)
-    → ((turns : List Turn) × Talks answers over most s u a c turns × (length turns ≡ count + 1))
-Talks-round answers lacks over most s t u a b c count go before on is round =
-    let turn = subst (λ g. Rounds answers lacks most t u b c (Ok g)) is round in (
+pub Talks-round : {S K : Type 0} (answers : Answers S) (shows : Shows S K) (lacks : Lacks S) (over : S → Bool) (most : ℕ) (s t u : S) (a b c : Seen K) (count : ℕ) (go : Bool)
+    → ((turns : List (Turn K)) × Talks answers shows over most s t a b turns × (length turns ≡ count))
+    → over t ≡ false → go ≡ true → Rounds answers shows lacks most t u b c (Ok go)
+    → ((turns : List (Turn K)) × Talks answers shows over most s u a c turns × (length turns ≡ count + 1))
+Talks-round answers shows lacks over most s t u a b c count go before on is round =
+    let turn = subst (λ g. Rounds answers shows lacks most t u b c (Ok g)) is round in (
       before.0 ++ (turn.0 ∷ []),
-      Talks-more answers over most s t u a b c before.0 turn.0 before.1 on turn.1 turn.2 turn.3,
+      Talks-more answers shows over most s t u a b c before.0 turn.0 before.1 on turn.1 turn.2 turn.3 turn.4,
       one-more before.0 turn.0 ∙ ap (λ n. n + 1) before.2,
     )
 
--- a line that was heard, and its answer that was told, are a turn
-pub turn-of : {S : Type 0} (answers : Answers S) (lacks : Lacks S) (most : ℕ) (s t : S) (a b c : Seen) (got : Option (Vec ℕ)) (text : Vec ℕ) (said : List ℕ)
-    → Replies answers lacks most s t a b (Ok got) → got ≡ Some text → said ≡ text.items → Exchanges b c [] said (Told said ∷ [])
-    → Rounds answers lacks most s t a c (Ok true)
-turn-of answers lacks most s t a b c got text said replies is same told =
+-- a line that was heard, and its answer that was told beside a keeper that is shown, are a turn
+pub turn-of : {S K : Type 0} (answers : Answers S) (shows : Shows S K) (lacks : Lacks S) (most : ℕ) (s t : S) (a b c : Seen K) (got : Option (Vec ℕ)) (text : Vec ℕ) (said : List ℕ) (keeper : K)
+    → Replies answers lacks most s t a b (Ok got) → got ≡ Some text → said ≡ text.items → shows t keeper → Exchanges b c [] said (Told said keeper ∷ [])
+    → Rounds answers shows lacks most s t a c (Ok true)
+turn-of answers shows lacks most s t a b c got text said keeper replies is same shown told =
     let heard = subst (λ g. Replies answers lacks most s t a b (Ok g)) is replies in
     let line = heard.1 in (
-      record { taken = line.0; heard = heard.0; said = text.items },
+      record { taken = line.0; heard = heard.0; said = text.items; keeper = keeper },
       line.1,
       heard.2,
-      subst (λ x. Exchanges a c x text.items (Heard heard.0 ∷ Told text.items ∷ [])) (append-nil line.0)
-          (Exchanges-trans a b c line.0 [] [] text.items (Heard heard.0 ∷ []) (Told text.items ∷ []) line.2
-          (subst (λ x. Exchanges b c [] x (Told x ∷ [])) same told)),
+      shown,
+      subst (λ x. Exchanges a c x text.items (Heard heard.0 ∷ Told text.items keeper ∷ [])) (append-nil line.0)
+          (Exchanges-trans a b c line.0 [] [] text.items (Heard heard.0 ∷ []) (Told text.items keeper ∷ []) line.2
+          (subst (λ x. Exchanges b c [] x (Told x keeper ∷ [])) same told)),
     )

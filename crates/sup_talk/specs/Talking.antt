@@ -18,88 +18,95 @@ Answers S = S → Option (List ℕ) → List ℕ → S → Type 0
 abbrev pub Lacks : Type 0 → Type 1
 Lacks S = S → Option (List ℕ) → S → Type 0
 
--- A line that was taken from the host, what was heard of it, and what was told.
-pub record Turn : Type 0 where
+-- an answerer in this state may show this keeper
+abbrev pub Shows : Type 0 → Type 0 → Type 1
+Shows S K = S → K → Type 0
+
+-- A line that was taken from the host, what was heard of it, what was told, and the keeper that the host was shown with that.
+pub record Turn (K : Type 0) : Type 0 where
   pub taken : List ℕ
   pub heard : Option (List ℕ)  -- the line, or none where it was too long
   pub said : List ℕ
+  pub keeper : K
 
 -- the bytes of a line that was heard; of one that is too long nothing is heard but that
 abbrev pub IsHeard : ℕ → List ℕ → Option (List ℕ) → Type 0
 IsHeard most taken (Some line) = (length line ≤ most) × IsUnbroken line × (taken ≡ line ++ (10 ∷ []))
 IsHeard most taken None = (line : List ℕ) × (most < length line) × IsUnbroken line × (taken ≡ line ++ (10 ∷ []))
 
--- each turn answers what was heard, from one state that isn't over to the next
-abbrev pub Follows : {S : Type 0} → Answers S → (S → Bool) → S → List Turn → S → Type 0
-Follows answers over s [] t = s ≡ t
-Follows {S} answers over s (turn ∷ turns) t = (over s ≡ false) × (mid : S) × answers s turn.heard turn.said mid × Follows answers over mid turns t
+-- each turn answers what was heard, from one state that isn't over to the next, and shows the keeper of that
+abbrev pub Follows : {S K : Type 0} → Answers S → Shows S K → (S → Bool) → S → List (Turn K) → S → Type 0
+Follows answers shows over s [] t = s ≡ t
+Follows {S} answers shows over s (turn ∷ turns) t = (over s ≡ false) × (mid : S) × answers s turn.heard turn.said mid × shows mid turn.keeper × Follows answers shows over mid turns t
 
-abbrev pub taken_by : List Turn → List ℕ
+abbrev pub taken_by : {K : Type 0} → List (Turn K) → List ℕ
 taken_by turns = flat_map (λ turn. turn.taken) turns
 
-abbrev pub said_by : List Turn → List ℕ
+abbrev pub said_by : {K : Type 0} → List (Turn K) → List ℕ
 said_by turns = flat_map (λ turn. turn.said) turns
 
 -- each line is heard, then its answer is told, and then the next is heard
-abbrev pub events_of : List Turn → List Event
-events_of turns = flat_map (λ turn. Heard turn.heard ∷ Told turn.said ∷ []) turns
+abbrev pub events_of : {K : Type 0} → List (Turn K) → List (Event K)
+events_of turns = flat_map (λ turn. Heard turn.heard ∷ Told turn.said turn.keeper ∷ []) turns
 
 -- The lines of these turns were heard, and the answer to each was told before the next was heard.
-pub record Talks {S : Type 0} (answers : Answers S) (over : S → Bool) (most : ℕ) (s t : S) (before after : Seen) (turns : List Turn) : Type 0 where
-  pub follows : Follows answers over s turns t
+pub record Talks {S K : Type 0} (answers : Answers S) (shows : Shows S K) (over : S → Bool) (most : ℕ) (s t : S) (before after : Seen K) (turns : List (Turn K)) : Type 0 where
+  pub follows : Follows answers shows over s turns t
   pub heard : All (λ turn. IsHeard most turn.taken turn.heard) turns
   pub exchanges : Exchanges before after (taken_by turns) (said_by turns) (events_of turns)
 
 -- The host says no more, once. What it didn't end by a line feed is gone, and is no line.
-abbrev pub IsHeardOut : Seen → Seen → Type 0
+abbrev pub IsHeardOut : {K : Type 0} → Seen K → Seen K → Type 0
 IsHeardOut before after = (rest : List ℕ) × IsUnbroken rest × Exchanges before after rest [] (Silent ∷ []) × IsAtEnd after.unread
 
 -- no line was heard: a front of one is gone
-abbrev pub IsUnheard : Seen → Seen → Type 0
+abbrev pub IsUnheard : {K : Type 0} → Seen K → Seen K → Type 0
 IsUnheard before after = (front : List ℕ) × IsUnbroken front × Exchanges before after front [] []
 
 -- a line was heard, and nothing told yet
-abbrev pub HearsLine : ℕ → Option (List ℕ) → Seen → Seen → Type 0
+abbrev pub HearsLine : {K : Type 0} → ℕ → Option (List ℕ) → Seen K → Seen K → Type 0
 HearsLine most heard before after = (taken : List ℕ) × IsHeard most taken heard × Exchanges before after taken [] (Heard heard ∷ [])
 
 -- a device ended it while a line was heard, and the answerer is as it was; or its answer was cut short
-abbrev pub BreaksAt : {S : Type 0} → Answers S → ℕ → S → S → Seen → Seen → Type 0
-BreaksAt answers most s t before after =
+abbrev pub BreaksAt : {S K : Type 0} → Answers S → Shows S K → ℕ → S → S → Seen K → Seen K → Type 0
+BreaksAt {S} {K} answers shows most s t before after =
     ((s ≡ t) × IsUnheard before after × (after.is_broken ≡ true))
-    ⊎ ((heard : Option (List ℕ)) × (said : List ℕ) × (mid : Seen) × HearsLine most heard before mid × answers s heard said t × IsToldShort mid after said)
+    ⊎ ((heard : Option (List ℕ)) × (said : List ℕ) × (mid : Seen K) × HearsLine most heard before mid × answers s heard said t × (keeper : K) × shows t keeper × IsToldShort mid after said keeper)
 
 -- memory was refused to a line, and the answerer is as it was; or to the answer of a line that was heard
-abbrev pub LacksAt : {S : Type 0} → Lacks S → ℕ → S → S → Seen → Seen → Type 0
+abbrev pub LacksAt : {S K : Type 0} → Lacks S → ℕ → S → S → Seen K → Seen K → Type 0
 LacksAt lacks most s t before after = ((s ≡ t) × IsUnheard before after) ⊎ ((heard : Option (List ℕ)) × HearsLine most heard before after × lacks s heard t)
 
-abbrev pub IsCut : {S : Type 0} → Answers S → Lacks S → ℕ → S → S → Seen → Seen → TalkFault → Type 0
-IsCut answers lacks most s t before after Device = BreaksAt answers most s t before after
-IsCut answers lacks most s t before after OutOfMemory = LacksAt lacks most s t before after
+abbrev pub IsCut : {S K : Type 0} → Answers S → Shows S K → Lacks S → ℕ → S → S → Seen K → Seen K → TalkFault → Type 0
+IsCut answers shows lacks most s t before after Device = BreaksAt answers shows most s t before after
+IsCut answers shows lacks most s t before after OutOfMemory = LacksAt lacks most s t before after
 
 -- how a line is heard, and its answer found: there was one; the host says no more; or a fault
-abbrev pub Replies : {S : Type 0} → Answers S → Lacks S → ℕ → S → S → Seen → Seen → Result (Option (Vec ℕ)) TalkFault → Type 0
+abbrev pub Replies : {S K : Type 0} → Answers S → Lacks S → ℕ → S → S → Seen K → Seen K → Result (Option (Vec ℕ)) TalkFault → Type 0
 Replies answers lacks most s t before after (Ok (Some text)) = (heard : Option (List ℕ)) × HearsLine most heard before after × answers s heard text.items t
 Replies answers lacks most s t before after (Ok None) = (s ≡ t) × IsHeardOut before after
 Replies answers lacks most s t before after (Err Device) = (s ≡ t) × IsUnheard before after × (after.is_broken ≡ true)
 Replies answers lacks most s t before after (Err OutOfMemory) = LacksAt lacks most s t before after
 
 -- How a round ends: with a turn; with the end of what the host says; or with a fault.
-abbrev pub Rounds : {S : Type 0} → Answers S → Lacks S → ℕ → S → S → Seen → Seen → Result Bool TalkFault → Type 0
-Rounds answers lacks most s t before after (Ok true) = (turn : Turn) × IsHeard most turn.taken turn.heard × answers s turn.heard turn.said t × Exchanges before after turn.taken turn.said (Heard turn.heard ∷ Told turn.said ∷ [])
-Rounds answers lacks most s t before after (Ok false) = (s ≡ t) × IsHeardOut before after
-Rounds answers lacks most s t before after (Err fault) = IsCut answers lacks most s t before after fault
+abbrev pub Rounds : {S K : Type 0} → Answers S → Shows S K → Lacks S → ℕ → S → S → Seen K → Seen K → Result Bool TalkFault → Type 0
+Rounds {S} {K} answers shows lacks most s t before after (Ok true) =
+    (turn : Turn K) × IsHeard most turn.taken turn.heard × answers s turn.heard turn.said t × shows t turn.keeper
+    × Exchanges before after turn.taken turn.said (Heard turn.heard ∷ Told turn.said turn.keeper ∷ [])
+Rounds answers shows lacks most s t before after (Ok false) = (s ≡ t) × IsHeardOut before after
+Rounds answers shows lacks most s t before after (Err fault) = IsCut answers shows lacks most s t before after fault
 
 -- How a talk ends behind so many turns: the host says no more; or the answerer is over; or there were as many as can be counted; or in
 -- the midst of a turn, by a fault.
-abbrev pub EndsSo : {S : Type 0} → Answers S → Lacks S → (S → Bool) → ℕ → S → S → Seen → Seen → ℕ → Result TalkEnd TalkFault → Type 0
-EndsSo answers lacks over most s t before after count (Ok Ended) = (s ≡ t) × (over s ≡ false) × IsHeardOut before after
-EndsSo answers lacks over most s t before after count (Ok Over) = (s ≡ t) × (over s ≡ true) × (before ≡ after)
-EndsSo answers lacks over most s t before after count (Ok Spent) = (s ≡ t) × (before ≡ after) × (count ≡ 18446744073709551615)
-EndsSo answers lacks over most s t before after count (Err fault) = (over s ≡ false) × IsCut answers lacks most s t before after fault
+abbrev pub EndsSo : {S K : Type 0} → Answers S → Shows S K → Lacks S → (S → Bool) → ℕ → S → S → Seen K → Seen K → ℕ → Result TalkEnd TalkFault → Type 0
+EndsSo answers shows lacks over most s t before after count (Ok Ended) = (s ≡ t) × (over s ≡ false) × IsHeardOut before after
+EndsSo answers shows lacks over most s t before after count (Ok Over) = (s ≡ t) × (over s ≡ true) × (before ≡ after)
+EndsSo answers shows lacks over most s t before after count (Ok Spent) = (s ≡ t) × (before ≡ after) × (count ≡ 18446744073709551615)
+EndsSo answers shows lacks over most s t before after count (Err fault) = (over s ≡ false) × IsCut answers shows lacks most s t before after fault
 
 -- How a talk goes: some turns, and then its end.
-abbrev pub TalksFor : {S : Type 0} → Answers S → Lacks S → (S → Bool) → ℕ → S → S → Seen → Seen → Result TalkEnd TalkFault → Type 0
-TalksFor {S} answers lacks over most s t before after end =
-    (turns : List Turn) × (last : S) × (mid : Seen)
-    × Talks answers over most s last before mid turns
-    × EndsSo answers lacks over most last t mid after (length turns) end
+abbrev pub TalksFor : {S K : Type 0} → Answers S → Shows S K → Lacks S → (S → Bool) → ℕ → S → S → Seen K → Seen K → Result TalkEnd TalkFault → Type 0
+TalksFor {S} {K} answers shows lacks over most s t before after end =
+    (turns : List (Turn K)) × (last : S) × (mid : Seen K)
+    × Talks answers shows over most s last before mid turns
+    × EndsSo answers shows lacks over most last t mid after (length turns) end

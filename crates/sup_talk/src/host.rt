@@ -6,11 +6,12 @@ use crate::line::{LINE_LIMIT, LineFault, Taken};
 use std::alloc::Global;
 use sup_jobs::DeviceFault;
 
-/// Says lines, and is told answers. A contract sees what it has left to say, what it was told, and in which order it was heard and told, as
-/// far as an implementation tells it; and whether it is broken.
-pub trait Host {
+/// Says lines, and is told answers, each beside a keeper: what keeps what the answer speaks of. A contract sees what it has left to say, what
+/// it was told, and in which order it was heard and told, and with which keeper, as far as an implementation tells it; and whether it is
+/// broken.
+pub trait Host<K> {
     // What is known of it.
-    ghost seen: { Self → Seen };
+    ghost seen: { Self → Seen K };
 
     /// Hears its next line.
     ///
@@ -23,11 +24,11 @@ pub trait Host {
     fn hear(&mut self, alloc: Global) -> Result<Taken, LineFault>
         ensures { Hears LINE_LIMIT result (seen self.old) (seen self.new) };
 
-    /// Tells it a text.
+    /// Tells it a text, and shows it the keeper as it is then.
     ///
     /// # Errors
     ///
     /// Where it can't be told any more. It has got a front of the text then, and never all.
-    fn tell(&mut self, text: &[u8]) -> Result<(), DeviceFault>
-        ensures { IsTold result (seen self.old) (seen self.new) text.now };
+    fn tell(&mut self, text: &[u8], keeper: &K) -> Result<(), DeviceFault>
+        ensures { IsTold result (seen self.old) (seen self.new) text.now keeper.now };
 }

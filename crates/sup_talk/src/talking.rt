@@ -31,8 +31,8 @@ pub enum TalkEnd {
     Spent,
 }
 
-/// What answers lines.
-pub trait Answerer {
+/// What answers lines. What it has done is kept by its keeper, if it has one.
+pub trait Answerer<K> {
     // It has given its last answer.
     ghost over: { Self → Bool };
 
@@ -41,6 +41,9 @@ pub trait Answerer {
 
     // It was in the first state, heard this line, or that there was one too long, was refused memory at that, and is in the second.
     ghost lacks: { Self → Option (List ℕ) → Self → Type 0 };
+
+    // In this state it may show this keeper.
+    ghost shows: { Self → K → Type 0 };
 
     /// Answers a line, or, where there is none, a line that was too long.
     ///
@@ -54,10 +57,14 @@ pub trait Answerer {
     /// Whether it has given its last answer.
     fn is_over(&self) -> bool
         ensures { result ≡ over self.now };
+
+    /// Its keeper.
+    fn keeper(&self) -> &K
+        ensures { shows self.now result.now };
 }
 
 /// Answers each line of the host before the next is heard, until the host says no more, the answerer is over, or `u64::MAX` lines were
-/// answered. A line that no line feed ended is none.
+/// answered. With each answer the host is shown the keeper as the answer left it. A line that no line feed ended is none.
 ///
 /// # Errors
 ///
@@ -65,12 +72,12 @@ pub trait Answerer {
 ///   and the host was told a front of that answer, and not all.
 /// - `TalkFault::OutOfMemory`. A front of a line may be gone then, or what the last line asks for may be done, as the answerer's `lacks`
 ///   says, and its answer isn't told.
-pub fn talk<T: Answerer, H: Host>(
+pub fn talk<K, T: Answerer<K>, H: Host<K>>(
     alloc: Global,
     answerer: &mut T,
     host: &mut H,
 ) -> Result<TalkEnd, TalkFault>
-    ensures { TalksFor T.answers T.lacks T.over LINE_LIMIT answerer.old answerer.new (H.seen host.old) (H.seen host.new) result }
+    ensures { TalksFor T.answers T.shows T.lacks T.over LINE_LIMIT answerer.old answerer.new (H.seen host.old) (H.seen host.new) result }
 {
     let mut lines: u64 = 0;
     while lines < u64::MAX {
@@ -86,24 +93,24 @@ pub fn talk<T: Answerer, H: Host>(
 }
 
 // Hears a line and answers it; false where the host says no more.
-fn talk_once<T: Answerer, H: Host>(
+fn talk_once<K, T: Answerer<K>, H: Host<K>>(
     alloc: Global,
     answerer: &mut T,
     host: &mut H,
 ) -> Result<bool, TalkFault>
-    ensures { Rounds T.answers T.lacks LINE_LIMIT answerer.old answerer.new (H.seen host.old) (H.seen host.new) result }
+    ensures { Rounds T.answers T.shows T.lacks LINE_LIMIT answerer.old answerer.new (H.seen host.old) (H.seen host.new) result }
 {
     let Some(text) = reply(alloc, answerer, host)? else {
         return Ok(false);
     };
-    match host.tell(text.as_slice()) {
+    match host.tell(text.as_slice(), answerer.keeper()) {
         Ok(()) => Ok(true),
         Err(DeviceFault) => Err(TalkFault::Device),
     }
 }
 
 // The answer to the next line, or none where the host says no more.
-fn reply<T: Answerer, H: Host>(
+fn reply<K, T: Answerer<K>, H: Host<K>>(
     alloc: Global,
     answerer: &mut T,
     host: &mut H,

@@ -12,12 +12,22 @@ use sup_replica::{Act, Config, Refusal};
 use sup_specs::NodeName;
 use sup_station::Station;
 
-/// Keeps the last image in memory, and the one before it, of which no clause speaks.
+/// Keeps the last image in memory, and the one before it, of which no clause of `Keeper` speaks.
 #[derive(Drop)]
 pub struct TwoImages {
     pub last: Vec<u8>,
     pub before: Vec<u8>,
     pub alloc: Global,
+}
+
+impl TwoImages {
+    // Has this image as the last one, and the last one as the one before.
+    fn put(&mut self, image: Vec<u8>)
+        ensures last { self.new.last.items ≡ image.items }
+        ensures before { self.new.before.items ≡ self.old.last.items }
+    {
+        self.before = mem::replace(&mut self.last, image);
+    }
 }
 
 impl Keeper for TwoImages {
@@ -37,7 +47,7 @@ impl Keeper for TwoImages {
 
     fn save(&mut self, bytes: &[u8]) -> Result<(), KeepFault> {
         let copy = bytes.to_vec(self.alloc)?;
-        self.before = mem::replace(&mut self.last, copy);
+        self.put(copy);
         Ok(())
     }
 

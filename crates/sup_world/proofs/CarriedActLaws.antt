@@ -1,5 +1,5 @@
 -- An act of a station whose letter finds no room; and what a node's acts are, from its station's.
-use Rattle.std.specs.Prelude.{◌≡◌, ℕ, ◌+◌, Bool, List, [], ◌∷◌, ◌++◌, length, Option, Some, None, IsSome, Result, Ok, Err, suc, refl}
+use Rattle.std.specs.Prelude.{◌≡◌, ℕ, ◌+◌, Bool, List, [], ◌∷◌, ◌++◌, length, take, Option, Some, None, IsSome, Result, Ok, Err, suc, refl}
 use Rattle.std.specs.List.{AllZip}
 use Rattle.std.specs.Result.{IsErrAnd}
 use Rattle.std.proofs.Common.{sym, ap, ◌∙◌, subst, arith}
@@ -125,3 +125,16 @@ module _ (g : Weigher) (s : SeenNode) (post : StationPost State) (mail : Option 
   refused_as (Err x) r t failures letters k e a =
       subst (λ (ls : List Letter). NodeAnswers the_step post act (Err x) (record { name = s.name; kept_station = t; failures = failures; letters = ls })) (sym e)
       (subst (λ (y : Refusal). NodeAnswers the_step post act (Err y) (record { name = s.name; kept_station = t; failures = failures; letters = s.letters })) (sym k) (refuses r t failures a))
+
+-- as many letters as there were before one more was put behind them are those
+fronts : (letters behind : List Letter) → take (length letters) (letters ++ behind) ≡ letters
+fronts [] behind = refl
+fronts (letter ∷ letters) behind = ap (λ ls. letter ∷ ls) (fronts letters behind)
+
+wholes : (letters : List Letter) → take (length letters) letters ≡ letters
+wholes [] = refl
+wholes (letter ∷ letters) = ap (λ ls. letter ∷ ls) (wholes letters)
+
+pub letters_back : (letters more cut : List Letter) (n : ℕ) (out : Option Letter) → more ≡ with_letter letters out → n ≡ length letters → cut ≡ take n more → cut ≡ letters
+letters_back letters more cut n None put before is = is ∙ ap (λ k. take k more) before ∙ ap (take (length letters)) put ∙ wholes letters
+letters_back letters more cut n (Some letter) put before is = is ∙ ap (λ k. take k more) before ∙ ap (take (length letters)) put ∙ fronts letters (letter ∷ [])

@@ -20,20 +20,20 @@ FailedAtMost n sites = All (λ s. s.failures ≤ n) sites
 -- where nothing is done none fails
 pub failed_same : (sites : List SeenNode) → AllZip FailedOnceAtMost sites sites
 failed_same [] = tt
-failed_same (s ∷ sites) = (omega arith, failed_same sites)
+failed_same (s ∷ sites) = ((omega arith, omega arith), failed_same sites)
 
 -- where none fails none fails twice
 pub failed_no_more : (old new : List SeenNode) → AllZip FailedNoMore old new → AllZip FailedOnceAtMost old new
 failed_no_more [] [] h = tt
 failed_no_more [] (t ∷ new) h = absurd h
 failed_no_more (s ∷ old) [] h = absurd h
-failed_no_more (s ∷ old) (t ∷ new) h = (omega (arith, h.0), failed_no_more old new h.1)
+failed_no_more (s ∷ old) (t ∷ new) h = ((omega (arith, h.0), omega (arith, h.0)), failed_no_more old new h.1)
 
 once_more : (n : ℕ) (old new : List SeenNode) → AllByRecursion (λ s. s.failures ≤ n) old → AllZip FailedOnceAtMost old new → AllByRecursion (λ s. s.failures ≤ n + 1) new
 once_more n [] [] h c = tt
 once_more n [] (t ∷ new) h c = absurd c
 once_more n (s ∷ old) [] h c = absurd c
-once_more n (s ∷ old) (t ∷ new) h c = (omega (arith, h.0, c.0), once_more n old new h.1 c.1)
+once_more n (s ∷ old) (t ∷ new) h c = (omega (arith, h.0, c.0.1), once_more n old new h.1 c.1)
 
 pub failed_once_more : (n : ℕ) (old new : List SeenNode) → FailedAtMost n old → AllZip FailedOnceAtMost old new → FailedAtMost (n + 1) new
 failed_once_more n old new h c = All-from_recursion (λ s. s.failures ≤ n + 1) new (once_more n old new (recursion_from_All (λ s. s.failures ≤ n) old h) c)

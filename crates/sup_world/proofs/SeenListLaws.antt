@@ -81,7 +81,7 @@ pub as_before : (s : SeenNode) → IsAsBefore s s
 as_before s = record { kept_station = refl; letters = refl }
 
 pub once_at_most : (s : SeenNode) → FailedOnceAtMost s s
-once_at_most s = omega arith
+once_at_most s = (omega arith, omega arith)
 
 pub no_more : (s : SeenNode) → FailedNoMore s s
 no_more s = refl

@@ -40,9 +40,9 @@ pub record IsAsBefore (old new : SeenNode) : Type 0 where
   pub kept_station : new.kept_station ≡ old.kept_station
   pub letters : new.letters ≡ old.letters
 
--- its keeper failed once more at most
+-- its keeper failed once more, or no more
 abbrev pub FailedOnceAtMost : SeenNode → SeenNode → Type 0
-FailedOnceAtMost old new = new.failures ≤ old.failures + 1
+FailedOnceAtMost old new = (old.failures ≤ new.failures) × (new.failures ≤ old.failures + 1)
 
 -- it didn't fail
 abbrev pub FailedNoMore : SeenNode → SeenNode → Type 0

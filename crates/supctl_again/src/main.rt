@@ -1,11 +1,17 @@
 //! The program `supctl` once more, over a second stored run: a script with a bad line, which ends with status 1.
 #![tactic(auto)]
 
+use std::env;
 use std::process::ExitCode;
-use sup_supctl::words::{run_with, words_of};
+use sup_supctl::run_started;
 
 fn main(rt: HostRuntime) -> ExitCode {
-    let (reader, writer, errors) = (&mut rt.stdin(), &mut rt.stdout(), &mut rt.stderr());
-    let words = words_of(&rt);
-    ExitCode::from(run_with(&rt, rt.alloc(), words, reader, writer, errors))
+    run_started(
+        &rt,
+        rt.alloc(),
+        env::args(&rt),
+        &mut rt.stdin(),
+        &mut rt.stdout(),
+        &mut rt.stderr(),
+    )
 }

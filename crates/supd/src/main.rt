@@ -1,9 +1,18 @@
 //! The program `supd`: one node of a supervisor cluster, which answers the lines of its host and keeps its image in a file.
 #![tactic(auto)]
 
+use std::env;
 use std::process::ExitCode;
-use sup_supd::run;
+use sup_supd::run_started;
 
 fn main(rt: HostRuntime) -> ExitCode {
-    ExitCode::from(run(&rt))
+    let (status, _streams) = run_started(
+        rt.alloc(),
+        env::args(&rt),
+        &rt,
+        rt.stdin(),
+        rt.stdout(),
+        &mut rt.stderr(),
+    );
+    ExitCode::from(status)
 }

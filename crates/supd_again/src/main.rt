@@ -1,9 +1,18 @@
 //! The program `supd` once more, over a second stored run: a node that goes on from an image of version 1.
 #![tactic(auto)]
 
+use std::env;
 use std::process::ExitCode;
-use sup_supd::run;
+use sup_supd::run_started;
 
 fn main(rt: HostRuntime) -> ExitCode {
-    ExitCode::from(run(&rt))
+    let (status, _streams) = run_started(
+        rt.alloc(),
+        env::args(&rt),
+        &rt,
+        rt.stdin(),
+        rt.stdout(),
+        &mut rt.stderr(),
+    );
+    ExitCode::from(status)
 }

@@ -136,7 +136,8 @@ impl<K: Keeper, W: Weigh> Station<K, W> {
     }
 
     /// Saves the image that was made ready, if the act changes it, and then carries the act out. What can be refused is
-    /// refused before the save; an act that saves nothing leaves the keeper as it is.
+    /// refused before the save; an act that saves nothing leaves the keeper as it is. What was made ready fits where the
+    /// station answers some act so.
     ///
     /// # Errors
     ///
@@ -186,7 +187,7 @@ impl<K: Keeper, W: Weigh> Station<K, W> {
     pub fn step(&mut self, act: Act, now: u64, weigher: &W) -> Result<Done, Refusal>
         ensures goes { AnswersAct W.weight_of (kept_station_of K.kept self.old) act now result (kept_station_of K.kept self.new) }
         ensures unput { OnErr result (K.found (keeper_of self.new) ≡ K.found (keeper_of self.old)) }
-        ensures failed { result ≡ Err KeepFailed → K.failures (keeper_of self.old) < K.failures (keeper_of self.new) }
+        ensures rose { result ≡ Err KeepFailed → K.failures (keeper_of self.old) < K.failures (keeper_of self.new) }
         ensures told { K.failures (keeper_of self.old) < K.failures (keeper_of self.new) → result ≡ Err KeepFailed }
         ensures never_falls { K.failures (keeper_of self.old) ≤ K.failures (keeper_of self.new) }
         ensures by_one { K.failures (keeper_of self.new) ≤ K.failures (keeper_of self.old) + 1 }

@@ -30,7 +30,7 @@ returns-in-Err-clause-counted g c =
     let failures = g.K.Keeper.failures in let step = c.in-Err.ensures in
     subst (λ k. RisesWhere (IsUnkept c.restart_fault-fault.result) (failures k) (failures (keeper_of c.step.new.self))) c.stopped-station.ensures.keeper
     (counted c.restart_fault-fault.result c.in-Err.refusal _ _ c.restart_fault-fault.ensures.same c.restart_fault-fault.ensures.refused
-    (λ e. step.failed (cc)) (λ more. let f = step.told more in cc) step.never_falls step.by_one)
+    (λ e. step.rose (cc)) (λ more. let f = step.told more in cc) step.never_falls step.by_one)
 
 pub returns-in-Ok-clause-begins : goal.returns-in-Ok-clause-begins
 returns-in-Ok-clause-begins g c =

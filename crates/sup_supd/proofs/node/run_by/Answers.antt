@@ -17,9 +17,7 @@ returns-in-Ok g c =
         begins = c.in-Ok.ensures.begins;
         uncounted = c.in-Ok.ensures.uncounted;
         serves = rw c.as_slice.ensures.value at c.serve-end.ensures;
-        kept = refl;
-        failed = refl;
-        lost = refl;
+        leaves = record { keeps = refl; failed = refl; is_lost = refl };
       },
       c.end_with-ended.ensures,
     )

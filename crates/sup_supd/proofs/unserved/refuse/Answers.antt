@@ -1,0 +1,5 @@
+use Rattle.std.proofs.Common.{refl}
+use Rattle.sup_supd.proofs.unserved.refuse.Goals as goal
+
+pub returns-in-Taken : goal.returns-in-Taken
+returns-in-Taken g c = rw c.in-Taken.is (refl, c.put_all.ensures)
