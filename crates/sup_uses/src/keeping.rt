@@ -1,5 +1,5 @@
 //! One station behind a keeper of the caller's.
-ghost use Rattle.std.specs.Prelude.{◌≡◌, ◌≢◌, ◌⊎◌, Err, IfErr, IfOk};
+ghost use Rattle.std.specs.Prelude.{◌≡◌, ◌≢◌, ◌⊎◌, Err, IfErr, IfOk, OnOk};
 ghost use Rattle.sup_replica.specs.declared.refusal.Refusal.TheVariants.{KeepFailed, OutOfMemory};
 ghost use Rattle.sup_station.specs.KeptStations.{kept_station_of};
 ghost use Rattle.sup_uses.specs.Acts.{HasMade, IsRefusedAt, last_of};
@@ -12,22 +12,12 @@ use sup_replica::{Act, Config, Refusal};
 use sup_specs::NodeName;
 use sup_station::Station;
 
-/// Keeps the last image in memory, and the one before it, of which no clause of `Keeper` speaks.
+/// Keeps the last image in memory, and the one before it, of which only its own clause speaks.
 #[derive(Drop)]
 pub struct TwoImages {
     pub last: Vec<u8>,
     pub before: Vec<u8>,
     pub alloc: Global,
-}
-
-impl TwoImages {
-    // Has this image as the last one, and the last one as the one before.
-    fn put(&mut self, image: Vec<u8>)
-        ensures last { self.new.last.items ≡ image.items }
-        ensures before { self.new.before.items ≡ self.old.last.items }
-    {
-        self.before = mem::replace(&mut self.last, image);
-    }
 }
 
 impl Keeper for TwoImages {
@@ -45,9 +35,11 @@ impl Keeper for TwoImages {
 
     ghost readable = { λ k. true };
 
-    fn save(&mut self, bytes: &[u8]) -> Result<(), KeepFault> {
+    fn save(&mut self, bytes: &[u8]) -> Result<(), KeepFault>
+        ensures before { OnOk result (self.new.before.items ≡ self.old.last.items) }
+    {
         let copy = bytes.to_vec(self.alloc)?;
-        self.put(copy);
+        self.before = mem::replace(&mut self.last, copy);
         Ok(())
     }
 
