@@ -7,7 +7,7 @@ use Rattle.sup_command_line.specs.Requests.{◌>>=◌}
 use Rattle.sup_command_line.specs.Weighings.{weighing_of}
 use Rattle.sup_command_line.specs.declared.options.BadOption.{BadOption}
 
--- an option, which values it takes, as it is told, and whether a word is one
+-- an option: its name, the values that it takes as they are told, and a test of a word
 pub record Choice : Type 0 where
   pub name : Text
   pub values : Text
@@ -41,7 +41,7 @@ pub record BadWord : Type 0 where
 abbrev pub bad_word : BadOption → BadWord
 bad_word bad = record { name = bad.name.now; values = bad.values.now; word = bad.word.now }
 
--- where this option has such a word
+-- this option's word, where it is no value of it
 unfoldable pub bad_in : Choice → List Row → Option BadWord
 bad_in choice options = do
   word ← first_of choice.name options

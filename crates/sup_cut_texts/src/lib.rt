@@ -23,7 +23,7 @@ pub fn a_text_cut_short_says_nothing()
     ensures image { AreFrontsMute IsDraftOfImage IsImageInRange }
 {}
 
-/// Of all that `decode` may answer by its clauses, or `decode_image`, two answers are left for it.
+/// By the clauses of `decode` and `decode_image` it is answered as no JSON, or as want of memory.
 pub fn a_text_cut_short_is_refused()
     ensures message { AreFrontsRefused SaysMessage IsDraftOf IsInRange }
     ensures image { AreFrontsRefused SaysImage IsDraftOfImage IsImageInRange }

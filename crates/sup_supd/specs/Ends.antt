@@ -86,7 +86,7 @@ abbrev pub Backs : {K : Type 0} → (K → KeeperSeen) → AnsweringNode → K �
 Backs seen node keeper = StandsBehind (λ k. (seen k).stands.kept) (λ k. (seen k).failures) (λ k. (seen k).lost) node keeper
 
 -- The node began, and served its host until this end. With each text that the host was told, the first too, it was shown the keeper, which
--- stood behind the node as the text left it; and so is the keeper left behind the node at its end.
+-- stood behind the node as the text left it; and the keeper that is left stands behind the node at its end.
 pub record ServedUntil {K : Type 0} (weigher : Weigher) (seen : K → KeeperSeen) (most : ℕ) (is_new : Bool) (name : Bytes) (config : Config) (keeper left : K) (before after : Seen K) (end : Result TalkEnd TalkFault) : Type 0 where
   pub first : List ℕ
   pub begun : AnsweringNode

@@ -3,13 +3,14 @@
 
 pub mod images;
 pub mod left;
+pub mod locked;
 pub mod node;
 pub mod program;
 pub mod settings;
 pub mod unserved;
 
-pub use images::Images;
+pub use images::{Images, SystemImages};
 pub use left::Left;
 pub use node::{run_filed, run_node};
-pub use program::run_started;
+pub use program::{Ran, run_arguments, run_started};
 pub use settings::{Settings, read_settings};

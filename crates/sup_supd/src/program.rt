@@ -4,47 +4,62 @@ ghost use Rattle.std.specs.Prelude.{◌≡◌, drop, Some, IfNone, IfOk, IfSome,
 ghost use Rattle.std.specs.Vec.Iter.{into_iter_items};
 ghost use Rattle.sup_lines.specs.Words.{texts};
 ghost use Rattle.sup_talk.specs.Hosts.{seen_of};
-ghost use Rattle.sup_supd.specs.Started.{EndsUnserved, RunsArguments, RunsSet, RunsStarted, new_host, words_in};
+ghost use Rattle.sup_supd.specs.Started.{EndsUnserved, RunsArguments, RunsSet, left_of, new_host, words_in};
 ghost use Rattle.sup_supd.specs.Words.{set_of, settings_of};
 
 use crate::images::Images;
+use crate::left::Left;
 use crate::node::run_filed;
 use crate::settings::{Settings, read_settings};
-use crate::unserved::{Unserved, refuse, why_for, why_unlocked};
+use crate::unserved::{Unserved, refuse, why_for, why_untaken};
 use std::alloc::{AllocError, Global};
 use std::env::Args;
 use std::io::{self, BufReader, Read, Write};
-use sup_disk::DiskKeeper;
+use sup_disk::{Disk, DiskKeeper};
 use sup_jobs::Ended;
 use sup_talk::{Host, Streams};
 
-/// Runs the node that the words after the program's name set, until its host, who speaks by the reader and hears by the writer, says
-/// no more. Answers the exit status, and what is left of the streams, if memory for a buffer was there: 0, or 1 where what is kept is no
-/// image for this node, or one without a next boot, `USAGE` where the words are refused, and 3 where the streams, the image or memory
-/// ended it, or another process serves the image. The image's lock is held until the node has ended.
+/// What a run of the program leaves.
+#[derive(Drop)]
+pub struct Ran<D: Disk, S: Drop> {
+    /// Its status, and whether all was told.
+    pub ended: Ended,
+    /// The node's station, where there was one.
+    pub left: Option<Left<DiskKeeper<D>>>,
+    /// The streams, where memory for a buffer was there.
+    pub streams: Option<S>,
+}
+
+/// Runs the node that the words after the program's name set, as [`run_arguments`] does, until its host, who speaks by the reader and
+/// hears by the writer, says no more. Where memory for a buffer is refused, nobody is heard or told anything.
 pub fn run_started<I: Images, R: Read + Drop, W: Write + Drop, E: Write>(
     alloc: Global,
     arguments: io::Result<Args>,
-    images: &I,
+    images: I,
     reader: R,
     writer: W,
     errors: &mut E,
-) -> (u8, Option<Streams<BufReader<R>, W>>)
-    ensures runs { IfSome result.1 (λ host. RunsStarted I.locks I.opens images.now arguments
+) -> Ran<I::Disk, Streams<BufReader<R>, W>>
+    ensures runs { IfSome result.streams (λ host. RunsArguments I.Disk.may_have I.takes images arguments
         (seen_of (new_host (R.remaining reader) (W.contents writer))) (seen_of host)
-        (E.contents errors.old) (E.contents errors.new) result.0) }
-    ensures memory { IfNone result.1 (EndsUnserved Unserved.OutOfMemory
-        (E.contents errors.old) (E.contents errors.new) result.0) }
+        (E.contents errors.old) (E.contents errors.new) (left_of result.left) result.ended) }
+    ensures memory { IfNone result.streams (EndsUnserved Unserved.OutOfMemory
+        (E.contents errors.old) (E.contents errors.new) (left_of result.left) result.ended) }
 {
     match streams_of(alloc, reader, writer) {
         Ok(mut host) => {
-            let ended = run_arguments(alloc, arguments, images, &mut host, errors);
-            (ended.status, Some(host))
+            let (ended, left) = run_arguments(alloc, arguments, images, &mut host, errors);
+            Ran {
+                ended,
+                left,
+                streams: Some(host),
+            }
         }
-        Err(_) => {
-            let ended = refuse(errors, Unserved::OutOfMemory);
-            (ended.status, None)
-        }
+        Err(_) => Ran {
+            ended: refuse(errors, Unserved::OutOfMemory),
+            left: None,
+            streams: None,
+        },
     }
 }
 
@@ -60,21 +75,24 @@ fn streams_of<R: Read + Drop, W: Write + Drop>(
     Ok(Streams::new(reader, writer))
 }
 
-fn run_arguments<I: Images, H: Host<DiskKeeper<I::Disk>>, E: Write>(
+/// Runs the node that the words after the program's name set, over a keeper of its image, until its host says no more: [`run_filed`] has
+/// the rest. Answers the exit status: that of the run, or `USAGE` where the words are refused, and 3 where the image can't be taken or
+/// read, or memory was refused; and the node's station, where there was one, which has the image as long as it lives.
+pub fn run_arguments<I: Images, H: Host<DiskKeeper<I::Disk>>, E: Write>(
     alloc: Global,
     arguments: io::Result<Args>,
-    images: &I,
+    images: I,
     host: &mut H,
     errors: &mut E,
-) -> Ended
-    ensures { RunsArguments I.locks I.opens images.now arguments (H.seen host.old) (H.seen host.new)
-        (E.contents errors.old) (E.contents errors.new) result }
+) -> (Ended, Option<Left<DiskKeeper<I::Disk>>>)
+    ensures { RunsArguments I.Disk.may_have I.takes images arguments (H.seen host.old) (H.seen host.new)
+        (E.contents errors.old) (E.contents errors.new) (left_of result.1) result.0 }
 {
     match arguments {
         Ok(arguments) => run_given(alloc, arguments, images, host, errors),
         Err(error) => {
             let why = why_for(&error, Unserved::Words);
-            refuse(errors, why)
+            (refuse(errors, why), None)
         }
     }
 }
@@ -82,16 +100,16 @@ fn run_arguments<I: Images, H: Host<DiskKeeper<I::Disk>>, E: Write>(
 fn run_given<I: Images, H: Host<DiskKeeper<I::Disk>>, E: Write>(
     alloc: Global,
     arguments: Args,
-    images: &I,
+    images: I,
     host: &mut H,
     errors: &mut E,
-) -> Ended
-    ensures { RunsSet I.locks I.opens images.now (settings_of (words_in arguments)) (H.seen host.old) (H.seen host.new)
-        (E.contents errors.old) (E.contents errors.new) result }
+) -> (Ended, Option<Left<DiskKeeper<I::Disk>>>)
+    ensures { RunsSet I.Disk.may_have I.takes images (settings_of (words_in arguments)) (H.seen host.old) (H.seen host.new)
+        (E.contents errors.old) (E.contents errors.new) (left_of result.1) result.0 }
 {
     match words_of(alloc, arguments) {
         Ok(words) => run_words(alloc, words.as_slice(), images, host, errors),
-        Err(_) => refuse(errors, Unserved::OutOfMemory),
+        Err(_) => (refuse(errors, Unserved::OutOfMemory), None),
     }
 }
 
@@ -106,16 +124,16 @@ fn words_of(alloc: Global, arguments: Args) -> Result<Vec<String>, AllocError>
 fn run_words<I: Images, H: Host<DiskKeeper<I::Disk>>, E: Write>(
     alloc: Global,
     words: &[String],
-    images: &I,
+    images: I,
     host: &mut H,
     errors: &mut E,
-) -> Ended
-    ensures { RunsSet I.locks I.opens images.now (settings_of (map string_bytes words.now)) (H.seen host.old) (H.seen host.new)
-        (E.contents errors.old) (E.contents errors.new) result }
+) -> (Ended, Option<Left<DiskKeeper<I::Disk>>>)
+    ensures { RunsSet I.Disk.may_have I.takes images (settings_of (map string_bytes words.now)) (H.seen host.old) (H.seen host.new)
+        (E.contents errors.old) (E.contents errors.new) (left_of result.1) result.0 }
 {
     match texts_of(alloc, words) {
         Ok(texts) => run_texts(alloc, texts.as_slice(), images, host, errors),
-        Err(_) => refuse(errors, Unserved::OutOfMemory),
+        Err(_) => (refuse(errors, Unserved::OutOfMemory), None),
     }
 }
 
@@ -132,39 +150,41 @@ fn texts_of<'a>(alloc: Global, words: &'a [String]) -> Result<Vec<&'a str>, Allo
 fn run_texts<I: Images, H: Host<DiskKeeper<I::Disk>>, E: Write>(
     alloc: Global,
     words: &[&str],
-    images: &I,
+    images: I,
     host: &mut H,
     errors: &mut E,
-) -> Ended
-    ensures { RunsSet I.locks I.opens images.now (settings_of (texts words.now)) (H.seen host.old) (H.seen host.new)
-        (E.contents errors.old) (E.contents errors.new) result }
+) -> (Ended, Option<Left<DiskKeeper<I::Disk>>>)
+    ensures { RunsSet I.Disk.may_have I.takes images (settings_of (texts words.now)) (H.seen host.old) (H.seen host.new)
+        (E.contents errors.old) (E.contents errors.new) (left_of result.1) result.0 }
 {
     match read_settings(words) {
         Some(settings) => run_set(alloc, settings, images, host, errors),
-        None => refuse(errors, Unserved::Words),
+        None => (refuse(errors, Unserved::Words), None),
     }
 }
 
 fn run_set<I: Images, H: Host<DiskKeeper<I::Disk>>, E: Write>(
     alloc: Global,
     settings: Settings<'_>,
-    images: &I,
+    images: I,
     host: &mut H,
     errors: &mut E,
-) -> Ended
-    ensures { RunsSet I.locks I.opens images.now (Some (set_of settings.entry)) (H.seen host.old) (H.seen host.new)
-        (E.contents errors.old) (E.contents errors.new) result }
+) -> (Ended, Option<Left<DiskKeeper<I::Disk>>>)
+    ensures { RunsSet I.Disk.may_have I.takes images (Some (set_of settings.entry)) (H.seen host.old) (H.seen host.new)
+        (E.contents errors.old) (E.contents errors.new) (left_of result.1) result.0 }
 {
-    // It is held until the node has ended.
-    let _lock = match images.lock(alloc, settings.image) {
-        Ok(lock) => lock,
-        Err(fault) => return refuse(errors, why_unlocked(fault)),
+    let disk = match images.take(alloc, settings.image) {
+        Ok(disk) => disk,
+        Err(fault) => return (refuse(errors, why_untaken(fault)), None),
     };
-    let keeper = match images.open(alloc, settings.image) {
+    let keeper = match DiskKeeper::open(alloc, disk) {
         Ok(keeper) => keeper,
-        Err(error) => return refuse(errors, why_for(&error, Unserved::Device)),
+        Err(unopened) => return (
+            refuse(errors, why_for(&unopened.error, Unserved::Device)),
+            None,
+        ),
     };
-    let ran = run_filed(
+    let (ended, left) = run_filed(
         alloc,
         settings.name,
         settings.config,
@@ -173,6 +193,5 @@ fn run_set<I: Images, H: Host<DiskKeeper<I::Disk>>, E: Write>(
         host,
         errors,
     );
-    let (ended, _left) = ran;
-    ended
+    (ended, Some(left))
 }

@@ -18,13 +18,13 @@ pub enum Unserved {
     Words,
     /// Another process serves the image.
     Taken,
-    /// The image or its lock can't be had.
+    /// The image can't be taken or read.
     Device,
     /// Memory was refused.
     OutOfMemory,
 }
 
-// Want of memory is told as such, any other error as this.
+// Want of memory is told as such, any other error as `other`.
 pub(crate) fn why_for(error: &io::Error, other: Unserved) -> Unserved
     ensures { IsWhyFor error.now other result }
 {
@@ -35,7 +35,7 @@ pub(crate) fn why_for(error: &io::Error, other: Unserved) -> Unserved
     }
 }
 
-pub(crate) fn why_unlocked(fault: LockFault) -> Unserved
+pub(crate) fn why_untaken(fault: LockFault) -> Unserved
     ensures { result ≡ of_lock fault }
 {
     match fault {

@@ -4,50 +4,76 @@ use std::alloc::{AllocError, Global};
 use std::env::Args;
 use std::io::{self, ErrorKind};
 use std::process::Abort;
-use sup_disk::{DiskKeeper, LockFault, MemDisk};
-use sup_supd::{Images, run_started};
+use sup_disk::{Disk, FileLock, LockFault};
+use sup_supd::{Images, SystemImages, run_started};
 
-/// The lock of an image in memory.
+/// An image that was taken: it was never saved, and can be read or, for an error of this kind, can't.
 #[derive(Drop)]
-struct Held;
+struct Held {
+    unread: Option<ErrorKind>,
+}
 
-/// A place of empty disks in memory, which tells these faults, if any.
-#[derive(Clone, Copy)]
+impl Disk for Held {
+    ghost may_have = { λ _ _. ⊥ };
+
+    ghost written = { λ _ _. Unit {0} };
+
+    ghost flushed = { λ _ _. Unit {0} };
+
+    ghost named = { λ _ _. Unit {0} };
+
+    fn write_beside(&mut self, _bytes: &[u8]) -> io::Result<()> {
+        Ok(())
+    }
+
+    fn flush_beside(&mut self, _bytes: &[u8]) -> io::Result<()> {
+        Ok(())
+    }
+
+    fn rename(&mut self, _bytes: &[u8]) -> io::Result<()> {
+        Ok(())
+    }
+
+    fn flush_folder(&mut self, _bytes: &[u8]) -> io::Result<()> {
+        Ok(())
+    }
+
+    fn read(&mut self, _alloc: Global) -> io::Result<Option<Vec<u8>>> {
+        match self.unread {
+            Some(kind) => Err(io::Error::from(kind)),
+            None => Ok(None),
+        }
+    }
+}
+
+/// A place of one image, at the path `x`, which can't be taken or read for these faults, if any.
+#[derive(Clone, Copy, Drop)]
 struct Place {
-    locked: Option<LockFault>,
-    opened: Option<ErrorKind>,
+    untaken: Option<LockFault>,
+    unread: Option<ErrorKind>,
 }
 
 impl Images for Place {
-    type Lock = Held;
+    type Disk = Held;
 
-    type Disk = MemDisk;
+    ghost takes = { λ _ _ _. Unit {0} };
 
-    ghost locks = { λ _ _ _. Unit {0} };
-
-    ghost opens = { λ _ _ _. Unit {0} };
-
-    fn lock(&self, _alloc: Global, _path: &str) -> Result<Held, LockFault> {
-        match self.locked {
+    fn take(self, _alloc: Global, path: &str) -> Result<Held, LockFault> {
+        if path != "x" {
+            return Err(LockFault::Device);
+        }
+        match self.untaken {
             Some(fault) => Err(fault),
-            None => Ok(Held),
-        }
-    }
-
-    fn open(&self, alloc: Global, _path: &str) -> io::Result<DiskKeeper<MemDisk>> {
-        if let Some(kind) = self.opened {
-            return Err(io::Error::from(kind));
-        }
-        match DiskKeeper::open(alloc, MemDisk::new(alloc)) {
-            Ok(keeper) => Ok(keeper),
-            Err(_) => Err(io::Error::from(ErrorKind::OutOfMemory)),
+            None => Ok(Held {
+                unread: self.unread,
+            }),
         }
     }
 }
 
 const SOUND: Place = Place {
-    locked: None,
-    opened: None,
+    untaken: None,
+    unread: None,
 };
 
 fn arguments_of(alloc: Global, words: &[&str]) -> Result<Args, AllocError> {
@@ -83,17 +109,18 @@ fn expect(
 ) {
     let alloc = rt.alloc();
     let mut told = Vec::new(alloc);
-    let (ended, streams) = run_started(
+    let ran = run_started(
         alloc,
         arguments,
-        &place,
+        place,
         b"".as_slice(),
         Vec::new(alloc),
         &mut told,
     );
-    assert_eq!(rt; ended, status);
+    assert_eq!(rt; ran.ended.status, status);
+    assert_eq!(rt; ran.left.is_some(), !said.is_empty());
     assert_eq!(rt; told.as_slice(), line);
-    match streams {
+    match ran.streams {
         Some(streams) => assert_eq!(rt; streams.writer().as_slice(), said),
         None => rt.panic("streams"),
     }
@@ -111,6 +138,8 @@ const USAGE_LINE: &[u8] =
 fn a_node_runs_over_its_image_until_its_host_says_no_more(rt: HostRuntime) {
     let words = ["supd", "a", "--image", "x"];
     expect_words(&rt, &words, SOUND, b"ok boot 1\n\n", 0, b"");
+    let others = ["supd", "a", "--image", "y"];
+    expect_words(&rt, &others, SOUND, b"", 3, b"device\n");
 }
 
 #[test]
@@ -128,31 +157,57 @@ fn arguments_that_cant_be_had_are_told(rt: HostRuntime) {
     expect(&rt, unheld, SOUND, b"", 3, b"out of memory\n");
 }
 
-// A place whose lock can't be had, for this fault.
-fn locked(fault: LockFault) -> Place {
+// A place whose image can't be taken, for this fault.
+fn untaken(fault: LockFault) -> Place {
     Place {
-        locked: Some(fault),
-        opened: None,
+        untaken: Some(fault),
+        unread: None,
     }
 }
 
 #[test]
-fn a_lock_that_cant_be_had_is_told(rt: HostRuntime) {
-    expect_faulty(&rt, locked(LockFault::Taken), b"image in use\n");
-    expect_faulty(&rt, locked(LockFault::Device), b"device\n");
-    expect_faulty(&rt, locked(LockFault::OutOfMemory), b"out of memory\n");
+fn an_image_that_cant_be_taken_is_told(rt: HostRuntime) {
+    expect_faulty(&rt, untaken(LockFault::Taken), b"image in use\n");
+    expect_faulty(&rt, untaken(LockFault::Device), b"device\n");
+    expect_faulty(&rt, untaken(LockFault::OutOfMemory), b"out of memory\n");
 }
 
-// A place whose image can't be opened, by an error of this kind.
-fn unopened(kind: ErrorKind) -> Place {
+// A place whose image can't be read, by an error of this kind.
+fn unread(kind: ErrorKind) -> Place {
     Place {
-        locked: None,
-        opened: Some(kind),
+        untaken: None,
+        unread: Some(kind),
     }
 }
 
 #[test]
-fn an_image_that_cant_be_opened_is_told(rt: HostRuntime) {
-    expect_faulty(&rt, unopened(ErrorKind::PermissionDenied), b"device\n");
-    expect_faulty(&rt, unopened(ErrorKind::OutOfMemory), b"out of memory\n");
+fn an_image_that_cant_be_read_is_told(rt: HostRuntime) {
+    expect_faulty(&rt, unread(ErrorKind::PermissionDenied), b"device\n");
+    expect_faulty(&rt, unread(ErrorKind::OutOfMemory), b"out of memory\n");
+}
+
+#[test]
+fn a_file_is_nobody_elses_as_long_as_its_nodes_station_lives(rt: HostRuntime) {
+    let alloc = rt.alloc();
+    let words = ["supd", "a", "--image", "held.image"];
+    let arguments = arguments_of(alloc, &words).expect(&rt, "room");
+    let mut told = Vec::new(alloc);
+    let ran = run_started(
+        alloc,
+        Ok(arguments),
+        SystemImages { rt: &rt },
+        b"".as_slice(),
+        Vec::new(alloc),
+        &mut told,
+    );
+    assert_eq!(rt; ran.ended.status, 0);
+    assert!(rt;
+        matches!(
+            FileLock::beside(alloc, &rt, "held.image"),
+            Err(LockFault::Taken)
+        )
+    );
+    drop(ran);
+    assert!(rt; FileLock::beside(alloc, &rt, "held.image").is_ok());
+    assert_eq!(rt; told.as_slice(), b"".as_slice());
 }

@@ -31,7 +31,7 @@ pub enum TalkEnd {
     Spent,
 }
 
-/// What answers lines. What it has done is kept by its keeper, if it has one.
+/// What answers lines, and shows the keeper by which what it has done is kept.
 pub trait Answerer<K> {
     // It has given its last answer.
     ghost over: { Self → Bool };

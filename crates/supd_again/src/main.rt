@@ -3,16 +3,16 @@
 
 use std::env;
 use std::process::ExitCode;
-use sup_supd::run_started;
+use sup_supd::{SystemImages, run_started};
 
 fn main(rt: HostRuntime) -> ExitCode {
-    let (status, _streams) = run_started(
+    let ran = run_started(
         rt.alloc(),
         env::args(&rt),
-        &rt,
+        SystemImages { rt: &rt },
         rt.stdin(),
         rt.stdout(),
         &mut rt.stderr(),
     );
-    ExitCode::from(status)
+    ExitCode::from(ran.ended.status)
 }

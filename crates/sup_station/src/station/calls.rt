@@ -136,8 +136,8 @@ impl<K: Keeper, W: Weigh> Station<K, W> {
     }
 
     /// Saves the image that was made ready, if the act changes it, and then carries the act out. What can be refused is
-    /// refused before the save; an act that saves nothing leaves the keeper as it is. What was made ready fits where the
-    /// station answers some act so.
+    /// refused before the save; an act that saves nothing leaves the keeper as it is. What was made ready may be committed
+    /// where the station would give this very answer to some act.
     ///
     /// # Errors
     ///

@@ -4,23 +4,27 @@ use Rattle.sup_supd.specs.Words.{set_of}
 use Rattle.sup_supd.proofs.program.run_set.Goals as goal
 
 pub returns-in-Err : goal.returns-in-Err
-returns-in-Err g c = inr (c.why_unlocked.result, inr (inl (c.in-Err.fault, c.in-Err.ensures, c.why_unlocked.ensures)), refl, c.refuse.ensures)
+returns-in-Err g c = inr (c.why_untaken.result, inr (inl (c.in-Err.fault, c.in-Err.ensures, c.why_untaken.ensures)), refl, refl, c.refuse.ensures)
 
 pub returns-in-Err-open : goal.returns-in-Err-open
-returns-in-Err-open g c = inr (c.why_for.result, inr (inr (c.in-Err-open.error, (c.in-Ok.lock, c.in-Ok.ensures), c.in-Err-open.ensures.opens, c.why_for.ensures)), refl, c.refuse-in-Err-open.ensures)
+returns-in-Err-open g c = inr (c.why_for.result, inr (inr ((c.in-Ok.disk, c.in-Ok.ensures), c.in-Err-open.unopened.error, c.why_for.ensures)), refl, refl, c.refuse-in-Err-open.ensures)
 
 pub returns : goal.returns
 returns g c = inl (
   set_of c.args.settings,
   refl,
+  left_keeper c.run_filed-left.result.1,
+  refl,
   record {
-    lock = c.in-Ok.lock;
-    locked = c.in-Ok.ensures;
     keeper = c.in-Ok-open.keeper;
-    opened = c.in-Ok-open.ensures.opens;
-    sound = c.in-Ok-open.ensures.sound;
-    fresh = c.in-Ok-open.ensures.fresh;
-    left = left_keeper c.run_filed-ran.result.1;
-    runs = c.run_filed-ran.ensures;
+    opens = record {
+      disk = c.in-Ok.disk;
+      taken = c.in-Ok.ensures;
+      more = c.in-Ok-open.ensures.file;
+      only = c.in-Ok-open.ensures.only;
+      sound = c.in-Ok-open.ensures.sound;
+      fresh = c.in-Ok-open.ensures.failures;
+    };
+    runs = c.run_filed-left.ensures;
   },
 )

@@ -1,0 +1,56 @@
+//! A file under its lock.
+
+use std::alloc::Global;
+use std::io;
+use sup_disk::{Disk, FileLock, LockFault, SystemDisk};
+
+/// A file at a path, and the lock beside it, which is held as long as this lives.
+#[derive(Drop)]
+pub struct LockedFile {
+    disk: SystemDisk<HostRuntime>,
+    _lock: FileLock,
+}
+
+impl LockedFile {
+    /// The file at this path, under its lock.
+    ///
+    /// # Errors
+    ///
+    /// As [`LockFault`] tells. It never waits.
+    pub fn at(alloc: Global, rt: &HostRuntime, path: &str) -> Result<LockedFile, LockFault> {
+        let lock = FileLock::beside(alloc, rt, path)?;
+        let disk = SystemDisk::at(alloc, rt.clone()?, path)?;
+        Ok(LockedFile { disk, _lock: lock })
+    }
+}
+
+impl Disk for LockedFile {
+    // As of the file, all is trusted.
+    ghost may_have = { λ _ _. ⊥ };
+
+    ghost written = { λ _ _. Unit {0} };
+
+    ghost flushed = { λ _ _. Unit {0} };
+
+    ghost named = { λ _ _. Unit {0} };
+
+    fn write_beside(&mut self, bytes: &[u8]) -> io::Result<()> {
+        self.disk.write_beside(bytes)
+    }
+
+    fn flush_beside(&mut self, bytes: &[u8]) -> io::Result<()> {
+        self.disk.flush_beside(bytes)
+    }
+
+    fn rename(&mut self, bytes: &[u8]) -> io::Result<()> {
+        self.disk.rename(bytes)
+    }
+
+    fn flush_folder(&mut self, bytes: &[u8]) -> io::Result<()> {
+        self.disk.flush_folder(bytes)
+    }
+
+    fn read(&mut self, alloc: Global) -> io::Result<Option<Vec<u8>>> {
+        self.disk.read(alloc)
+    }
+}
