@@ -15,17 +15,17 @@ use crate::unserved::{Unserved, refuse, why_for, why_untaken};
 use std::alloc::{AllocError, Global};
 use std::env::Args;
 use std::io::{self, BufReader, Read, Write};
-use sup_disk::{Disk, DiskKeeper};
+use sup_disk::DiskKeeper;
 use sup_jobs::Ended;
 use sup_talk::{Host, Streams};
 
 /// What a run of the program leaves.
 #[derive(Drop)]
-pub struct Ran<D: Disk, S: Drop> {
+pub struct Ran<L: Drop, S: Drop> {
     /// Its status, and whether all was told.
     pub ended: Ended,
     /// The node's station, where there was one.
-    pub left: Option<Left<DiskKeeper<D>>>,
+    pub left: Option<L>,
     /// The streams, where memory for a buffer was there.
     pub streams: Option<S>,
 }
@@ -39,7 +39,7 @@ pub fn run_started<I: Images, R: Read + Drop, W: Write + Drop, E: Write>(
     reader: R,
     writer: W,
     errors: &mut E,
-) -> Ran<I::Disk, Streams<BufReader<R>, W>>
+) -> Ran<Left<DiskKeeper<I::Disk>>, Streams<BufReader<R>, W>>
     ensures runs { IfSome result.streams (λ host. RunsArguments I.Disk.may_have I.takes images arguments
         (seen_of (new_host (R.remaining reader) (W.contents writer))) (seen_of host)
         (E.contents errors.old) (E.contents errors.new) (left_of result.left) result.ended) }

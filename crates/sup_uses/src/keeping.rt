@@ -1,5 +1,6 @@
 //! One station behind a keeper of the caller's.
-ghost use Rattle.std.specs.Prelude.{◌≡◌, ◌≢◌, ◌⊎◌, Err, IfErr, IfOk, OnOk};
+ghost use Rattle.std.specs.Prelude.{◌≡◌, ◌≢◌, ◌⊎◌, Err, IfErr, IfOk, OnErr, OnOk};
+ghost use Rattle.sup_keeper.specs.declared.keeper.KeepFault.TheVariants.{Failed};
 ghost use Rattle.sup_replica.specs.declared.refusal.Refusal.TheVariants.{KeepFailed, OutOfMemory};
 ghost use Rattle.sup_station.specs.KeptStations.{kept_station_of};
 ghost use Rattle.sup_uses.specs.Acts.{HasMade, IsRefusedAt, last_of};
@@ -36,7 +37,10 @@ impl Keeper for TwoImages {
     ghost readable = { λ k. true };
 
     fn save(&mut self, bytes: &[u8]) -> Result<(), KeepFault>
+        ensures last { OnOk result (self.new.last.items ≡ bytes.now) }
         ensures before { OnOk result (self.new.before.items ≡ self.old.last.items) }
+        ensures same { OnErr result (self.new ≡ self.old) }
+        ensures sound { result ≢ Err Failed }
     {
         let copy = bytes.to_vec(self.alloc)?;
         self.before = mem::replace(&mut self.last, copy);
