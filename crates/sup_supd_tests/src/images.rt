@@ -5,7 +5,7 @@ use std::env::Args;
 use std::io::{self, ErrorKind};
 use std::process::Abort;
 use sup_disk::{Disk, FileLock, LockFault};
-use sup_supd::{Images, SystemImages, run_started};
+use sup_supd::{Images, Ran, SystemImages, run_started};
 
 /// An image that was taken: it was never saved, and can be read or, for an error of this kind, can't.
 #[derive(Drop)]
@@ -117,10 +117,15 @@ fn expect(
         Vec::new(alloc),
         &mut told,
     );
-    assert_eq!(rt; ran.ended.status, status);
-    assert_eq!(rt; ran.left.is_some(), !said.is_empty());
+    let Ran {
+        ended,
+        left,
+        streams,
+    } = ran;
+    assert_eq!(rt; ended.status, status);
+    assert_eq!(rt; left.is_some(), !said.is_empty());
     assert_eq!(rt; told.as_slice(), line);
-    match ran.streams {
+    match streams {
         Some(streams) => assert_eq!(rt; streams.writer().as_slice(), said),
         None => rt.panic("streams"),
     }
