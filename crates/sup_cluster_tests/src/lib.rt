@@ -7,6 +7,8 @@ mod bad_plans;
 #[cfg(test)]
 mod bounded;
 #[cfg(test)]
+mod checkpoints;
+#[cfg(test)]
 mod failing;
 #[cfg(test)]
 mod five;
