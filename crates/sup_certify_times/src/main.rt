@@ -8,10 +8,11 @@ use std::io::{self, Error, ErrorKind, Read};
 use std::sync::Wait;
 use std::thread::Threads;
 use sup_certify::certify;
-use sup_cluster::{Quiet, run};
+use sup_cluster::{PlannedRun, Quiet, run};
 use sup_cluster_texts::read_plan;
 use sup_jobs::LIMIT;
 use sup_model::Step;
+use sup_node_gate::MAX_BOUND;
 use sup_placement::FlatWeigh;
 use sup_plan::{Histories, Plan};
 use sup_replica::Config;
@@ -51,7 +52,8 @@ fn play<R: Threads + Wait + Sync>(
         return Err(invalid());
     }
     let plan = read_plan(alloc, Config::default(), script).map_err(|_| invalid())?;
-    let histories = run(rt, alloc, &plan, &Quiet, &Quiet, &FlatWeigh).map_err(|_| invalid())?;
+    let planned = PlannedRun::new(&plan, MAX_BOUND, &Quiet, &Quiet).map_err(|_| invalid())?;
+    let histories = run(rt, alloc, planned, &FlatWeigh).map_err(|_| invalid())?;
     let steps = judged(alloc, &plan, &histories, judgements)?;
     for _ in 0..replays {
         replay(alloc, &plan, &steps)?;

@@ -28,6 +28,7 @@ use Rattle.sup_plan.specs.Calls.{asked, letters_to, deliveries}
 use Rattle.sup_plan.specs.Parts.{commands_of, script_between}
 use Rattle.sup_plan.specs.Sublists.{Sublist}
 use Rattle.sup_plan.specs.declared.histories.History.{History}
+use Rattle.sup_plan.specs.declared.plan.Command.{Command}
 use Rattle.sup_plan.specs.declared.plan.Plan.{Plan}
 use Rattle.sup_posts.specs.Jobs.{Seat, CarriedLetters, GivesDriven, DrivesNode}
 use Rattle.sup_posts.specs.Rounds.{IsRound, StoodByAll, delivery}
@@ -39,8 +40,9 @@ use Rattle.sup_posts.specs.declared.jobs.Driven.{Driven}
 use Rattle.sup_posts.specs.declared.jobs.Arrived.{Arrived}
 use Rattle.sup_cluster.specs.Runs.{HasRun, RanCommands, CameFrom, IsMadeOfRounds, IsRunOf, HasStoodBy, carried, in_a_row}
 use Rattle.sup_posts.proofs.ItemLaws.{zip_append}
-use Rattle.sup_run_ends.specs.Passes.{of_arrived, passes_to, shares_of, calls_by, dealt_by, IsFresh, HaveWhole, AreMadeBy}
-use Rattle.sup_run_ends.specs.Steps.{BeginsWithSeen, IsSharedNodeOf, IsLaneTo, IsDriveOf, IsHistoryOf, EndsHistory, AreFinished, LeadsToItsNode, others_of, places}
+use Rattle.sup_posts.specs.Drives.{IsFresh, IsLaneTo, IsDriveOf, LeadsToItsNode, others_of, places, passes_to, shares_of, dealt_by, HaveWhole, IsSharedNodeOf}
+use Rattle.sup_run_ends.specs.Passes.{of_arrived, calls_by, AreMadeBy}
+use Rattle.sup_run_ends.specs.Steps.{BeginsWithSeen, IsHistoryOf, EndsHistory, AreFinished}
 use Rattle.sup_run_ends.proofs.DealtPassLaws.{places_at}
 use Rattle.sup_run_ends.proofs.ZipLaws.{zip_left, zip_right, zip_map, zip_weaken, zip_equal, zip_by_place, zip_same_length, map_same}
 use Rattle.sup_run_ends.proofs.RunEndItemLaws.{all_at, contained, place_of, stands_in, same_place, flat_contains, get_left, get_right, get_next, get_map, split_place}
@@ -48,7 +50,7 @@ use Rattle.sup_cluster.proofs.HistorySublistLaws.{in_deliveries}
 use Rattle.sup_cluster.proofs.PassPlaceLaws.{one_other, not_itself, none_comes, one_comes, passes_both, same_shares}
 use Rattle.sup_cluster.proofs.ShuffleImageLaws.{shuffle_of_images, row_image, some_injective}
 
-module _ {W : Type 0} {h : WeighGhosts W} (did : Bytes → Effect → Bool → Type 0) (stood : Bytes → ℕ → Type 0) where
+module _ {W : Type 0} {h : WeighGhosts W} (did : Bytes → Effect → Bool → Type 0) (stood : Bytes → Command → ℕ → Type 0) where
   abbrev passes_of : List (Driven W h) → List (Arrived W h)
   passes_of = flat_map (λ d. d.arrived.items)
 
@@ -65,8 +67,8 @@ module _ {W : Type 0} {h : WeighGhosts W} (did : Bytes → Effect → Bool → T
       let p = zip_right (IsHistoryOf g) posts all i x hs e in
       let d = zip_left (IsDriveOf plan posts) posts drives i p.0 ds p.1 in
       let r = zip_left (DrivesNode did stood posts) drives driven i d.0 gs d.1 in
-      subst (λ l. StoodByAll (stood x.node) (length l)) (d.2.commands ∙ ap (λ n. commands_of n plan.commands.items) (sym p.2.named))
-      (subst (λ n. StoodByAll (stood n) (length d.0.commands.items)) (node_named plan posts p.0 d.0 r.0 x d.2 r.2 p.2.named) r.2.stood_by)
+      subst (λ l. StoodByAll (stood x.node) l) (d.2.commands ∙ ap (λ n. commands_of n plan.commands.items) (sym p.2.named))
+      (subst (λ n. StoodByAll (stood n) d.0.commands.items) (node_named plan posts p.0 d.0 r.0 x d.2 r.2 p.2.named) r.2.stood_by)
 
   pub all_stood : (g : Weigher) (plan : Plan) (posts : List (SharedNode W h)) (drives : List (Drive W h)) (results : List (Result (Driven W h) ThreadFault)) (all : List History)
       → AllZip (IsDriveOf plan posts) posts drives → AllZip (GivesDriven did stood posts) drives results → AreFinished g posts results all → All (HasStoodBy stood plan) all

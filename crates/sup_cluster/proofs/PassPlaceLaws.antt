@@ -12,14 +12,15 @@ use Rattle.sup_local_sup.specs.declared.effect.Effect.{Effect}
 use Rattle.sup_placement.specs.declared.weigh.Weigh.{Ghosts as WeighGhosts}
 use Rattle.sup_node_gate.specs.declared.entry.Entry.{Entry}
 use Rattle.sup_node_gate.specs.Gates.{view_of}
+use Rattle.sup_plan.specs.declared.plan.Command.{Command}
 use Rattle.sup_posts.specs.Jobs.{Seat, CarriedLetters, DrivesNode}
 use Rattle.sup_posts.specs.declared.shared_node.SharedNode.{SharedNode}
 use Rattle.sup_posts.specs.declared.jobs.Lane.{Lane}
 use Rattle.sup_posts.specs.declared.jobs.Drive.{Drive}
 use Rattle.sup_posts.specs.declared.jobs.Driven.{Driven}
 use Rattle.sup_posts.specs.declared.jobs.Arrived.{Arrived}
-use Rattle.sup_run_ends.specs.Passes.{of_lane, of_arrived, passes_to, shares_of, dealt_by}
-use Rattle.sup_run_ends.specs.Steps.{ends_of, others_of, places}
+use Rattle.sup_posts.specs.Drives.{of_lane, passes_to, shares_of, dealt_by, ends_of, others_of, places}
+use Rattle.sup_run_ends.specs.Passes.{of_arrived}
 use Rattle.sup_run_ends.proofs.PlacedPassLaws.{passes_append, pass_here, pass_apart}
 use Rattle.sup_run_ends.proofs.ReturnedPassLaws.{is_same, isnt_same}
 
@@ -125,7 +126,7 @@ module _ {W : Type 0} {h : WeighGhosts W} (did : Bytes → Effect → Bool → T
   shares_both xs ys = flat_map-append (λ (s : Seat W h). (view_of s).shares) xs ys
 
   -- what comes back to a place has what was dealt to it
-  pub same_shares : (stood : Bytes → ℕ → Type 0) (j : ℕ) (drives : List (Drive W h)) (driven : List (Driven W h)) → AllZip (DrivesNode did stood posts) drives driven
+  pub same_shares : (stood : Bytes → Command → ℕ → Type 0) (j : ℕ) (drives : List (Drive W h)) (driven : List (Driven W h)) → AllZip (DrivesNode did stood posts) drives driven
       → shares_of (passes_to j (map of_arrived (flat_map (λ (d : Driven W h). d.arrived.items) driven))) ≡ shares_of (passes_to j (dealt_by drives))
   same_shares stood j [] [] z = refl
   same_shares stood j [] (r ∷ more) z = absurd z

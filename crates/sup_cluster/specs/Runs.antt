@@ -1,5 +1,5 @@
 -- What a run of a plan gives back.
-use Rattle.std.specs.Prelude.{◌≡◌, ◌≢◌, ℕ, Bool, List, ◌∷◌, ◌++◌, length, map, flat_map, All, Contains}
+use Rattle.std.specs.Prelude.{◌≡◌, ◌≢◌, ℕ, Bool, List, ◌∷◌, ◌++◌, map, flat_map, All, Contains}
 use Rattle.std.specs.List.{AllZip}
 use Rattle.sup_specs.specs.Values.{Bytes}
 use Rattle.sup_placement.specs.Place.{Weigher}
@@ -14,6 +14,7 @@ use Rattle.sup_plan.specs.Calls.{call_of, asked, letters_to, deliveries}
 use Rattle.sup_plan.specs.Parts.{commands_of, script_between}
 use Rattle.sup_plan.specs.Sublists.{Sublist}
 use Rattle.sup_plan.specs.declared.histories.History.{History}
+use Rattle.sup_plan.specs.declared.plan.Command.{Command}
 use Rattle.sup_plan.specs.declared.plan.Plan.{Plan}
 use Rattle.sup_posts.specs.Rounds.{IsRound, StoodByAll, delivery}
 
@@ -68,6 +69,6 @@ pub record IsRunOf (g : Weigher) (did : Bytes → Effect → Bool → Type 0) (p
   pub drove : All (RanCommands plan all) all
   pub made : (before : List History) (h : History) (after : List History) → all ≡ before ++ h ∷ after → IsMadeOfRounds (did h.node) plan (before ++ after) h
 
--- the checkpoint was told of each of the node's commands, by its place
-abbrev pub HasStoodBy : (Bytes → ℕ → Type 0) → Plan → History → Type 0
-HasStoodBy stood plan h = StoodByAll (stood h.node) (length (commands_of h.node plan.commands.items))
+-- the checkpoint was told of each of the node's commands, with its place
+abbrev pub HasStoodBy : (Bytes → Command → ℕ → Type 0) → Plan → History → Type 0
+HasStoodBy stood plan h = StoodByAll (stood h.node) (commands_of h.node plan.commands.items)

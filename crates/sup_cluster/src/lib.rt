@@ -7,6 +7,6 @@
 
 mod running;
 
-pub use running::{run, run_bounded};
-pub use sup_driving::{Checkpoint, Quiet, Runner};
+pub use running::run;
+pub use sup_driving::{Checkpoint, PlannedRun, Quiet, Runner};
 pub use sup_posts::{Request, Requests};

@@ -1,13 +1,30 @@
 //! Runs whose histories may have few entries.
+ghost use Rattle.sup_node_gate.specs.Gates.{IsBound};
+
 use crate::given::{is_certified, join, linked, plan, push, start, told, wait_for};
 use std::process::Abort;
+use std::sync::Wait;
 use std::sync::atomic::{AtomicBool, Ordering};
-use sup_cluster::{Checkpoint, Quiet, Requests, run_bounded};
+use std::thread::Threads;
+use sup_cluster::{Checkpoint, PlannedRun, Quiet, Requests, run};
 use sup_links::Verdict;
 use sup_placement::FlatWeigh;
-use sup_plan::{Command, Plan};
+use sup_plan::{Command, Histories, Plan};
 use sup_posts::RunFault;
 use sup_specs::NodeName;
+
+// Runs a plan where each history may have so many entries.
+fn run_within<R: Threads + Wait + Sync + AllocGlobal, C: Checkpoint + Sync>(
+    rt: &R,
+    plan: &Plan,
+    bound: u64,
+    checkpoint: &C,
+) -> Result<Histories, RunFault>
+    requires { IsBound bound }
+{
+    let planned = PlannedRun::new(plan, bound, &Quiet, checkpoint)?;
+    run(rt, rt.alloc(), planned, &FlatWeigh)
+}
 
 // Node a has two commands, and b none.
 fn two_commands(rt: &(impl Abort + AllocGlobal)) -> Plan {
@@ -18,35 +35,18 @@ fn two_commands(rt: &(impl Abort + AllocGlobal)) -> Plan {
 #[test]
 fn a_history_of_one_entry_has_no_room_for_two_commands(rt: HostRuntime) {
     let plan = two_commands(&rt);
-    let ended = run_bounded(&rt, rt.alloc(), &plan, 1, &Quiet, &Quiet, &FlatWeigh);
+    let ended = run_within(&rt, &plan, 1, &Quiet);
     assert!(rt; matches!(ended, Err(RunFault::HistoryFull)));
 }
 
 #[test]
 fn a_history_may_have_as_many_entries_as_its_bound(rt: HostRuntime) {
     let plan = two_commands(&rt);
-    let Ok(histories) = run_bounded(&rt, rt.alloc(), &plan, 2, &Quiet, &Quiet, &FlatWeigh) else {
+    let Ok(histories) = run_within(&rt, &plan, 2, &Quiet) else {
         panic!(rt; "no histories")
     };
     assert!(rt; histories.as_slice()[0].entries.len() == 2);
     assert!(rt; is_certified(&rt, &plan, &histories));
-}
-
-#[test]
-fn a_bad_plan_is_refused_whatever_the_bound(rt: HostRuntime) {
-    let plan = plan(&rt, &["a"]);
-    let least = run_bounded(&rt, rt.alloc(), &plan, 1, &Quiet, &Quiet, &FlatWeigh);
-    assert!(rt; matches!(least, Err(RunFault::BadPlan)));
-    let most = run_bounded(
-        &rt,
-        rt.alloc(),
-        &plan,
-        1_000_000,
-        &Quiet,
-        &Quiet,
-        &FlatWeigh,
-    );
-    assert!(rt; matches!(most, Err(RunFault::BadPlan)));
 }
 
 // B's history has room for its own commands and fifteen deliveries. Behind the one that finds it full twenty messages more come from a: more
@@ -79,7 +79,7 @@ struct Lamps {
 }
 
 impl Checkpoint for Lamps {
-    ghost was_before = { λ lamps node place. Unit {0} };
+    ghost was_before = { λ lamps node command place. Unit {0} };
 
     ghost was_answered = { λ lamps node place. Unit {0} };
 
@@ -105,7 +105,7 @@ fn a_driver_makes_all_its_commands_though_another_nodes_history_is_full(rt: Host
         pushed: AtomicBool::new(false),
     };
     let plan = many_messages(&rt);
-    let ended = run_bounded(&rt, rt.alloc(), &plan, BOUND, &Quiet, &lamps, &FlatWeigh);
+    let ended = run_within(&rt, &plan, BOUND, &lamps);
     assert!(rt; matches!(ended, Err(RunFault::HistoryFull)));
     // A receiver that had dropped its end would have closed the link.
     assert!(rt; lamps.pushed.load(Ordering::SeqCst));

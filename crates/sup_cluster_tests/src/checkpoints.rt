@@ -1,11 +1,9 @@
 //! What a checkpoint is told.
-use crate::given::{join, plan, start, told};
+use crate::given::{join, plan, run_flat, start, told};
 use std::process::Abort;
 use std::sync::atomic::{AtomicBool, Ordering};
-use sup_cluster::{Checkpoint, Quiet, Requests, run};
-use sup_placement::FlatWeigh;
+use sup_cluster::{Checkpoint, Quiet, Requests};
 use sup_plan::{Command, Plan};
-use sup_posts::RunFault;
 use sup_replica::{Act, Event};
 use sup_specs::NodeName;
 
@@ -24,7 +22,7 @@ fn new_ledger() -> Ledger {
 }
 
 impl Checkpoint for Ledger {
-    ghost was_before = { λ ledger node place. Unit {0} };
+    ghost was_before = { λ ledger node command place. Unit {0} };
 
     ghost was_answered = { λ ledger node place. Unit {0} };
 
@@ -56,17 +54,8 @@ fn a_checkpoint_is_told_of_the_plans_commands(rt: HostRuntime) {
     let ledger = new_ledger();
     let plan = joining(&rt, plan(&rt, &["a", "b"]), "a");
     let plan = joining(&rt, plan, "b");
-    let ended = run(&rt, rt.alloc(), &plan, &Quiet, &ledger, &FlatWeigh);
+    let ended = run_flat(&rt, &plan, &Quiet, &ledger);
     assert!(rt; ended.is_ok());
     assert!(rt; ledger.is_told.load(Ordering::SeqCst));
     assert!(rt; !ledger.is_mistaken.load(Ordering::SeqCst));
-}
-
-#[test]
-fn a_checkpoint_is_told_nothing_of_a_bad_plan(rt: HostRuntime) {
-    let ledger = new_ledger();
-    let plan = joining(&rt, plan(&rt, &["a"]), "a");
-    let ended = run(&rt, rt.alloc(), &plan, &Quiet, &ledger, &FlatWeigh);
-    assert!(rt; matches!(ended, Err(RunFault::BadPlan)));
-    assert!(rt; !ledger.is_told.load(Ordering::SeqCst));
 }

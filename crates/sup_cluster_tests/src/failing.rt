@@ -1,8 +1,7 @@
 //! A runner that can't start any child.
-use crate::given::{Counted, count, is_certified, join, plan, ship, start, told};
-use sup_cluster::{Quiet, Request, Runner, run};
+use crate::given::{Counted, count, is_certified, join, plan, run_flat, ship, start, told};
+use sup_cluster::{Quiet, Request, Runner};
 use sup_local_sup::Effect;
-use sup_placement::FlatWeigh;
 use sup_replica::Refusal;
 
 struct StartsNothing;
@@ -21,7 +20,7 @@ fn a_child_that_never_starts_ends_the_membership(rt: HostRuntime) {
     let plan = told(&rt, plan(&rt, &["a", "b"]), "a", ship(&rt, "b"));
     let plan = told(&rt, plan, "a", join(&rt));
     let plan = told(&rt, plan, "a", start(&rt, "web"));
-    let Ok(histories) = run(&rt, rt.alloc(), &plan, &StartsNothing, &Quiet, &FlatWeigh) else {
+    let Ok(histories) = run_flat(&rt, &plan, &StartsNothing, &Quiet) else {
         panic!(rt; "no histories")
     };
     assert!(rt; histories.as_slice()[0].entries.len() == 5);

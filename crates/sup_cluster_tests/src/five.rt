@@ -1,9 +1,8 @@
 //! Five nodes that drain, stop and restart, over links that lose and double.
-use crate::given::{drain, is_certified, join, linked, plan, ship, start, told};
+use crate::given::{drain, is_certified, join, linked, plan, run_flat, ship, start, told};
 use std::process::Abort;
-use sup_cluster::{Quiet, run};
+use sup_cluster::Quiet;
 use sup_links::Verdict;
-use sup_placement::FlatWeigh;
 use sup_plan::Plan;
 use sup_replica::Act;
 
@@ -40,7 +39,7 @@ fn ring(rt: &(impl Abort + AllocGlobal)) -> Plan {
 fn a_hundred_runs_of_five_nodes_that_drain_stop_and_restart_are_certified(rt: HostRuntime) {
     let plan = ring(&rt);
     for _ in 0..100 {
-        let Ok(histories) = run(&rt, rt.alloc(), &plan, &Quiet, &Quiet, &FlatWeigh) else {
+        let Ok(histories) = run_flat(&rt, &plan, &Quiet, &Quiet) else {
             panic!(rt; "no histories")
         };
         assert!(rt; is_certified(&rt, &plan, &histories));

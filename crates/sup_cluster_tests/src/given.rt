@@ -1,10 +1,14 @@
 //! What the tests are given.
 use std::process::Abort;
+use std::sync::Wait;
 use std::sync::atomic::{AtomicBool, Ordering};
-use std::thread::yield_now;
+use std::thread::{Threads, yield_now};
+use sup_cluster::{Checkpoint, PlannedRun, Runner, run};
 use sup_links::{LinkScript, Verdict};
+use sup_node_gate::MAX_BOUND;
 use sup_placement::FlatWeigh;
 use sup_plan::{Command, Histories, Plan, Route};
+use sup_posts::RunFault;
 use sup_replica::{Act, Config, Event, MessageText, Refusal, Reply};
 use sup_specs::{ChildId, ChildSpec, Kind, NodeName, Restart, Shutdown, Text};
 
@@ -162,6 +166,16 @@ pub(crate) fn deliveries(histories: &Histories, at: usize) -> usize {
         .iter()
         .filter(|entry| matches!(entry.act, Act::Event(Event::Deliver(_))))
         .count()
+}
+
+/// Runs a plan, with members that weigh the same: what happened at each node.
+pub(crate) fn run_flat<
+    R: Threads + Wait + Sync + AllocGlobal,
+    N: Runner + Sync,
+    C: Checkpoint + Sync,
+>(rt: &R, plan: &Plan, runner: &N, checkpoint: &C) -> Result<Histories, RunFault> {
+    let planned = PlannedRun::new(plan, MAX_BOUND, runner, checkpoint)?;
+    run(rt, rt.alloc(), planned, &FlatWeigh)
 }
 
 /// Whether the histories are judged to be a run.

@@ -1,11 +1,10 @@
 //! Links that lose and double.
 use crate::given::{
-    Counted, count, deliveries, is_certified, join, linked, plan, ship, start, told,
+    Counted, count, deliveries, is_certified, join, linked, plan, run_flat, ship, start, told,
 };
 use std::process::Abort;
-use sup_cluster::{Quiet, run};
+use sup_cluster::Quiet;
 use sup_links::Verdict;
-use sup_placement::FlatWeigh;
 use sup_plan::Plan;
 
 // The first message from a to b is lost, the first from b to a comes twice.
@@ -22,7 +21,7 @@ fn lost_and_doubled(rt: &(impl Abort + AllocGlobal)) -> Plan {
 fn ten_runs_with_lost_and_doubled_letters_are_certified(rt: HostRuntime) {
     let plan = lost_and_doubled(&rt);
     for _ in 0..10 {
-        let Ok(histories) = run(&rt, rt.alloc(), &plan, &Quiet, &Quiet, &FlatWeigh) else {
+        let Ok(histories) = run_flat(&rt, &plan, &Quiet, &Quiet) else {
             panic!(rt; "no histories")
         };
         // Of the two copies one is absorbed and the other known. The first message that a puts is lost: its ship, or an acknowledgement of

@@ -1,12 +1,11 @@
 //! Nodes that stop and restart while threads run.
 use crate::given::{
-    Counted, count, deliveries, is_certified, join, plan, refused_down, ship, start, told,
+    Counted, count, deliveries, is_certified, join, plan, refused_down, run_flat, ship, start, told,
 };
 use std::process::Abort;
 use std::sync::atomic::{AtomicBool, Ordering};
-use sup_cluster::{Quiet, Request, Runner, run};
+use sup_cluster::{Quiet, Request, Runner};
 use sup_local_sup::Effect;
-use sup_placement::FlatWeigh;
 use sup_plan::{History, Plan};
 use sup_replica::{Act, Event, Reply};
 
@@ -50,7 +49,7 @@ fn has_stopped(history: &History) -> bool {
 fn a_hundred_runs_with_a_node_that_stops_and_restarts_are_certified(rt: HostRuntime) {
     let plan = stopped_and_restarted(&rt);
     for _ in 0..100 {
-        let Ok(histories) = run(&rt, rt.alloc(), &plan, &Quiet, &Quiet, &FlatWeigh) else {
+        let Ok(histories) = run_flat(&rt, &plan, &Quiet, &Quiet) else {
             panic!(rt; "no histories")
         };
         assert!(rt; has_stopped(&histories.as_slice()[0]));
@@ -71,7 +70,7 @@ fn a_plan_may_end_with_a_node_down(rt: HostRuntime) {
     let plan = told(&rt, plan, "a", Act::Stop);
     let plan = told(&rt, plan, "a", start(&rt, "y"));
     let plan = told(&rt, plan, "b", start(&rt, "z"));
-    let Ok(histories) = run(&rt, rt.alloc(), &plan, &Quiet, &Quiet, &FlatWeigh) else {
+    let Ok(histories) = run_flat(&rt, &plan, &Quiet, &Quiet) else {
         panic!(rt; "no histories")
     };
     assert!(rt; histories.as_slice()[0].entries.len() == 3);
@@ -118,7 +117,7 @@ fn a_restart_starts_children_and_a_stop_tells_nothing(rt: HostRuntime) {
         second: AtomicBool::new(false),
         stopped: AtomicBool::new(false),
     };
-    let Ok(histories) = run(&rt, rt.alloc(), &plan, &lamps, &Quiet, &FlatWeigh) else {
+    let Ok(histories) = run_flat(&rt, &plan, &lamps, &Quiet) else {
         panic!(rt; "no histories")
     };
     assert!(rt; lamps.first.load(Ordering::SeqCst) && lamps.second.load(Ordering::SeqCst));
@@ -144,7 +143,7 @@ impl Runner for StartsOnce {
 #[test]
 fn a_child_that_does_not_start_in_the_new_boot_ends_the_membership(rt: HostRuntime) {
     let plan = restarted_member(&rt);
-    let Ok(histories) = run(&rt, rt.alloc(), &plan, &StartsOnce, &Quiet, &FlatWeigh) else {
+    let Ok(histories) = run_flat(&rt, &plan, &StartsOnce, &Quiet) else {
         panic!(rt; "no histories")
     };
     assert!(rt; histories.as_slice()[0].entries.len() == 6);

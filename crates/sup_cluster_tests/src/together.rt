@@ -1,10 +1,11 @@
 //! Drivers that wait for one another, which get on since they run at once.
-use crate::given::{Counted, count, is_certified, join, plan, ship, start, told, wait_for};
+use crate::given::{
+    Counted, count, is_certified, join, plan, run_flat, ship, start, told, wait_for,
+};
 use std::process::Abort;
 use std::sync::atomic::{AtomicBool, Ordering};
-use sup_cluster::{Checkpoint, Request, Requests, Runner, run};
+use sup_cluster::{Checkpoint, Request, Requests, Runner};
 use sup_local_sup::Effect;
-use sup_placement::FlatWeigh;
 use sup_plan::{Command, Plan};
 use sup_specs::NodeName;
 
@@ -16,7 +17,7 @@ struct Lamps {
 }
 
 impl Checkpoint for Lamps {
-    ghost was_before = { λ lamps node place. Unit {0} };
+    ghost was_before = { λ lamps node command place. Unit {0} };
 
     ghost was_answered = { λ lamps node place. Unit {0} };
 
@@ -60,7 +61,7 @@ fn an_acknowledgement_comes_back_while_drivers_wait(rt: HostRuntime) {
         joined: AtomicBool::new(false),
         started: AtomicBool::new(false),
     };
-    let Ok(histories) = run(&rt, rt.alloc(), &plan, &lamps, &lamps, &FlatWeigh) else {
+    let Ok(histories) = run_flat(&rt, &plan, &lamps, &lamps) else {
         panic!(rt; "no histories")
     };
     assert!(rt; lamps.joined.load(Ordering::SeqCst) && lamps.started.load(Ordering::SeqCst));

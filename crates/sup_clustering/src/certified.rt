@@ -1,8 +1,9 @@
 //! A plan's run by threads, and what is told of its end.
 
-ghost use Rattle.std.specs.Prelude.{◌≡◌, ◌≢◌, Err, IfErr, IfOk, string_bytes};
+ghost use Rattle.std.specs.Prelude.{◌≡◌, ◌≢◌, ◌≤◌, All, Err, IfErr, IfOk, length, string_bytes};
 ghost use Rattle.sup_plan.specs.Plans.{IsPlan};
-ghost use Rattle.sup_clustering.specs.CertifiedPlans.{IsRefused, PrintsCluster};
+ghost use Rattle.sup_cluster.specs.Runs.{IsRunOf};
+ghost use Rattle.sup_clustering.specs.CertifiedPlans.{IsRefused, PrintsCluster, all_start};
 ghost use Rattle.sup_clustering.specs.Verdicts.{RefusesHistories, PrintsRun};
 ghost use Rattle.sup_cluster_texts.specs.Faults.{of_run};
 
@@ -10,8 +11,9 @@ use crate::verdict::judged_text;
 use std::alloc::Global;
 use std::sync::Wait;
 use std::thread::Threads;
-use sup_cluster::{Quiet, run};
+use sup_cluster::{PlannedRun, Quiet, run};
 use sup_cluster_texts::{ClusterFault, of_run};
+use sup_node_gate::MAX_BOUND;
 use sup_placement::Weigh;
 use sup_plan::{Histories, Plan};
 use sup_posts::RunFault;
@@ -33,8 +35,24 @@ pub fn plan_text<T: Threads + Wait + Sync, G: Weigh + Copy + Drop + Send + Sync>
     ensures refused { IfErr result (IsRefused G.weight_of plan.now) }
 {
     // No contract can say that the threads run once: so nothing stands here but the run and what is told of its end.
-    let ended = run(rt, alloc, plan, &Quiet, &Quiet, weigher);
+    let ended = run_once(rt, alloc, weigher, plan);
     ended_text(alloc, weigher, plan, ended)
+}
+
+// A run of the plan by threads, of which nobody is told.
+fn run_once<T: Threads + Wait + Sync, G: Weigh + Send + Sync>(
+    rt: &T,
+    alloc: Global,
+    weigher: &G,
+    plan: &Plan,
+) -> Result<Histories, RunFault>
+    requires { IsPlan plan.now }
+    ensures good { result ≢ Err RunFault.BadPlan }
+    ensures run { IfOk result (IsRunOf G.weight_of all_start plan.now) }
+    ensures bound { IfOk result (λ histories. All (λ h. length h.entries.items ≤ MAX_BOUND) histories) }
+{
+    let planned = PlannedRun::new(plan, MAX_BOUND, &Quiet, &Quiet)?;
+    run(rt, alloc, planned, weigher)
 }
 
 // What is told of threads that ended so: the verdict over just these histories, or just this fault. Nothing runs by threads here, so no

@@ -1,5 +1,5 @@
 -- From what the threads of drivers and receivers did to what is promised of drivers.
-use Rattle.std.specs.Prelude.{◌≡◌, ℕ, Bool, List, [], ◌∷◌, length, map, slice_get, All, Result, Ok, Err, IfOk}
+use Rattle.std.specs.Prelude.{◌≡◌, ℕ, Bool, List, [], ◌∷◌, map, slice_get, All, Result, Ok, Err, IfOk}
 use Rattle.std.specs.List.{AllZip}
 use Rattle.std.proofs.Common.{sym, ap, ◌∙◌, subst, arith}
 use Rattle.std.proofs.lemmas.List.Elements.{All-cons, All-tail}
@@ -16,7 +16,10 @@ use Rattle.sup_links.specs.Ends.{AreOneLink, script_of, taken_of}
 use Rattle.sup_links.specs.Image.{image}
 use Rattle.sup_plan.specs.Calls.{asked, letters_to, deliveries}
 use Rattle.sup_plan.specs.Sublists.{Sublist}
-use Rattle.sup_posts.specs.Jobs.{IsLane, CarriedLetters, DrivesNode, GivesDriven}
+use Rattle.sup_plan.specs.declared.plan.Command.{Command}
+use Rattle.sup_plan.specs.declared.plan.Plan.{Plan}
+use Rattle.sup_posts.specs.Drives.{IsDriveOf}
+use Rattle.sup_posts.specs.Jobs.{IsLane, MayTakeDrive, CarriedLetters, DrivesNode, GivesDriven}
 use Rattle.sup_posts.specs.Rounds.{MakesCalls, StoodByAll, delivery}
 use Rattle.sup_posts.specs.declared.thread_fault.ThreadFault.{ThreadFault}
 use Rattle.sup_posts.specs.declared.shared_node.SharedNode.{SharedNode}
@@ -32,7 +35,14 @@ use Rattle.sup_driving.specs.declared.wires.Wire.{Wire}
 use Rattle.sup_driving.specs.Teams.{HasSent, IsWireOf, IsReceiveOf, IsTeamOf, SteersNode, ReceivesLetters}
 use Rattle.sup_driving.specs.GatheredResults.{Steering, Reception, CanMeet, MetEnds, AllMet, CanMeetAll, CanGather, IsGathered, GathersTeam}
 
-module _ {W : Type 0} {h : WeighGhosts W} (did : Bytes → Effect → Bool → Type 0) (stood : Bytes → ℕ → Type 0) where
+-- the drives of a plan may be taken
+pub drives_take : {W : Type 0} {h : WeighGhosts W} (plan : Plan) (all posts : List (SharedNode W h)) (drives : List (Drive W h)) → AllZip (IsDriveOf plan all) posts drives → All (MayTakeDrive all) drives
+drives_take plan all [] [] z = λ k x lt. absurd (omega (arith, lt))
+drives_take plan all [] (d ∷ ds) z = absurd z
+drives_take plan all (p ∷ ps) [] z = absurd z
+drives_take plan all (p ∷ ps) (d ∷ ds) z = All-cons (MayTakeDrive all) d ds z.0.takes (drives_take plan all ps ds z.1)
+
+module _ {W : Type 0} {h : WeighGhosts W} (did : Bytes → Effect → Bool → Type 0) (stood : Bytes → Command → ℕ → Type 0) where
   -- what the receiver of a job gives
   abbrev Took : List (SharedNode W h) → Receive W h → Reception W h → Type 0
   Took posts receive result = IfOk result (ReceivesLetters did posts receive)
@@ -123,7 +133,7 @@ module _ {W : Type 0} {h : WeighGhosts W} (did : Bytes → Effect → Bool → T
           entries = s.entries;
           calls = s.are ∙ ap (λ v. map asked v.items) t.commands;
           seen = subst (λ x. Sublist s.entries (view_of x).seen) (sym g.seat) s.stand;
-          stood_by = subst (λ v. StoodByAll (stood s.seat.0.name) (length v.items)) t.commands s.stood_by;
+          stood_by = subst (λ v. StoodByAll (stood s.seat.0.name) v.items) t.commands s.stood_by;
           made = subst (λ x. MakesCalls (did s.seat.0.name) (view_of drive.seat) (map asked drive.commands.items) (view_of x)) (sym g.seat)
               (subst (λ v. MakesCalls (did s.seat.0.name) (view_of drive.seat) (map asked v.items) (view_of g.steered.seat)) t.commands
               (subst (λ x. MakesCalls (did s.seat.0.name) (view_of x) (map asked team.lead.commands.items) (view_of g.steered.seat)) t.seat s.made));

@@ -1,9 +1,8 @@
 -- What a pass has called and the runner was told, one effect, one call or one round more.
-use Rattle.std.proofs.Common.{◌≡◌, ◌≢◌, ℕ, suc, Bool, true, false, Option, None, Some, List, [], ◌∷◌, ◌++◌, map, flat_map, append_assoc, append-nil, arith, refl, ap, ◌∙◌, sym, subst}
+use Rattle.std.specs.Prelude.{slice_get}
+use Rattle.std.proofs.Common.{◌≡◌, ◌≢◌, ℕ, suc, Bool, true, false, Option, None, Some, List, [], ◌∷◌, ◌++◌, length, map, flat_map, append_assoc, append-nil, refl, ap, ◌∙◌, sym, subst, ⊎_elim}
 use Rattle.std.proofs.lemmas.Grind.{flat_map-append}
-use mathlib.Core.Logic.{dite}
 use mathlib.Core.Option.{some}
-use native.Mathlib.Decide.{ℕ_discrete}
 use Rattle.sup_specs.specs.Values.{Bytes}
 use Rattle.sup_specs.specs.declared.child.ChildSpec.{ChildSpec}
 use Rattle.sup_local_sup.specs.declared.effect.Effect.{Effect}
@@ -15,17 +14,19 @@ use Rattle.sup_node_gate.specs.declared.view.View.{View}
 use Rattle.sup_node_gate.specs.Histories.{entry}
 use Rattle.sup_node_gate.specs.Views.{calls_of}
 use Rattle.sup_plan.specs.Calls.{Call}
+use Rattle.sup_plan.specs.declared.plan.Command.{Command}
 use Rattle.sup_posts.specs.NodeCalls.{MadeCall}
 use Rattle.sup_posts.specs.Requests.{Unasked}
 use Rattle.sup_posts.specs.Rounds.{ChildIncarnation, IsDone, TellsRunner, IsRound, MakesCalls, StoodByAll, failed}
-use Rattle.sup_posts.proofs.ItemLaws.{zip_append}
+use Rattle.sup_posts.proofs.ItemLaws.{get_snoc, zip_append}
 use Rattle.sup_driving.specs.Called.{AsksRunner, TellsEffects, effects_in}
 
--- the places of one command more
-pub stood_more : (stood : ℕ → Type 0) (n : ℕ) → StoodByAll stood n → stood (suc n) → StoodByAll stood (suc n)
-stood_more stood n s one place lt = dite (ℕ_discrete place n)
-    (λ (e : place ≡ n). subst (λ k. stood (suc k)) (sym e) one)
-    (λ apart. s place (omega (arith, lt, apart)))
+-- one command more
+pub stood_more : (stood : Command → ℕ → Type 0) (commands : List Command) (command : Command) → StoodByAll stood commands → stood command (suc (length commands)) → StoodByAll stood (commands ++ command ∷ [])
+stood_more stood commands command s one place c at = ⊎_elim
+    (λ (here : slice_get commands place ≡ Some c). s place c here)
+    (λ (last : (place ≡ length commands) × (command ≡ c)). subst (λ (x : Command × ℕ). stood x.0 (suc x.1)) (λ i. (last.1 i, sym last.0 i)) one)
+    (get_snoc commands command c place at)
 
 module _ (did : Effect → Bool → Type 0) where
   -- no run was answered not to have started

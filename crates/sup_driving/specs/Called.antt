@@ -13,6 +13,7 @@ use Rattle.sup_links.specs.declared.link_out.LinkOut.{LinkOut}
 use Rattle.sup_links.specs.Ends.{has_ended}
 use Rattle.sup_plan.specs.Calls.{Call, call_of}
 use Rattle.sup_plan.specs.Sublists.{Sublist}
+use Rattle.sup_plan.specs.declared.plan.Command.{Command}
 use Rattle.sup_posts.specs.Requests.{Unasked}
 use Rattle.sup_posts.specs.Rounds.{ChildIncarnation, IsDone, TellsRunner}
 use Rattle.sup_posts.specs.declared.thread_fault.ThreadFault.{ThreadFault}
@@ -49,9 +50,9 @@ effects_in = flat_map (λ r. r.effects)
 abbrev pub AreOf : Bytes → List Unasked → Type 0
 AreOf name = All (λ r. r.node ≡ name)
 
--- the checkpoint was told of a node's command, before it and behind its answer
-abbrev pub stood_by : {C : Type 0} → (C → Bytes → ℕ → Type 0) → (C → Bytes → ℕ → Type 0) → C → Bytes → ℕ → Type 0
-stood_by before answered checkpoint node place = before checkpoint node place × answered checkpoint node place
+-- the checkpoint was told of a node's command, and of its answer by the place
+abbrev pub stood_by : {C : Type 0} → (C → Bytes → Command → ℕ → Type 0) → (C → Bytes → ℕ → Type 0) → C → Bytes → Command → ℕ → Type 0
+stood_by before answered checkpoint node command place = before checkpoint node command place × answered checkpoint node place
 
 -- why a thread makes no more calls: the history is full, and it has seen it whole; or memory was refused
 abbrev pub StopsCalling : ℕ → View → ThreadFault → Type 0

@@ -1,4 +1,5 @@
 pub mod Called
 pub mod GatheredResults
+pub mod PlannedRuns
 pub mod Wires
 pub mod Teams

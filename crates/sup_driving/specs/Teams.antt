@@ -1,5 +1,5 @@
 -- A driver and its receivers: what their threads are given, and give back.
-use Rattle.std.specs.Prelude.{◌≡◌, ℕ, Bool, true, List, [], length, map, slice_get, Some}
+use Rattle.std.specs.Prelude.{◌≡◌, ℕ, Bool, true, List, [], map, slice_get, Some}
 use Rattle.std.specs.List.{AllZip, AllByRecursion}
 use Rattle.sup_specs.specs.Values.{Bytes}
 use Rattle.sup_local_sup.specs.declared.effect.Effect.{Effect}
@@ -10,6 +10,7 @@ use Rattle.sup_links.specs.declared.link_in.Sent.{Sent}
 use Rattle.sup_links.specs.Ends.{SameOut, IsSentOf, script_of, sent_script, sent_put, taken_of, has_ended}
 use Rattle.sup_plan.specs.Calls.{call_of, asked, letters_to, deliveries}
 use Rattle.sup_plan.specs.Sublists.{Sublist}
+use Rattle.sup_plan.specs.declared.plan.Command.{Command}
 use Rattle.sup_posts.specs.Jobs.{IsSeatAt, MayTakeDrive}
 use Rattle.sup_posts.specs.declared.shared_node.SharedNode.{SharedNode}
 use Rattle.sup_posts.specs.declared.jobs.Lane.{Lane}
@@ -69,13 +70,13 @@ module _ {W : Type 0} {h : WeighGhosts W} where
   -- the commands stand in order, each once with its moment, in what the driver's pass has seen, and the letters of all that it has seen were sent,
   -- and nothing else; the pass made no other call but exits of children that didn't start at a command, as the runner answered; the checkpoint was
   -- told of each command
-  pub record SteersNode (did : Bytes → Effect → Bool → Type 0) (stood : Bytes → ℕ → Type 0) (posts : List (SharedNode W h)) (steer : Steer W h) (steered : Steered W h) : Type 0 where
+  pub record SteersNode (did : Bytes → Effect → Bool → Type 0) (stood : Bytes → Command → ℕ → Type 0) (posts : List (SharedNode W h)) (steer : Steer W h) (steered : Steered W h) : Type 0 where
     pub seat : IsSeatAt posts steer.at steered.seat
     pub entries : List Entry
     pub are : map call_of entries ≡ map asked steer.commands.items
     pub stand : Sublist entries (view_of steered.seat).seen
     pub sent : AllZip (HasSent (view_of steered.seat).seen) steer.wires.items steered.sent.items
-    pub stood_by : StoodByAll (stood seat.0.name) (length steer.commands.items)
+    pub stood_by : StoodByAll (stood seat.0.name) steer.commands.items
     pub made : MakesCalls (did seat.0.name) (view_of steer.seat) (map asked steer.commands.items) (view_of steered.seat)
 
   -- all that came out of the link was delivered, in its order; the pass made no other call but exits of children that didn't start at it, as

@@ -1,5 +1,5 @@
 //! What a driver does.
-ghost use Rattle.std.specs.Prelude.{◌++◌, ◌⊎◌, [], ◌∷◌, length, map, IfErr, IfOk, OnOk, List};
+ghost use Rattle.std.specs.Prelude.{◌++◌, ◌⊎◌, [], ◌∷◌, map, IfErr, IfOk, OnOk, List};
 ghost use Rattle.std.specs.List.{AllZip, AllByRecursion};
 ghost use Rattle.sup_node_gate.specs.Gates.{IsOf, view_of, bound_of};
 ghost use Rattle.sup_node_gate.specs.InMemory.{failures_by, sound_by};
@@ -36,7 +36,7 @@ impl<'a, R: Wait, W: Weigh, N: Runner, C: Checkpoint> Field<'a, R, W, N, C> {
         ensures shipped { IfOk result (λ n. HaveShipped n (view_of seat.new).seen wires.new) }
         ensures did { (calls : List Call) → CallsStand calls (view_of seat.old).seen → OnOk result (CallsStand (calls ++ asked command ∷ []) (view_of seat.new).seen) }
         ensures made { OnOk result (MakesCalls (N.did self.now.runner.now post.now.name) (view_of seat.old) (asked command ∷ []) (view_of seat.new)) }
-        ensures stood { OnOk result (stood_by C.was_before C.was_answered self.now.checkpoint.now post.now.name place) }
+        ensures stood { OnOk result (stood_by C.was_before C.was_answered self.now.checkpoint.now post.now.name command place) }
         ensures fault { IfErr result (λ f. StopsCalling (bound_of post.now.gate) (view_of seat.new) f ⊎ StopsPutting wires.new f) }
     {
         self.checkpoint.before(&post.name, place, &command);
@@ -64,7 +64,7 @@ impl<'a, R: Wait, W: Weigh, N: Runner, C: Checkpoint> Field<'a, R, W, N, C> {
         ensures letters { OnOk result (HaveLetters (view_of seat.new).seen wires.new) }
         ensures did { OnOk result (CallsStand (map asked commands.items) (view_of seat.new).seen) }
         ensures made { OnOk result (MakesCalls (N.did self.now.runner.now post.now.name) (view_of seat.old) (map asked commands.items) (view_of seat.new)) }
-        ensures stood { OnOk result (StoodByAll (stood_by C.was_before C.was_answered self.now.checkpoint.now post.now.name) (length commands.items)) }
+        ensures stood { OnOk result (StoodByAll (stood_by C.was_before C.was_answered self.now.checkpoint.now post.now.name) commands.items) }
         ensures fault { IfErr result (λ f. StopsCalling (bound_of post.now.gate) (view_of seat.new) f ⊎ StopsPutting wires.new f) }
     {
         let mut place: u64 = 0;

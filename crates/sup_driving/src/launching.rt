@@ -1,11 +1,13 @@
 //! The threads of a run, all at once.
-ghost use Rattle.std.specs.Prelude.{All, IfOk};
+ghost use Rattle.std.specs.Prelude.{IfOk, map};
 ghost use Rattle.std.specs.List.{AllZip};
-ghost use Rattle.sup_posts.specs.Jobs.{MayTakeDrive, GivesDriven};
+ghost use Rattle.sup_posts.specs.Drives.{IsDriveOf, IsSharedNodeOf, HaveWhole, dealt_by};
+ghost use Rattle.sup_posts.specs.Jobs.{GivesDriven};
 ghost use Rattle.sup_driving.specs.Called.{stood_by};
 
 use crate::field::Field;
 use crate::gathering::gather_all;
+use crate::planned_run::PlannedRun;
 use crate::runner::{Checkpoint, Runner};
 use crate::teams::split_all;
 use std::alloc::{AllocError, Global};
@@ -15,12 +17,12 @@ use sup_crew::run_teams;
 use sup_placement::Weigh;
 use sup_posts::{Drive, Driven, SharedNode, ThreadFault};
 
-/// Does the jobs of the drivers of these nodes, each in a thread of its own, with one more for each of their links, and gives what each
-/// driver hands back, in their order: its commands stand in its node's history, each once with its moment, and what the links make of the
-/// letters of all answers that the history had then, and of nothing else, is delivered to the other nodes. The threads make no other calls but
-/// exits, with the reason `failed`, of runs that didn't start: each of a run that an answer to the thread began, of which the runner answered so,
-/// and at the moment of the command or the delivery to which it was. Of each node the runner was told all effects of its answers to the driver and
-/// its receivers, by the node's name, and the checkpoint each command's place.
+/// Makes a run: does the jobs of the drivers of its plan's nodes, which nobody called yet, each in a thread of its own, with one more for
+/// each of their links, and gives what each driver hands back, in their order: its commands stand in its node's history, each once with its
+/// moment, and what the links make of the letters of all answers that the history had then, and of nothing else, is delivered to the other
+/// nodes. The threads make no other calls but exits, with the reason `failed`, of runs that didn't start: each of a run that an answer to the
+/// thread began, of which the runner answered so, and at the moment of the command or the delivery to which it was. Of each node the runner
+/// was told all effects of its answers to the driver and its receivers, by the node's name, and the checkpoint each command, with its place.
 /// Of the faults of a driver and of the receivers behind its links the gravest is told: want of memory before a full history, and that
 /// before a closed link. Such a driver still ends its links, and a receiver at a full history still takes what comes, and throws it away: so
 /// the others come to their ends.
@@ -29,6 +31,7 @@ use sup_posts::{Drive, Driven, SharedNode, ThreadFault};
 ///
 /// Where memory was refused, or a thread couldn't be made.
 pub fn launch<
+    'a,
     R: Threads + Wait + Sync,
     W: Weigh + Send + Sync,
     N: Runner + Sync,
@@ -37,13 +40,14 @@ pub fn launch<
     rt: &R,
     alloc: Global,
     weigher: &W,
-    runner: &N,
-    checkpoint: &C,
+    planned: PlannedRun<'a, N, C>,
     posts: &[SharedNode<W>],
     drives: Vec<Drive<W>>,
 ) -> Result<Vec<Result<Driven<W>, ThreadFault>>, AllocError>
-    requires { All (MayTakeDrive posts.now) drives.items }
-    ensures { IfOk result (λ results. AllZip (GivesDriven (N.did runner.now) (stood_by C.was_before C.was_answered checkpoint.now) posts.now) drives.items results.items) }
+    requires nodes { AllZip (IsSharedNodeOf planned.plan.config planned.bound) planned.plan.nodes.items posts.now }
+    requires drives { AllZip (IsDriveOf planned.plan posts.now) posts.now drives.items }
+    requires whole { HaveWhole (map (λ d. d.seat) drives.items) (dealt_by drives.items) }
+    ensures { IfOk result (λ results. AllZip (GivesDriven (N.did planned.entry.runner) (stood_by C.was_before C.was_answered planned.entry.checkpoint) posts.now) drives.items results.items) }
 {
     let teams = split_all(alloc, posts, drives)?;
     let field = Field {
@@ -51,8 +55,8 @@ pub fn launch<
         alloc,
         posts,
         weigher,
-        runner,
-        checkpoint,
+        runner: planned.runner,
+        checkpoint: planned.checkpoint,
     };
     let done = run_teams(rt, alloc, teams, &field)?;
     gather_all(alloc, done)

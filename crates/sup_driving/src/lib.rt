@@ -13,6 +13,7 @@ mod driving;
 mod field;
 mod gathering;
 mod launching;
+mod planned_run;
 mod receiving;
 mod runner;
 mod shipping;
@@ -21,4 +22,5 @@ mod wires;
 mod work;
 
 pub use launching::launch;
+pub use planned_run::PlannedRun;
 pub use runner::{Checkpoint, Quiet, Runner};

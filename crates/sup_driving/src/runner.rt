@@ -2,6 +2,7 @@
 ghost use Rattle.std.specs.Prelude.{◌≡◌, ℕ, Bool, true};
 ghost use Rattle.sup_specs.specs.Values.{Bytes};
 ghost use Rattle.sup_local_sup.specs.declared.effect.Effect.{Effect};
+ghost use Rattle.sup_plan.specs.declared.plan.Command.{Command};
 
 use sup_plan::Command;
 use sup_posts::{Request, Requests};
@@ -24,15 +25,15 @@ pub trait Runner {
 
 /// Stands by each command of a driver.
 pub trait Checkpoint {
-    /// That it was told of a node, by its name, that its command at this place comes, as [`Runner::did`].
-    ghost was_before: { Self → Bytes → ℕ → Type 0 };
+    /// That it was told of a node, by its name, that this command comes, and at which place, as [`Runner::did`].
+    ghost was_before: { Self → Bytes → Command → ℕ → Type 0 };
 
-    /// The same of the command's answer.
+    /// The same of the answer of the command at this place.
     ghost was_answered: { Self → Bytes → ℕ → Type 0 };
 
     /// Before the node's command at this place, from 1. It is lent the command, which the call then uses up.
     fn before(&self, node: &NodeName, place: u64, command: &Command)
-        ensures { was_before self.now node.now place };
+        ensures { was_before self.now node.now command.entry.now place };
 
     /// After that command was answered. It is lent what the answer asks for, which only the call makes; then the runner is told of it.
     fn answered(&self, node: &NodeName, place: u64, asks: &Requests)
@@ -51,7 +52,7 @@ impl Runner for Quiet {
 }
 
 impl Checkpoint for Quiet {
-    ghost was_before = { λ quiet node place. Unit {0} };
+    ghost was_before = { λ quiet node command place. Unit {0} };
 
     ghost was_answered = { λ quiet node place. Unit {0} };
 

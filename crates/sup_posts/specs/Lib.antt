@@ -1,3 +1,4 @@
+pub mod Drives
 pub mod Faults
 pub mod Jobs
 pub mod NodeCalls

@@ -1,6 +1,6 @@
 -- Which calls of its gate a thread of a run makes, and what it tells the runner (the rule of starts that fail): what it has to do, and behind each of
 -- these the exits of children of which the runner answered that they didn't start.
-use Rattle.std.specs.Prelude.{◌≡◌, ◌<◌, ℕ, suc, Bool, true, false, List, [], ◌∷◌, ◌++◌, map, flat_map, Ok, Err}
+use Rattle.std.specs.Prelude.{◌≡◌, ℕ, suc, Bool, true, false, List, [], ◌∷◌, ◌++◌, map, flat_map, Some, Ok, Err, slice_get}
 use Rattle.std.specs.List.{AllZip, AllByRecursion}
 use mathlib.Core.Option.{some}
 use Rattle.sup_specs.specs.Values.{Bytes}
@@ -17,6 +17,7 @@ use Rattle.sup_node_gate.specs.declared.view.View.{View}
 use Rattle.sup_node_gate.specs.Histories.{StationAnswer, may_enter}
 use Rattle.sup_node_gate.specs.Views.{calls_of}
 use Rattle.sup_plan.specs.Calls.{Call, call_of}
+use Rattle.sup_plan.specs.declared.plan.Command.{Command}
 
 -- a run of a child: its id and its incarnation
 abbrev pub ChildIncarnation : Type 0
@@ -76,6 +77,6 @@ pub record MakesCalls (did : Effect → Bool → Type 0) (v : View) (calls : Lis
 abbrev pub delivery : Bytes → Call
 delivery text = (Of (Deliver text), 0)
 
--- who stands by was told of the commands at all these places, from 1
-abbrev pub StoodByAll : (ℕ → Type 0) → ℕ → Type 0
-StoodByAll stood n = (place : ℕ) → place < n → stood (suc place)
+-- who stands by was told of all these commands, each with its place, from 1
+abbrev pub StoodByAll : (Command → ℕ → Type 0) → List Command → Type 0
+StoodByAll stood commands = (place : ℕ) (command : Command) → slice_get commands place ≡ Some command → stood command (suc place)

@@ -1,10 +1,11 @@
 //! A run of the program: what it is given, and what has to come of it.
 
-ghost use Rattle.std.specs.Prelude.{◌≡◌, ◌≢◌, ◌⊎◌, [], IfOk, codes};
+ghost use Rattle.std.specs.Prelude.{◌≡◌, ◌≢◌, ◌⊎◌, [], IfOk, codes, map, string_bytes};
+ghost use Rattle.std.specs.Str.Lines.{lines};
 ghost use Rattle.sup_rows.specs.Plays.{CameOfRun};
 
 use crate::outcome::Outcome;
-use std::alloc::Global;
+use std::alloc::{AllocError, Global};
 use std::fs;
 use std::io::{self, ErrorKind};
 use std::rt::Files;
@@ -40,9 +41,9 @@ impl Case {
         rt: &(impl Threads + Wait + Sync),
         alloc: Global,
     ) -> io::Result<Outcome>
-        ensures { IfOk result (CameOfRun self.now.input.items) }
+        ensures { IfOk result (CameOfRun (lines (string_bytes self.now.words)) self.now.input.items) }
     {
-        let words: Vec<&str> = self.words.lines().collect(alloc)?;
+        let words = words_of(alloc, &self.words)?;
         let mut reader = self.input.as_slice();
         let mut output = Vec::new(alloc);
         let mut errors = Vec::new(alloc);
@@ -61,6 +62,13 @@ impl Case {
             errors: told_of(status, left, given, errors)?,
         })
     }
+}
+
+// The words of a text, one a line.
+fn words_of<'a>(alloc: Global, text: &'a str) -> Result<Vec<&'a str>, AllocError>
+    ensures { IfOk result (λ words. map (λ w. w.now) words.items ≡ lines text.now) }
+{
+    text.lines().collect(alloc)
 }
 
 // What a run told. `clap` words why it refuses words: any reason will do, if nothing was read.

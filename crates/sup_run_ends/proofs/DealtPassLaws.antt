@@ -11,7 +11,7 @@ use Rattle.std.proofs.lemmas.List.Elements.{All-append, Contains-append_left, fi
 use Rattle.std.proofs.lemmas.Option.{slice_get_within}
 use mathlib.Core.Logic.{dite}
 use native.Mathlib.Decide.{ℕ_discrete}
-use Rattle.sup_posts.proofs.ItemLaws.{all_weaken, last_contained}
+use Rattle.sup_posts.proofs.ItemLaws.{all_weaken, get_snoc, last_contained}
 use Rattle.sup_placement.specs.declared.weigh.Weigh.{Ghosts as WeighGhosts}
 use Rattle.sup_placement.proofs.FindLaws.{Contains-filter}
 use Rattle.sup_node_gate.specs.Gates.{view_of}
@@ -23,11 +23,12 @@ use Rattle.sup_posts.specs.Jobs.{Seat, IsSeatAt}
 use Rattle.sup_posts.specs.declared.shared_node.SharedNode.{SharedNode}
 use Rattle.sup_posts.specs.declared.jobs.Drive.{Drive}
 use Rattle.sup_posts.specs.declared.jobs.Lane.{Lane}
-use Rattle.sup_run_ends.specs.Passes.{of_lane, passes_to, shares_of, IsFresh, IsFirst, IsCutOff, AreCutOff, HaveWhole, dealt_in}
-use Rattle.sup_run_ends.specs.Steps.{IsSeatOf, HasLaneTo, LeadsToItsNode, ends_of, others_of, places}
+use Rattle.sup_posts.specs.Drives.{IsFresh, HasLaneTo, LeadsToItsNode, ends_of, others_of, places, of_lane, passes_to, shares_of, HaveWhole, dealt_in}
+use Rattle.sup_run_ends.specs.Passes.{IsFirst, IsCutOff, AreCutOff}
+use Rattle.sup_run_ends.specs.Steps.{IsSeatOf}
 use Rattle.sup_run_ends.proofs.PlacedPassLaws.{passes_append, passes_here, passes_apart}
 use Rattle.sup_run_ends.proofs.ReturnedPassLaws.{isnt_same}
-use Rattle.sup_run_ends.proofs.RunEndItemLaws.{all_at, contained, get_left, get_next, get_snoc, map_contains, stands_in}
+use Rattle.sup_run_ends.proofs.RunEndItemLaws.{all_at, contained, get_left, get_next, map_contains, stands_in}
 use Rattle.sup_run_ends.proofs.ZipLaws.{zip_left, zip_right}
 
 -- and one place more

@@ -16,8 +16,9 @@ use Rattle.sup_node_gate.specs.Views.{calls_of}
 use Rattle.sup_plan.specs.declared.histories.History.{History}
 use Rattle.sup_posts.specs.Jobs.{Seat}
 use Rattle.sup_posts.specs.declared.jobs.Arrived.{Arrived}
-use Rattle.sup_run_ends.specs.Passes.{of_arrived, passes_to, shares_of, calls_by, IsMadeBy, AreMadeBy}
-use Rattle.sup_run_ends.proofs.RunEndItemLaws.{get_snoc}
+use Rattle.sup_posts.specs.Drives.{passes_to, shares_of}
+use Rattle.sup_run_ends.specs.Passes.{of_arrived, calls_by, IsMadeBy, AreMadeBy}
+use Rattle.sup_posts.proofs.ItemLaws.{get_snoc}
 
 -- a shuffle of one list more
 pub shuffle_more : {A : Type 0} (first : List A) (others : List (List A)) (both ys all : List A) → IsShuffleOf first others both → IsShuffle both ys all → IsShuffleOf first (others ++ ys ∷ []) all

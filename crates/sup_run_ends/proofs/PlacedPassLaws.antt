@@ -7,7 +7,8 @@ use Rattle.std.proofs.lemmas.List.Elements.{All-tail, filter-append}
 use Rattle.sup_placement.specs.declared.weigh.Weigh.{Ghosts as WeighGhosts}
 use Rattle.sup_posts.specs.Jobs.{Seat}
 use Rattle.sup_posts.specs.declared.jobs.Arrived.{Arrived}
-use Rattle.sup_run_ends.specs.Passes.{of_arrived, passes_to}
+use Rattle.sup_posts.specs.Drives.{passes_to}
+use Rattle.sup_run_ends.specs.Passes.{of_arrived}
 use Rattle.sup_run_ends.proofs.ReturnedPassLaws.{is_same, isnt_same, same_is}
 
 module _ {W : Type 0} {h : WeighGhosts W} where

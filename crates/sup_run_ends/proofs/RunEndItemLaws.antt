@@ -1,7 +1,7 @@
 -- Items of lists.
-use Rattle.std.specs.Prelude.{◌≡◌, ◌⊎◌, ℕ, ◌<◌, ◌+◌, zero, suc, Bool, true, false, cond, List, [], ◌∷◌, ◌++◌, length, map, flat_map, Some, slice_get, slice_index_or, All, Contains, refl}
+use Rattle.std.specs.Prelude.{◌≡◌, ℕ, ◌<◌, ◌+◌, zero, suc, Bool, true, false, cond, List, [], ◌∷◌, ◌++◌, length, map, flat_map, Some, slice_get, slice_index_or, All, Contains, refl}
 use Rattle.std.specs.List.{filter}
-use Rattle.std.proofs.Common.{sym, ap, ◌∙◌, subst, arith, append-nil, inl, inr, ⊎_elim, length-append, append_assoc, take}
+use Rattle.std.proofs.Common.{sym, ap, ◌∙◌, subst, arith, append-nil, length-append, append_assoc, take}
 use Rattle.std.proofs.lemmas.List.{map-append}
 use Rattle.std.proofs.lemmas.Option.{slice_get_within, get_or_from_slice_get, slice_get-get_or, none-some, same_Some}
 use Rattle.std.proofs.lemmas.List.Elements.{All-cons, All-tail, Contains-append_left, Contains-append_right, All-append, filter-append}
@@ -48,12 +48,6 @@ module _ {X : Type 0} where
 
   pub same_place : (xs : List X) (i j : ℕ) (x y : X) → slice_get xs i ≡ Some x → slice_get xs j ≡ Some y → i ≡ j → x ≡ y
   same_place xs i j x y e f same = same_Some x y (sym e ∙ ap (slice_get xs) same ∙ f)
-
-  pub get_snoc : (xs : List X) (x y : X) (j : ℕ) → slice_get (xs ++ x ∷ []) j ≡ Some y → (slice_get xs j ≡ Some y) ⊎ ((j ≡ length xs) × (x ≡ y))
-  get_snoc [] x y zero e = inr (refl, same_Some x y e)
-  get_snoc [] x y (suc j) e = absurd (none-some y e)
-  get_snoc (z ∷ zs) x y zero e = inl e
-  get_snoc (z ∷ zs) x y (suc j) e = ⊎_elim (λ (l : slice_get zs j ≡ Some y). inl l) (λ (r : (j ≡ length zs) × (x ≡ y)). inr (ap suc r.0, r.1)) (get_snoc zs x y j e)
 
   -- and all that do stood there
   pub filter_contains : (p : X → Bool) (xs : List X) (x : X) → Contains (filter p xs) x → Contains xs x × (p x ≡ true)

@@ -1,8 +1,5 @@
 -- The passes of a run, each with the place of the node of whose gate it is, and what they have of these gates.
-use Rattle.std.specs.Prelude.{◌≡◌, ◌==◌, ℕ, List, [], ◌∷◌, ◌++◌, map, flat_map, slice_get, Some}
-use Rattle.std.specs.List.{filter}
-use Rattle.std.specs.declared.alloc.Global.{Global}
-use Rattle.std.specs.declared.vec.Vec.{Vec}
+use Rattle.std.specs.Prelude.{◌≡◌, ℕ, List, [], ◌∷◌, ◌++◌, map, slice_get, Some}
 use mathlib.Core.Option as M
 use mathlib.Core.Option.{some}
 use Rattle.sup_placement.specs.declared.weigh.Weigh.{Ghosts as WeighGhosts}
@@ -13,31 +10,16 @@ use Rattle.sup_node_gate.specs.Shuffles.{IsShuffleOf}
 use Rattle.sup_node_gate.specs.Views.{calls_of, first, second}
 use Rattle.sup_plan.specs.declared.histories.History.{History}
 use Rattle.sup_posts.specs.Jobs.{Seat}
-use Rattle.sup_posts.specs.declared.jobs.Lane.{Lane}
-use Rattle.sup_posts.specs.declared.jobs.Drive.{Drive}
+use Rattle.sup_posts.specs.Drives.{IsFresh, passes_to, shares_of}
 use Rattle.sup_posts.specs.declared.jobs.Arrived.{Arrived}
 
 module _ {W : Type 0} {h : WeighGhosts W} where
-  abbrev pub of_lane : Lane W h → ℕ × Seat W h
-  of_lane l = (l.to, l.seat)
-
   abbrev pub of_arrived : Arrived W h → ℕ × Seat W h
   of_arrived a = (a.to, a.seat)
-
-  -- those of the gate of the node at a place
-  abbrev pub passes_to : ℕ → List (ℕ × Seat W h) → List (Seat W h)
-  passes_to j ps = map (λ p. p.1) (filter (λ p. p.0 == j) ps)
-
-  abbrev pub shares_of : List (Seat W h) → List ℕ
-  shares_of = flat_map (λ s. (view_of s).shares)
 
   -- the own calls of each
   abbrev pub calls_by : List (Seat W h) → List (List (M.Option Entry))
   calls_by = map (λ s. calls_of (view_of s))
-
-  -- a pass that has called nothing yet
-  abbrev pub IsFresh : Seat W h → Type 0
-  IsFresh seat = (view_of seat).own ≡ []
 
   -- the one pass of a gate that was just made
   pub record IsFirst (seat : Seat W h) : Type 0 where
@@ -53,18 +35,6 @@ module _ {W : Type 0} {h : WeighGhosts W} where
   -- what was cut off each of the passes stands in the row
   abbrev pub AreCutOff : List (Seat W h) → List (Seat W h) → List (ℕ × Seat W h) → Type 0
   AreCutOff seats kept row = (j : ℕ) (seat rest : Seat W h) → slice_get seats j ≡ Some seat → slice_get kept j ≡ Some rest → IsCutOff seat rest (passes_to j row)
-
-  -- each pass has all of its gate, together with those that were cut off it
-  abbrev pub HaveWhole : List (Seat W h) → List (ℕ × Seat W h) → Type 0
-  HaveWhole seats dealt = (j : ℕ) (seat : Seat W h) → slice_get seats j ≡ Some seat → IsWhole ((view_of seat).shares ++ shares_of (passes_to j dealt))
-
-  -- the passes behind these rows of links
-  abbrev pub dealt_in : List (Vec (Lane W h) Global) → List (ℕ × Seat W h)
-  dealt_in = flat_map (λ lanes. map of_lane lanes.items)
-
-  -- and behind those of these drivers
-  abbrev pub dealt_by : List (Drive W h) → List (ℕ × Seat W h)
-  dealt_by drives = dealt_in (map (λ d. d.lanes) drives)
 
   -- where these passes have all of a gate, the history is a shuffle of their own calls
   abbrev pub IsMadeBy : Seat W h → List (Seat W h) → History → Type 0

@@ -1,46 +1,28 @@
 -- What stands between the steps of a run.
-use Rattle.std.specs.Prelude.{◌≡◌, ◌≢◌, ◌≤◌, ◌⊎◌, ◌==◌, not, ℕ, zero, suc, List, [], ◌∷◌, ◌++◌, length, All, Contains, map, flat_map, Some, Result, Ok, IsOk, IfOk, slice_get}
-use Rattle.std.specs.List.{AllZip, filter}
-use Rattle.sup_specs.specs.Values.{Bytes}
+use Rattle.std.specs.Prelude.{◌≡◌, ◌≤◌, ◌⊎◌, ℕ, List, [], ◌∷◌, ◌++◌, length, All, map, flat_map, Some, Result, Ok, IsOk, IfOk, slice_get}
+use Rattle.std.specs.List.{AllZip}
 use Rattle.sup_placement.specs.Place.{Weigher}
 use Rattle.sup_placement.specs.declared.weigh.Weigh.{Ghosts as WeighGhosts}
-use Rattle.sup_replica.specs.Configs.{Config}
-use Rattle.sup_station.specs.OpenedStations.{OpensStation, kept_by}
+use Rattle.sup_station.specs.OpenedStations.{kept_by}
 use Rattle.sup_node_gate.specs.Gates.{IsOf, OpensSound, bound_of, view_of, opening_of}
 use Rattle.sup_node_gate.specs.InMemory.{failures_by, sound_by}
 use Rattle.sup_node_gate.specs.Histories.{AllSaved, IsHistory, IsPrefix}
-use Rattle.sup_links.specs.Ends.{script_of, room_of}
-use Rattle.sup_plan.specs.Parts.{commands_of, script_between}
 use Rattle.sup_plan.specs.declared.histories.History.{History}
 use Rattle.sup_plan.specs.declared.plan.Plan.{Plan}
-use Rattle.sup_plan.specs.declared.plan.Route.{Route}
-use Rattle.sup_posts.specs.Jobs.{Seat, IsSeatAt, IsLane, MayTakeDrive}
+use Rattle.sup_posts.specs.Jobs.{Seat, IsSeatAt, IsLane}
 use Rattle.sup_posts.specs.declared.shared_node.SharedNode.{SharedNode}
 use Rattle.sup_posts.specs.declared.jobs.Lane.{Lane}
-use Rattle.sup_posts.specs.declared.jobs.Drive.{Drive}
 use Rattle.sup_posts.specs.Faults.{IsGravest}
 use Rattle.sup_posts.specs.declared.thread_fault.ThreadFault.{ThreadFault}
 use Rattle.sup_posts.specs.declared.thread_fault.ThreadFault.TheVariants.{OutOfMemory}
 use Rattle.sup_posts.specs.declared.jobs.Arrived.{Arrived}
 use Rattle.sup_posts.specs.declared.jobs.Driven.{Driven}
-use Rattle.sup_run_ends.specs.Passes.{IsCutOff, IsFresh, AreMadeBy}
+use Rattle.sup_posts.specs.Drives.{IsFresh, LeadsToItsNode, ends_of, others_of, places}
+use Rattle.sup_run_ends.specs.Passes.{IsCutOff, AreMadeBy}
 
 -- the history begins with what the pass has seen
 abbrev pub BeginsWithSeen : {W : Type 0} {h : WeighGhosts W} → Seat W h → History → Type 0
 BeginsWithSeen seat history = IsPrefix (view_of seat).seen history.entries.items
-
--- how many messages may be on their way over a link at once
-abbrev pub room : ℕ
-room = 16
-
--- the places below a number, in order
-abbrev pub places : ℕ → List ℕ
-places zero = []
-places (suc n) = places n ++ n ∷ []
-
--- those of them that are not this one
-abbrev pub others_of : ℕ → List ℕ → List ℕ
-others_of at = filter (λ j. not (j == at))
 
 -- why results aren't put together: the gravest of their faults, or, where they have none, want of memory
 abbrev pub IsFaultOf : {T : Type 0} → List (Result T ThreadFault) → ThreadFault → Type 0
@@ -59,47 +41,12 @@ module _ {W : Type 0} {h : WeighGhosts W} where
     pub of : All (λ d. (d.0 ≡ to) × IsSeatOf post d.1 × IsFresh d.1) cut
     pub ends : map (λ d. d.0) cut ≡ others_of at (to ∷ [])
 
-  -- a node's post before the run, whose history may have so many entries at most, and whose keeper is sound
-  pub record IsSharedNodeOf (config : Config) (most : ℕ) (name : Bytes) (post : SharedNode W h) : Type 0 where
-    pub named : post.name ≡ name
-    pub opens : OpensStation name config (opening_of kept_by failures_by sound_by post.gate).kept_station
-    pub sound : OpensSound sound_by post.gate
-    pub bound : bound_of post.gate ≡ most
-
-  -- the link leads to the node at this place, by the plan's script
-  pub record IsLaneTo (scripts : List Route) (from : Bytes) (at : ℕ) (other : SharedNode W h) (lane : Lane W h) : Type 0 where
-    pub to : lane.to ≡ at
-    pub script : script_of lane.entry ≡ script_between from other.name scripts
-    pub room : room_of lane.entry ≡ room
-
-  -- the link leads to the node at its place
-  abbrev pub LeadsToItsNode : List Route → Bytes → List (SharedNode W h) → Lane W h → Type 0
-  LeadsToItsNode scripts from posts lane = (other : SharedNode W h) → slice_get posts lane.to ≡ Some other → IsLaneTo scripts from lane.to other lane
-
-  abbrev pub HasLaneTo : List Route → Bytes → List (Lane W h) → ℕ → SharedNode W h → Type 0
-  HasLaneTo scripts from lanes at other = (lane : Lane W h) × Contains lanes lane × IsLaneTo scripts from at other lane
-
-  -- the places to which links lead
-  abbrev pub ends_of : List (Lane W h) → List ℕ
-  ends_of = map (λ l. l.to)
-
   -- the links of the driver at a place: one to each other node, and no more, of fresh passes
   pub record IsRowOf (plan : Plan) (posts : List (SharedNode W h)) (at : ℕ) (lanes : List (Lane W h)) : Type 0 where
     pub lanes_are : All (IsLane posts) lanes
     pub lead : (post : SharedNode W h) → slice_get posts at ≡ Some post → All (LeadsToItsNode plan.scripts.items post.name posts) lanes
     pub only : ends_of lanes ≡ others_of at (places (length posts))
     pub fresh : All (λ l. IsFresh l.seat) lanes
-
-  -- what the driver of a post's node is given: one link to each other node, and no more. All of its passes are fresh
-  pub record IsDriveOf (plan : Plan) (posts : List (SharedNode W h)) (post : SharedNode W h) (drive : Drive W h) : Type 0 where
-    pub place : slice_get posts drive.at ≡ Some post
-    pub takes : MayTakeDrive posts drive
-    pub commands : drive.commands.items ≡ commands_of post.name plan.commands.items
-    pub reach : (at : ℕ) (other : SharedNode W h) → slice_get posts at ≡ Some other → at ≢ drive.at → HasLaneTo plan.scripts.items post.name drive.lanes.items at other
-    pub only : ends_of drive.lanes.items ≡ others_of drive.at (places (length posts))
-    pub lead : All (LeadsToItsNode plan.scripts.items post.name posts) drive.lanes.items
-    pub fresh : IsFresh drive.seat
-    pub all_fresh : All (λ l. IsFresh l.seat) drive.lanes.items
 
   -- the pass is of the gate at its place
   abbrev pub IsArrived : List (SharedNode W h) → Arrived W h → Type 0

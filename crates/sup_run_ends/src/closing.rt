@@ -6,7 +6,8 @@ ghost use mathlib.Core.Option.{some};
 ghost use Rattle.sup_node_gate.specs.Gates.{view_of};
 ghost use Rattle.sup_node_gate.specs.Shares.{IsWhole};
 ghost use Rattle.sup_node_gate.specs.Views.{calls_of};
-ghost use Rattle.sup_run_ends.specs.Passes.{IsMadeBy, AreMadeBy, of_arrived, passes_to};
+ghost use Rattle.sup_posts.specs.Drives.{passes_to};
+ghost use Rattle.sup_run_ends.specs.Passes.{IsMadeBy, AreMadeBy, of_arrived};
 ghost use Rattle.sup_run_ends.specs.Steps.{IsSeatOf, IsArrived, IsHistoryOf, BeginsWithSeen, EndsHistory, ReturnsDriven, AreFinished, IsFaultOf};
 
 use crate::joining::{join_all, separate, take_apart};

@@ -2,8 +2,9 @@
 ghost use Rattle.std.specs.Prelude.{◌≡◌, IfOk, All, map, length};
 ghost use Rattle.std.specs.List.{AllZip};
 ghost use Rattle.sup_posts.specs.Jobs.{IsSeatAt};
-ghost use Rattle.sup_run_ends.specs.Passes.{AreCutOff, IsFresh};
-ghost use Rattle.sup_run_ends.specs.Steps.{IsSeatOf, IsCutFor, others_of, places};
+ghost use Rattle.sup_posts.specs.Drives.{IsFresh, others_of, places};
+ghost use Rattle.sup_run_ends.specs.Passes.{AreCutOff};
+ghost use Rattle.sup_run_ends.specs.Steps.{IsSeatOf, IsCutFor};
 
 use std::alloc::{AllocError, Global};
 use sup_placement::Weigh;

@@ -4,8 +4,9 @@ ghost use Rattle.std.specs.List.{AllZip};
 ghost use Rattle.sup_posts.specs.Jobs.{IsSeatAt, IsLane};
 ghost use Rattle.sup_posts.specs.declared.shared_node.SharedNode.{SharedNode};
 ghost use Rattle.sup_plan.specs.Plans.{IsPlan};
-ghost use Rattle.sup_run_ends.specs.Passes.{IsFirst, IsFresh, HaveWhole, dealt_by, dealt_in, of_lane};
-ghost use Rattle.sup_run_ends.specs.Steps.{IsSeatOf, IsLaneTo, IsRowOf, IsDriveOf, LeadsToItsNode, places};
+ghost use Rattle.sup_posts.specs.Drives.{IsFresh, IsLaneTo, IsDriveOf, LeadsToItsNode, places, HaveWhole, dealt_by, dealt_in, of_lane};
+ghost use Rattle.sup_run_ends.specs.Passes.{IsFirst};
+ghost use Rattle.sup_run_ends.specs.Steps.{IsSeatOf, IsRowOf};
 
 use crate::dealing::{Dealt, cut_row};
 use std::alloc::{AllocError, Global};

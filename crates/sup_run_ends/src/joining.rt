@@ -4,7 +4,8 @@ ghost use Rattle.std.specs.List.{filter};
 ghost use Rattle.sup_node_gate.specs.Gates.{view_of};
 ghost use Rattle.sup_node_gate.specs.Shuffles.{IsShuffleOf};
 ghost use Rattle.sup_node_gate.specs.Views.{calls_of};
-ghost use Rattle.sup_run_ends.specs.Passes.{shares_of, calls_by};
+ghost use Rattle.sup_posts.specs.Drives.{shares_of};
+ghost use Rattle.sup_run_ends.specs.Passes.{calls_by};
 ghost use Rattle.sup_run_ends.specs.Steps.{IsSeatOf, HasSeen, AreTakenApart, IsFaultOf};
 
 use std::alloc::{AllocError, Global};

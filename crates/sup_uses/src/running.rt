@@ -9,8 +9,9 @@ use std::alloc::Global;
 use std::sync::Wait;
 use std::sync::atomic::{AtomicU64, Ordering};
 use std::thread::Threads;
-use sup_cluster::{Quiet, Request, Runner, run};
+use sup_cluster::{PlannedRun, Quiet, Request, Runner, run};
 use sup_local_sup::Effect;
+use sup_node_gate::MAX_BOUND;
 use sup_placement::FlatWeigh;
 use sup_plan::{Histories, Plan};
 use sup_posts::RunFault;
@@ -36,7 +37,7 @@ impl Runner for Starts {
 ///
 /// # Errors
 ///
-/// As [`run`] tells.
+/// `BadPlan` where no such plan can be run; and as [`run`] tells.
 pub fn run_counted<R: Threads + Wait + Sync>(
     rt: &R,
     alloc: Global,
@@ -49,6 +50,7 @@ pub fn run_counted<R: Threads + Wait + Sync>(
     let runner = Starts {
         count: AtomicU64::new(0),
     };
-    let histories = run(rt, alloc, plan, &runner, &Quiet, &FlatWeigh)?;
+    let planned = PlannedRun::new(plan, MAX_BOUND, &runner, &Quiet)?;
+    let histories = run(rt, alloc, planned, &FlatWeigh)?;
     Ok((histories, runner.count.load(Ordering::SeqCst)))
 }

@@ -2,7 +2,8 @@ use Rattle.std.proofs.Common.{◌≡◌, ◌≤◌, ℕ, ◌++◌, List, length,
 use Rattle.std.specs.Prelude.{◌⊎◌, Contains}
 use Rattle.std.specs.List.{AllZip}
 use Rattle.sup_posts.specs.Jobs.{Seat}
-use Rattle.sup_run_ends.specs.Passes.{of_arrived, passes_to, AreMadeBy}
+use Rattle.sup_posts.specs.Drives.{passes_to}
+use Rattle.sup_run_ends.specs.Passes.{of_arrived, AreMadeBy}
 use Rattle.sup_run_ends.specs.Steps.{IsSeatOf, IsArrived, IsHistoryOf, BeginsWithSeen, EndsHistory}
 use Rattle.sup_run_ends.proofs.closing.close_all.Given as goal
 

@@ -1,8 +1,9 @@
 use Rattle.std.proofs.Common.{◌≡◌, ℕ, ◌<◌, ◌++◌, List, length, map, take, drop, All}
 use Rattle.std.specs.List.{AllZip}
 use Rattle.sup_posts.specs.Jobs.{Seat, IsSeatAt}
-use Rattle.sup_run_ends.specs.Passes.{IsFresh, AreCutOff}
-use Rattle.sup_run_ends.specs.Steps.{IsSeatOf, others_of, places}
+use Rattle.sup_posts.specs.Drives.{IsFresh, others_of, places}
+use Rattle.sup_run_ends.specs.Passes.{AreCutOff}
+use Rattle.sup_run_ends.specs.Steps.{IsSeatOf}
 use Rattle.sup_run_ends.proofs.dealing.cut_row.Given as goal
 
 abbrev pub invariant-loop-to : goal.invariant-loop-to

@@ -12,8 +12,9 @@ use Rattle.sup_posts.specs.Jobs.{Seat, IsSeatAt}
 use Rattle.sup_posts.specs.declared.shared_node.SharedNode.{SharedNode}
 use Rattle.sup_posts.specs.declared.jobs.Lane.{Lane}
 use Rattle.sup_posts.proofs.ItemLaws.{all_weaken}
-use Rattle.sup_run_ends.specs.Passes.{IsFirst, IsFresh, HaveWhole, dealt_in, of_lane}
-use Rattle.sup_run_ends.specs.Steps.{IsSeatOf, IsRowOf, LeadsToItsNode, ends_of, others_of, places}
+use Rattle.sup_posts.specs.Drives.{IsFresh, LeadsToItsNode, ends_of, others_of, places, HaveWhole, dealt_in, of_lane}
+use Rattle.sup_run_ends.specs.Passes.{IsFirst}
+use Rattle.sup_run_ends.specs.Steps.{IsSeatOf, IsRowOf}
 use Rattle.sup_run_ends.proofs.DealtPassLaws.{kept_fresh, whole_more, ends_same, first_whole_each}
 use Rattle.sup_run_ends.proofs.RunEndItemLaws.{all_unmap}
 use Rattle.sup_run_ends.proofs.drives.deal.Goals as goal

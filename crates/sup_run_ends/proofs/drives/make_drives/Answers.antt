@@ -10,8 +10,8 @@ use Rattle.sup_posts.specs.declared.shared_node.SharedNode.{SharedNode}
 use Rattle.sup_posts.specs.declared.jobs.Drive.{Drive}
 use Rattle.sup_posts.specs.declared.jobs.Lane.{Lane}
 use Rattle.sup_posts.proofs.ItemLaws.{none_left}
-use Rattle.sup_run_ends.specs.Passes.{IsFresh, HaveWhole, dealt_in}
-use Rattle.sup_run_ends.specs.Steps.{IsSeatOf, IsRowOf, IsDriveOf, places}
+use Rattle.sup_posts.specs.Drives.{IsFresh, IsDriveOf, places, HaveWhole, dealt_in}
+use Rattle.sup_run_ends.specs.Steps.{IsSeatOf, IsRowOf}
 use Rattle.sup_run_ends.proofs.DealtPassLaws.{places_at, places_long, drives_long}
 use Rattle.sup_run_ends.proofs.RunEndItemLaws.{contained, stands_in, same_place, next_of, long_both, taken_more, take_all}
 use Rattle.sup_run_ends.proofs.ZipLaws.{zip_right, zip_taken, zip_same_length}

@@ -1,7 +1,7 @@
 use Rattle.std.proofs.Common.{◌≡◌, ◌++◌, map, take}
 use Rattle.std.specs.List.{AllZip}
 use Rattle.sup_posts.specs.declared.jobs.Drive.{Drive}
-use Rattle.sup_run_ends.specs.Steps.{IsDriveOf, places}
+use Rattle.sup_posts.specs.Drives.{IsDriveOf, places}
 use Rattle.sup_run_ends.proofs.drives.make_drives.Given as goal
 
 abbrev pub invariant-loop-at : goal.invariant-loop-at

@@ -3,8 +3,7 @@ use Rattle.std.proofs.lemmas.List.{map-append}
 use Rattle.std.proofs.lemmas.List.Elements.{All-rest}
 use Rattle.sup_posts.specs.Jobs.{Seat, IsSeatAt, IsLane}
 use Rattle.sup_posts.proofs.ItemLaws.{all_none, all_snoc, none_left}
-use Rattle.sup_run_ends.specs.Passes.{of_lane}
-use Rattle.sup_run_ends.specs.Steps.{LeadsToItsNode}
+use Rattle.sup_posts.specs.Drives.{of_lane, LeadsToItsNode}
 use Rattle.sup_run_ends.proofs.drives.make_lanes.Goals as goal
 
 pub loop-dealt-init : goal.loop-dealt-init

@@ -1,5 +1,6 @@
 use Rattle.std.proofs.Common.{arith, ◌≡◌, ◌+◌, suc, ◌++◌, [], ◌∷◌, length, length-append, map, ap, sym, ◌∙◌, append_assoc, subst, refl}
 use Rattle.std.proofs.lemmas.List.{map-append}
+use Rattle.std.proofs.lemmas.Option.{none-some}
 use Rattle.sup_node_gate.specs.Gates.{view_of}
 use Rattle.sup_plan.specs.Calls.{asked}
 use Rattle.sup_posts.specs.Rounds.{MakesCalls, StoodByAll}
@@ -19,7 +20,7 @@ loop-command-init g c = (
   stand_none (view_of c.args.seat.now).seen,
   makes_none (g.N.Runner.did c.args.self.now.runner.now c.args.post.now.name) (view_of c.args.seat.now),
   refl,
-  λ place lt. absurd (omega (arith, lt)),
+  λ place command none. absurd (none-some command none),
 )
 
 pub loop-command-preserved : goal.loop-command-preserved
@@ -43,15 +44,14 @@ loop-command-preserved g c =
           (makes_then (g.N.Runner.did c.args.self.now.runner.now c.args.post.now.name) (view_of c.args.seat.now) (view_of c.loop-command.seat) (view_of c.make.new.seat) (map asked c.loop-command.yielded) (asked c.in-Some.command ∷ [])
           c.loop-command.invariant.5 c.in_ok-shipped.ensures.made),
       here ∙ sym (length-append c.loop-command.yielded (c.in-Some.command ∷ [])),
-      subst (StoodByAll stood) (sym (length-append c.loop-command.yielded (c.in-Some.command ∷ []) ∙ plus_one))
-          (stood_more stood (length c.loop-command.yielded) c.loop-command.invariant.7 (subst stood (here ∙ plus_one) c.in_ok-shipped.ensures.stood)),
+      stood_more stood c.loop-command.yielded c.in-Some.command c.loop-command.invariant.7 (subst (stood c.in-Some.command) (here ∙ plus_one) c.in_ok-shipped.ensures.stood),
     )
 
 pub returns-clause-stood : goal.returns-clause-stood
 returns-clause-stood g c =
     let all = none_left c.loop-command.yielded c.loop-command.command-iterator.rest.items c.args.commands.items (sym c.loop-command.command-iterator.rest.ok.0 ∙ c.in-None.ensures.steps.0)
     (c.loop-command.invariant.0 ∙ c.into_iter-command-iterator.ensures.into_iter_gives.0) in
-    subst (λ l. StoodByAll (stood_by g.C.Checkpoint.was_before g.C.Checkpoint.was_answered c.args.self.now.checkpoint.now c.args.post.now.name) (length l)) all c.loop-command.invariant.7
+    subst (λ l. StoodByAll (stood_by g.C.Checkpoint.was_before g.C.Checkpoint.was_answered c.args.self.now.checkpoint.now c.args.post.now.name) l) all c.loop-command.invariant.7
 
 pub returns-clause-later : goal.returns-clause-later
 returns-clause-later g c = all_later c.args.wires.now c.loop-command.wires c.ship.new.wires c.loop-command.invariant.2 c.in_ok-ship.ensures.later

@@ -18,4 +18,4 @@ invariant-loop-command g l =
     × CallsStand (map asked l.yielded) (view_of l.seat).seen
     × MakesCalls (g.N.Runner.did l.self.runner.now l.post.name) (view_of l.fn.seat) (map asked l.yielded) (view_of l.seat)
     × (l.place ≡ length l.yielded)
-    × StoodByAll (stood_by g.C.Checkpoint.was_before g.C.Checkpoint.was_answered l.self.checkpoint.now l.post.name) (length l.yielded)
+    × StoodByAll (stood_by g.C.Checkpoint.was_before g.C.Checkpoint.was_answered l.self.checkpoint.now l.post.name) l.yielded

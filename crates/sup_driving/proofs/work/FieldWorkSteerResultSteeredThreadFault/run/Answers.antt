@@ -27,7 +27,7 @@ returns-in_ok-sent-in-Ok g c =
           (ap (λ n. take n (c.drive.new.wires ++ drop (length c.drive.new.wires) c.args.steer.wires.items)) c.args.steer.wires.ok.0 ∙ whole c.args.steer.wires.items c.drive.new.wires later)
           c.in_ok-sent-in-Ok.ensures)
           c.in-Ok.ensures.letters;
-      stood_by = subst (λ (p : SharedNode g.row.W.Denot g.W.Weigh). StoodByAll (stood_by g.C.Checkpoint.was_before g.C.Checkpoint.was_answered c.args.self.now.checkpoint.now p.name) (length c.args.steer.commands.items)) here
+      stood_by = subst (λ (p : SharedNode g.row.W.Denot g.W.Weigh). StoodByAll (stood_by g.C.Checkpoint.was_before g.C.Checkpoint.was_answered c.args.self.now.checkpoint.now p.name) c.args.steer.commands.items) here
           c.in-Ok.ensures.stood;
       made = subst (λ (p : SharedNode g.row.W.Denot g.W.Weigh). MakesCalls (g.N.Runner.did c.args.self.now.runner.now p.name) (view_of c.args.steer.seat) (map asked c.args.steer.commands.items) (view_of c.drive.new.seat)) here
           c.in-Ok.ensures.made;
