@@ -1,5 +1,10 @@
 //! Runs whose histories may have few entries.
+ghost use Rattle.std.specs.Prelude.{◌≡◌, ◌≢◌, true, Err, IfOk};
 ghost use Rattle.sup_node_gate.specs.Gates.{IsBound};
+ghost use Rattle.sup_placement.specs.Weights.{flat_weight};
+ghost use Rattle.sup_plan.specs.Plans.{IsPlan};
+ghost use Rattle.sup_posts.specs.declared.fault.RunFault.TheVariants.{BadPlan};
+ghost use Rattle.sup_cluster.specs.Runs.{IsRunOf};
 
 use crate::given::{is_certified, join, linked, plan, push, start, told, wait_for};
 use std::process::Abort;
@@ -21,6 +26,9 @@ fn run_within<R: Threads + Wait + Sync + AllocGlobal, C: Checkpoint + Sync>(
     checkpoint: &C,
 ) -> Result<Histories, RunFault>
     requires { IsBound bound }
+    ensures bad { ¬ (IsPlan plan.now) → result ≡ Err BadPlan }
+    ensures good { IsPlan plan.now → result ≢ Err BadPlan }
+    ensures run { IfOk result (λ histories. IsRunOf flat_weight (λ node effect answer. answer ≡ true) plan.now histories) }
 {
     let planned = PlannedRun::new(plan, bound, &Quiet, checkpoint)?;
     run(rt, rt.alloc(), planned, &FlatWeigh)

@@ -1,4 +1,10 @@
 //! What the tests are given.
+ghost use Rattle.std.specs.Prelude.{◌≡◌, ◌≢◌, Err, IfOk};
+ghost use Rattle.sup_placement.specs.Weights.{flat_weight};
+ghost use Rattle.sup_plan.specs.Plans.{IsPlan};
+ghost use Rattle.sup_posts.specs.declared.fault.RunFault.TheVariants.{BadPlan};
+ghost use Rattle.sup_cluster.specs.Runs.{IsRunOf};
+
 use std::process::Abort;
 use std::sync::Wait;
 use std::sync::atomic::{AtomicBool, Ordering};
@@ -173,7 +179,11 @@ pub(crate) fn run_flat<
     R: Threads + Wait + Sync + AllocGlobal,
     N: Runner + Sync,
     C: Checkpoint + Sync,
->(rt: &R, plan: &Plan, runner: &N, checkpoint: &C) -> Result<Histories, RunFault> {
+>(rt: &R, plan: &Plan, runner: &N, checkpoint: &C) -> Result<Histories, RunFault>
+    ensures bad { ¬ (IsPlan plan.now) → result ≡ Err BadPlan }
+    ensures good { IsPlan plan.now → result ≢ Err BadPlan }
+    ensures run { IfOk result (λ histories. IsRunOf flat_weight (N.did runner.now) plan.now histories) }
+{
     let planned = PlannedRun::new(plan, MAX_BOUND, runner, checkpoint)?;
     run(rt, rt.alloc(), planned, &FlatWeigh)
 }

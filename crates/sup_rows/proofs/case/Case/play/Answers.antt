@@ -7,7 +7,7 @@ use Rattle.sup_rows.proofs.case.Case.play.Goals as goal
 pub returns : goal.returns
 returns g c =
     let told : List (List ℕ) = map (λ s. s.now) c.as_slice.result.now in
-    let same : told ≡ lines (string_bytes c.args.self.now.words) = ap (map (λ s. s.now)) c.as_slice.ensures.value ∙ c.in_ok-words.ensures ∙ ap lines c.deref.ensures.value in
+    let same : told ≡ lines (string_bytes c.args.self.now.words) = ap (map (λ s. s.now)) c.as_slice.ensures.value ∙ c.in_ok-words.ensures ∙ ap lines c.deref.ensures in
     let ran = c.run-status.ensures in
     let new = c.run-status.new in
     record {
