@@ -80,6 +80,10 @@ pub record IsPlanOf (g : Weigher) (s : Station State) (event : Event) (now : ℕ
   pub reads : ReadsMail event mail
   pub ready : IsReady g (stepped g s event now mail) s p
 
+-- it is the plan of some event, of the node as it is: a plan that was carried out fits no more
+abbrev pub IsPlanNow : Weigher → Station State → Planned → Type 0
+IsPlanNow g s p = (event : Event) × (now : ℕ) × IsPlanOf g s event now p
+
 abbrev pub PlansEvent : Weigher → Station State → Event → ℕ → Result Planned Refusal → Type 0
 PlansEvent g s event now (Ok p) = IsPlanOf g s event now p
 PlansEvent g s event now (Err r) = IsRefused g s event now r

@@ -27,7 +27,7 @@ impl<W: Weigh> Node<W> {
     ghost use Rattle.sup_node.specs.CarriedChanges.{takes_memory};
     ghost use Rattle.sup_node.specs.Changes.{station_after};
     ghost use Rattle.sup_node.specs.Contents.{station_of};
-    ghost use Rattle.sup_node.specs.NodeSteps.{PlansEvent, AnswersEvent, FitsNode, AnswersRestart, fresh_station};
+    ghost use Rattle.sup_node.specs.NodeSteps.{PlansEvent, AnswersEvent, AnswersRestart, IsPlanNow, fresh_station};
 
     /// The node that is in this state.
     pub fn of(state: NodeState) -> Node<W>
@@ -108,7 +108,7 @@ impl<W: Weigh> Node<W> {
     ///
     /// Refused only for memory, and that for an acknowledgement or a change of the tables alone. The node is unchanged then.
     pub fn carry_out(&mut self, planned: Planned) -> Result<Done, AllocError>
-        requires { FitsNode W.weight_of (station_of self.old) planned.change }
+        requires { IsPlanNow W.weight_of (station_of self.old) planned }
         ensures done { IfOk result (λ done. done ≡ planned.done) }
         ensures becomes { OnOk result (station_of self.new ≡ station_after (station_of self.old) planned.change) }
         ensures refused { OnErr result (station_of self.new ≡ station_of self.old) }

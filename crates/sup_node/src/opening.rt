@@ -5,7 +5,7 @@ ghost use Rattle.sup_replica.specs.Stations.{Station};
 ghost use Rattle.sup_tables.specs.States.{State};
 ghost use Rattle.sup_node.specs.Changes.{saves, station_after};
 ghost use Rattle.sup_node.specs.Contents.{station_of};
-ghost use Rattle.sup_node.specs.NodeSteps.{FitsNode};
+ghost use Rattle.sup_node.specs.NodeSteps.{IsPlanNow};
 ghost use Rattle.sup_node.specs.OpenNodes.{IsOpenNode, answer_of};
 
 use crate::change::Change;
@@ -28,7 +28,7 @@ impl<W: Weigh> Node<W> {
     /// Takes the memory without which a change that is saved can't be carried out, with the node as it was when that was
     /// planned. An `Err` is want of memory, and gives the node back.
     pub fn open(self, planned: Planned) -> Result<OpenNode<W>, Node<W>>
-        requires fits { FitsNode W.weight_of (station_of self) planned.change }
+        requires plan { IsPlanNow W.weight_of (station_of self) planned }
         requires saved { saves planned.change ≡ true }
         ensures open { IfOk result (λ o. IsOpenNode W.weight_of o (station_of self) (station_after (station_of self) planned.change)) }
         ensures done { IfOk result (λ o. answer_of o ≡ planned.done) }

@@ -2,7 +2,7 @@
 ghost use Rattle.std.specs.Prelude.{◌≡◌, length, IfOk};
 ghost use Rattle.sup_node.specs.Changes.{image_of, image_after};
 ghost use Rattle.sup_node.specs.Contents.{station_of, where_told};
-ghost use Rattle.sup_node.specs.NodeSteps.{FitsNode};
+ghost use Rattle.sup_node.specs.NodeSteps.{IsPlanNow};
 ghost use Rattle.sup_node.specs.Texts.{IsNextAfter};
 ghost use Rattle.sup_node.specs.Whereabouts.{where_is};
 
@@ -95,7 +95,7 @@ impl<W: Weigh> Node<W> {
         &'a self,
         planned: &'a Planned,
     ) -> Result<Option<NextImage<'a>>, AllocError>
-        requires { FitsNode W.weight_of (station_of self.now) planned.now.change }
+        requires { IsPlanNow W.weight_of (station_of self.now) planned.now }
         ensures { IfOk result (IsNextAfter (station_of self.now).node planned.now.change) }
     {
         match &planned.change {

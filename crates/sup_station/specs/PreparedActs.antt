@@ -17,7 +17,7 @@ use Rattle.sup_replica.specs.declared.refusal.Refusal.TheVariants.{KeepFailed, O
 use Rattle.sup_replica.specs.Stations.{Station}
 use Rattle.sup_node.specs.Changes.{saves, station_after}
 use Rattle.sup_node.specs.NodeStates.{station_in}
-use Rattle.sup_node.specs.NodeSteps.{FitsNode}
+use Rattle.sup_node.specs.NodeSteps.{IsPlanNow}
 use Rattle.sup_node.specs.Placed.{keeps_placed}
 use Rattle.sup_station.specs.Boots.{rows_known}
 use Rattle.sup_station.specs.KeptStations.{KeptStation, AnswersAct, RefusesAct, FailsToSave, ComesToSave}
@@ -88,10 +88,10 @@ SavesRows rows (Some text) = AreTextsOf rows (Some text)
 abbrev pub after : KeptStation → Prepared → KeptStation
 after s p = record s { node = node_after s.node p.next; kept = kept_after s.kept p.text }
 
--- what a change asks of the node: that it is a plan of it
+-- what a change asks of the node: that it is a plan of it as it is
 abbrev pub IsPlanFor : Weigher → Option (Station State) → Next → Type 0
 IsPlanFor g None (Changes p) = ⊥
-IsPlanFor g (Some n) (Changes p) = FitsNode g n p.change
+IsPlanFor g (Some n) (Changes p) = IsPlanNow g n p
 IsPlanFor g n (Stops done) = Unit {0}
 IsPlanFor g n (Runs state done) = (1 ≤ (station_in state).node.supervisor.boot) × (keeps_placed g (station_in state).node ≡ true)
 

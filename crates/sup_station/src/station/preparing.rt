@@ -5,7 +5,7 @@ ghost use Rattle.sup_specs.specs.declared.limits.TheConstants.{MAX as MOST};
 ghost use Rattle.sup_wire.specs.RowTexts.{AreRows};
 ghost use Rattle.sup_node.specs.Changes.{image_after};
 ghost use Rattle.sup_node.specs.Contents.{station_of};
-ghost use Rattle.sup_node.specs.NodeSteps.{FitsNode};
+ghost use Rattle.sup_node.specs.NodeSteps.{IsPlanNow};
 ghost use Rattle.sup_station.specs.Counts.{CountsLoad};
 ghost use Rattle.sup_station.specs.PreparedActs.{IsPreparedOrRefused, PreparesAct, IsKept, IsKeptOf};
 ghost use Rattle.sup_station.specs.KeptStations.{kept_station_of, keeper_of, IsOwnImage, ReadsOwnImage};
@@ -54,7 +54,7 @@ impl<K: Keeper, W: Weigh> Station<K, W> {
         room: &mut Room,
     ) -> Result<Option<ArrayText>, AllocError>
         requires here { (kept_station_of K.kept self.now).node ≡ Some (station_of node.now) }
-        requires fits { FitsNode W.weight_of (station_of node.now) planned.now.change }
+        requires plan { IsPlanNow W.weight_of (station_of node.now) planned.now }
         ensures { IfOk result (λ text. IsKeptOf (image_after (station_of node.now).node planned.now.change) text) }
     {
         let Some(next) = node.next_image(planned)? else {

@@ -4,6 +4,9 @@ use Rattle.sup_node.specs.Contents.{station_of}
 use Rattle.sup_node.proofs.PlanLaws.{may-lack}
 use Rattle.sup_node.proofs.node.Node.happens.Goals as goal
 
+pub carry_out-requires : goal.carry_out-requires
+carry_out-requires g c = (c.args.event.now, c.args.now, c.in-Ok.ensures)
+
 pub returns-in-Err-carry_out : goal.returns-in-Err-carry_out
 returns-in-Err-carry_out g c = (
   c.in-Err-carry_out.ensures.refused,

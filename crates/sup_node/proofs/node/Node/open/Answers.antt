@@ -16,5 +16,5 @@ returns-in-Ok-clause-open g c =
     record {
       state = subst (λ (change : Change). IsOpenState c.in-Ok.state s (station_after s change)) (sym c.in-Learns.is) c.in-Ok.ensures.open;
       kept = c.args.self.keeps;
-      keeps = keeps_after g.W.Weigh.weight_of s (station_after s c.args.planned.change) c.args.planned.change refl c.requires.fits.1;
+      keeps = keeps_after g.W.Weigh.weight_of s (station_after s c.args.planned.change) c.args.planned.change refl c.requires.plan.2.ready.fits.1;
     }
