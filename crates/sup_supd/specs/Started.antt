@@ -1,5 +1,5 @@
 -- What the program does with what it was started with.
-use Rattle.std.specs.Prelude.{◌≡◌, ◌⊎◌, ℕ, false, true, List, drop, map, string_bytes, Option, Some, None, option_map, Result, Ok, Err}
+use Rattle.std.specs.Prelude.{◌≡◌, ◌⊎◌, ℕ, false, true, List, drop, map, string_bytes, Option, Some, None, Result, Ok, Err}
 use Rattle.std.specs.Vec.Iter.{into_iter_items}
 use Rattle.std.specs.declared.io.Error.{Error}
 use Rattle.std.specs.declared.string.String.{String}
@@ -14,6 +14,8 @@ use Rattle.sup_talk.specs.Hosts.{Flow, Seen}
 use Rattle.sup_supd.specs.Ends.{IsToldAs, RunsTo, file_seen, is_unfiled, left_keeper}
 use Rattle.sup_supd.specs.Reasons.{IsWhyFor, of_lock, why_told}
 use Rattle.sup_supd.specs.Words.{Setting, settings_of}
+use Rattle.sup_supd.specs.declared.leaves.Leaves.{Leaves}
+use Rattle.sup_supd.specs.declared.leaves.Leaves.TheVariants.{Images, Nothing, Image, Station}
 use Rattle.sup_supd.specs.declared.left.Left.{Left}
 use Rattle.sup_supd.specs.declared.unserved.Unserved.{Unserved}
 use Rattle.sup_supd.specs.declared.unserved.Unserved.TheVariants.{Words, Device, OutOfMemory}
@@ -30,9 +32,12 @@ words_in arguments = map string_bytes (drop 1 (into_iter_items arguments))
 abbrev pub new_host : KnownBytes → KnownBytes → Flow
 new_host unread written = record { unread = unread; written = written; is_broken = false }
 
--- the keeper that a run left, where it had one
-abbrev pub left_of : {D : Type 0} {g : _} → Option (Left (Filed D) g) → Option (Filed D)
-left_of left = option_map left_keeper left
+-- what a run left, with the keeper in place of the station that has it
+abbrev pub left_of : {I D : Type 0} {g : _} → Leaves I D (Left (Filed D) g) → Leaves I D (Filed D)
+left_of (Images images) = Images images
+left_of Nothing = Nothing
+left_of (Image disk) = Image disk
+left_of (Station left) = Station (left_keeper left)
 
 module _ {I D : Type 0} (may_have : D → What → Type 0) (takes : I → Word → Result D LockFault → Type 0) (images : I) where
   -- The keeper was opened over an image that was taken at this path: it is sound, and a loss of power leaves what it keeps, and nothing that
@@ -51,32 +56,28 @@ module _ {I D : Type 0} (may_have : D → What → Type 0) (takes : I → Word �
     pub opens : OpensAt setting.image keeper
     pub runs : RunsTo (weight_of setting.weighing) file_seen 67108864 (is_unfiled keeper.copy) true setting.name setting.config keeper left before after errors_before errors_written ended
 
-  -- Why an image isn't served: it can't be taken; or it was taken, and can't be read.
-  abbrev pub IsNotServed : Word → Unserved → Type 0
-  IsNotServed path why =
-      ((fault : LockFault) × takes images path (Err fault) × (why ≡ of_lock fault))
-      ⊎ (((disk : D) × takes images path (Ok disk)) × (error : Error) × IsWhyFor error Device why)
-
-  -- Why no node runs, by what is set; memory refused to the words aside.
-  abbrev pub IsWhy : Option Setting → Unserved → Type 0
-  IsWhy None why = why ≡ Words
-  IsWhy (Some setting) why = IsNotServed setting.image why
-
-  abbrev pub IsWhyNot : Option Setting → Unserved → Type 0
-  IsWhyNot set why = (why ≡ OutOfMemory) ⊎ IsWhy set why
+  -- Why no node runs, by what is set, and what is left then: the images, where the words are refused, or memory was; nothing, where the image
+  -- can't be taken; and one that was taken and can't be read, of which no more is possible than before.
+  abbrev pub IsWhyNot : Option Setting → Unserved → Leaves I D (Filed D) → Type 0
+  IsWhyNot set why (Images left) = (left ≡ images) × ((why ≡ OutOfMemory) ⊎ ((set ≡ None) × (why ≡ Words)))
+  IsWhyNot set why Nothing = (setting : Setting) × (set ≡ Some setting) × (fault : LockFault) × takes images setting.image (Err fault) × (why ≡ of_lock fault)
+  IsWhyNot set why (Image left) =
+      (setting : Setting) × (set ≡ Some setting) × (disk : D) × takes images setting.image (Ok disk) × NoMore (may_have disk) (may_have left)
+      × (error : Error) × IsWhyFor error Device why
+  IsWhyNot set why (Station keeper) = ⊥
 
   -- The node that is set ran; or none did, its host was told nothing, and the error writer why.
-  abbrev pub RunsSet : Option Setting → Seen (Filed D) → Seen (Filed D) → KnownBytes → KnownBytes → Option (Filed D) → Ended → Type 0
+  abbrev pub RunsSet : Option Setting → Seen (Filed D) → Seen (Filed D) → KnownBytes → KnownBytes → Leaves I D (Filed D) → Ended → Type 0
   RunsSet set before after errors_before errors_written left ended =
-      ((setting : Setting) × (set ≡ Some setting) × (keeper : Filed D) × (left ≡ Some keeper) × RunsImage setting keeper before after errors_before errors_written ended)
-      ⊎ ((why : Unserved) × IsWhyNot set why × (after ≡ before) × (left ≡ None) × IsToldAs (why_told why) errors_before errors_written ended)
+      ((setting : Setting) × (set ≡ Some setting) × (keeper : Filed D) × (left ≡ Station keeper) × RunsImage setting keeper before after errors_before errors_written ended)
+      ⊎ ((why : Unserved) × IsWhyNot set why left × (after ≡ before) × IsToldAs (why_told why) errors_before errors_written ended)
 
   -- It goes by the words behind the program's name, the first argument; or tells why the arguments can't be had.
-  abbrev pub RunsArguments : {Y Z : Type 0} → Result (IntoIter (String Y) Z) Error → Seen (Filed D) → Seen (Filed D) → KnownBytes → KnownBytes → Option (Filed D) → Ended → Type 0
+  abbrev pub RunsArguments : {Y Z : Type 0} → Result (IntoIter (String Y) Z) Error → Seen (Filed D) → Seen (Filed D) → KnownBytes → KnownBytes → Leaves I D (Filed D) → Ended → Type 0
   RunsArguments (Ok arguments) before after errors_before errors_written left ended = RunsSet (settings_of (words_in arguments)) before after errors_before errors_written left ended
   RunsArguments (Err error) before after errors_before errors_written left ended =
-      (why : Unserved) × IsWhyFor error Words why × (after ≡ before) × (left ≡ None) × IsToldAs (why_told why) errors_before errors_written ended
+      (why : Unserved) × IsWhyFor error Words why × (left ≡ Images images) × (after ≡ before) × IsToldAs (why_told why) errors_before errors_written ended
 
--- no node ran, for this reason, and so nothing is left of one
-abbrev pub EndsUnserved : {D : Type 0} → Unserved → KnownBytes → KnownBytes → Option (Filed D) → Ended → Type 0
-EndsUnserved why errors_before errors_written left ended = (left ≡ None) × IsToldAs (why_told why) errors_before errors_written ended
+-- no node ran, for this reason, and the images are left
+abbrev pub EndsUnserved : {I D : Type 0} → I → Unserved → KnownBytes → KnownBytes → Leaves I D (Filed D) → Ended → Type 0
+EndsUnserved images why errors_before errors_written left ended = (left ≡ Images images) × IsToldAs (why_told why) errors_before errors_written ended

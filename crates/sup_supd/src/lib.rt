@@ -2,6 +2,7 @@
 #![tactic(auto)]
 
 pub mod images;
+pub mod leaves;
 pub mod left;
 pub mod locked;
 pub mod node;
@@ -10,6 +11,7 @@ pub mod settings;
 pub mod unserved;
 
 pub use images::{Images, SystemImages};
+pub use leaves::Leaves;
 pub use left::Left;
 pub use node::{run_filed, run_node};
 pub use program::{Ran, run_arguments, run_started};

@@ -1,6 +1,6 @@
 //! The program's run, from its arguments, its streams and its images to its status.
 
-ghost use Rattle.std.specs.Prelude.{◌≡◌, drop, Some, IfNone, IfOk, IfSome, map, string_bytes};
+ghost use Rattle.std.specs.Prelude.{◌≡◌, drop, Some, IfErr, IfOk, map, string_bytes};
 ghost use Rattle.std.specs.Vec.Iter.{into_iter_items};
 ghost use Rattle.sup_lines.specs.Words.{texts};
 ghost use Rattle.sup_talk.specs.Hosts.{seen_of};
@@ -8,6 +8,7 @@ ghost use Rattle.sup_supd.specs.Started.{EndsUnserved, RunsArguments, RunsSet, l
 ghost use Rattle.sup_supd.specs.Words.{set_of, settings_of};
 
 use crate::images::Images;
+use crate::leaves::Leaves;
 use crate::left::Left;
 use crate::node::run_filed;
 use crate::settings::{Settings, read_settings};
@@ -15,7 +16,7 @@ use crate::unserved::{Unserved, refuse, why_for, why_untaken};
 use std::alloc::{AllocError, Global};
 use std::env::Args;
 use std::io::{self, BufReader, Read, Write};
-use sup_disk::DiskKeeper;
+use sup_disk::{DiskKeeper, Unopened};
 use sup_jobs::Ended;
 use sup_talk::{Host, Streams};
 
@@ -24,14 +25,15 @@ use sup_talk::{Host, Streams};
 pub struct Ran<L: Drop, S: Drop> {
     /// Its status, and whether all was told.
     pub ended: Ended,
-    /// The node's station, where there was one.
-    pub left: Option<L>,
-    /// The streams, where memory for a buffer was there.
-    pub streams: Option<S>,
+    /// What is left of its images.
+    pub left: L,
+    /// The streams.
+    pub streams: S,
 }
 
 /// Runs the node that the words after the program's name set, as [`run_arguments`] does, until its host, who speaks by the reader and
-/// hears by the writer, says no more. Where memory for a buffer is refused, nobody is heard or told anything.
+/// hears by the writer, says no more. Where memory for a buffer is refused, nobody is heard or told anything: the writer is given back as it
+/// was, and the images.
 pub fn run_started<I: Images, R: Read + Drop, W: Write + Drop, E: Write>(
     alloc: Global,
     arguments: io::Result<Args>,
@@ -39,12 +41,13 @@ pub fn run_started<I: Images, R: Read + Drop, W: Write + Drop, E: Write>(
     reader: R,
     writer: W,
     errors: &mut E,
-) -> Ran<Left<DiskKeeper<I::Disk>>, Streams<BufReader<R>, W>>
-    ensures runs { IfSome result.streams (λ host. RunsArguments I.Disk.may_have I.takes images arguments
+) -> Ran<Leaves<I, I::Disk, Left<DiskKeeper<I::Disk>>>, Result<Streams<BufReader<R>, W>, W>>
+    ensures runs { IfOk result.streams (λ host. RunsArguments I.Disk.may_have I.takes images arguments
         (seen_of (new_host (R.remaining reader) (W.contents writer))) (seen_of host)
         (E.contents errors.old) (E.contents errors.new) (left_of result.left) result.ended) }
-    ensures memory { IfNone result.streams (EndsUnserved Unserved.OutOfMemory
+    ensures memory { IfErr result.streams (λ w. EndsUnserved images Unserved.OutOfMemory
         (E.contents errors.old) (E.contents errors.new) (left_of result.left) result.ended) }
+    ensures unwritten { IfErr result.streams (λ w. W.contents w ≡ W.contents writer) }
 {
     match streams_of(alloc, reader, writer) {
         Ok(mut host) => {
@@ -52,39 +55,43 @@ pub fn run_started<I: Images, R: Read + Drop, W: Write + Drop, E: Write>(
             Ran {
                 ended,
                 left,
-                streams: Some(host),
+                streams: Ok(host),
             }
         }
-        Err(_) => Ran {
+        Err(writer) => Ran {
             ended: refuse(errors, Unserved::OutOfMemory),
-            left: None,
-            streams: None,
+            left: Leaves::Images(images),
+            streams: Err(writer),
         },
     }
 }
 
+// An `Err` is want of memory, and gives the writer back.
 #[tactic(auto, using(crate::proofs::NewHosts::unbuffered))]
 fn streams_of<R: Read + Drop, W: Write + Drop>(
     alloc: Global,
     reader: R,
     writer: W,
-) -> io::Result<Streams<BufReader<R>, W>>
-    ensures { IfOk result (λ host. host ≡ new_host (R.remaining reader) (W.contents writer)) }
+) -> Result<Streams<BufReader<R>, W>, W>
+    ensures new { IfOk result (λ host. host ≡ new_host (R.remaining reader) (W.contents writer)) }
+    ensures back { IfErr result (λ w. W.contents w ≡ W.contents writer) }
 {
-    let reader = BufReader::new(alloc, reader)?;
-    Ok(Streams::new(reader, writer))
+    match BufReader::new(alloc, reader) {
+        Ok(reader) => Ok(Streams::new(reader, writer)),
+        Err(_) => Err(writer),
+    }
 }
 
 /// Runs the node that the words after the program's name set, over a keeper of its image, until its host says no more: [`run_filed`] has
 /// the rest. Answers the exit status: that of the run, or `USAGE` where the words are refused, and 3 where the image can't be taken or
-/// read, or memory was refused; and the node's station, where there was one, which has the image as long as it lives.
+/// read, or memory was refused; and what is left of the images: where no node ran, they are as they were, or an image that can't be read.
 pub fn run_arguments<I: Images, H: Host<DiskKeeper<I::Disk>>, E: Write>(
     alloc: Global,
     arguments: io::Result<Args>,
     images: I,
     host: &mut H,
     errors: &mut E,
-) -> (Ended, Option<Left<DiskKeeper<I::Disk>>>)
+) -> (Ended, Leaves<I, I::Disk, Left<DiskKeeper<I::Disk>>>)
     ensures { RunsArguments I.Disk.may_have I.takes images arguments (H.seen host.old) (H.seen host.new)
         (E.contents errors.old) (E.contents errors.new) (left_of result.1) result.0 }
 {
@@ -92,7 +99,7 @@ pub fn run_arguments<I: Images, H: Host<DiskKeeper<I::Disk>>, E: Write>(
         Ok(arguments) => run_given(alloc, arguments, images, host, errors),
         Err(error) => {
             let why = why_for(&error, Unserved::Words);
-            (refuse(errors, why), None)
+            (refuse(errors, why), Leaves::Images(images))
         }
     }
 }
@@ -103,13 +110,16 @@ fn run_given<I: Images, H: Host<DiskKeeper<I::Disk>>, E: Write>(
     images: I,
     host: &mut H,
     errors: &mut E,
-) -> (Ended, Option<Left<DiskKeeper<I::Disk>>>)
+) -> (Ended, Leaves<I, I::Disk, Left<DiskKeeper<I::Disk>>>)
     ensures { RunsSet I.Disk.may_have I.takes images (settings_of (words_in arguments)) (H.seen host.old) (H.seen host.new)
         (E.contents errors.old) (E.contents errors.new) (left_of result.1) result.0 }
 {
     match words_of(alloc, arguments) {
         Ok(words) => run_words(alloc, words.as_slice(), images, host, errors),
-        Err(_) => (refuse(errors, Unserved::OutOfMemory), None),
+        Err(_) => (
+            refuse(errors, Unserved::OutOfMemory),
+            Leaves::Images(images),
+        ),
     }
 }
 
@@ -127,13 +137,16 @@ fn run_words<I: Images, H: Host<DiskKeeper<I::Disk>>, E: Write>(
     images: I,
     host: &mut H,
     errors: &mut E,
-) -> (Ended, Option<Left<DiskKeeper<I::Disk>>>)
+) -> (Ended, Leaves<I, I::Disk, Left<DiskKeeper<I::Disk>>>)
     ensures { RunsSet I.Disk.may_have I.takes images (settings_of (map string_bytes words.now)) (H.seen host.old) (H.seen host.new)
         (E.contents errors.old) (E.contents errors.new) (left_of result.1) result.0 }
 {
     match texts_of(alloc, words) {
         Ok(texts) => run_texts(alloc, texts.as_slice(), images, host, errors),
-        Err(_) => (refuse(errors, Unserved::OutOfMemory), None),
+        Err(_) => (
+            refuse(errors, Unserved::OutOfMemory),
+            Leaves::Images(images),
+        ),
     }
 }
 
@@ -153,13 +166,13 @@ fn run_texts<I: Images, H: Host<DiskKeeper<I::Disk>>, E: Write>(
     images: I,
     host: &mut H,
     errors: &mut E,
-) -> (Ended, Option<Left<DiskKeeper<I::Disk>>>)
+) -> (Ended, Leaves<I, I::Disk, Left<DiskKeeper<I::Disk>>>)
     ensures { RunsSet I.Disk.may_have I.takes images (settings_of (texts words.now)) (H.seen host.old) (H.seen host.new)
         (E.contents errors.old) (E.contents errors.new) (left_of result.1) result.0 }
 {
     match read_settings(words) {
         Some(settings) => run_set(alloc, settings, images, host, errors),
-        None => (refuse(errors, Unserved::Words), None),
+        None => (refuse(errors, Unserved::Words), Leaves::Images(images)),
     }
 }
 
@@ -169,20 +182,21 @@ fn run_set<I: Images, H: Host<DiskKeeper<I::Disk>>, E: Write>(
     images: I,
     host: &mut H,
     errors: &mut E,
-) -> (Ended, Option<Left<DiskKeeper<I::Disk>>>)
+) -> (Ended, Leaves<I, I::Disk, Left<DiskKeeper<I::Disk>>>)
     ensures { RunsSet I.Disk.may_have I.takes images (Some (set_of settings.entry)) (H.seen host.old) (H.seen host.new)
         (E.contents errors.old) (E.contents errors.new) (left_of result.1) result.0 }
 {
     let disk = match images.take(alloc, settings.image) {
         Ok(disk) => disk,
-        Err(fault) => return (refuse(errors, why_untaken(fault)), None),
+        Err(fault) => return (refuse(errors, why_untaken(fault)), Leaves::Nothing),
     };
     let keeper = match DiskKeeper::open(alloc, disk) {
         Ok(keeper) => keeper,
-        Err(unopened) => return (
-            refuse(errors, why_for(&unopened.error, Unserved::Device)),
-            None,
-        ),
+        Err(unopened) => {
+            let Unopened { error, disk } = unopened;
+            let why = why_for(&error, Unserved::Device);
+            return (refuse(errors, why), Leaves::Image(disk));
+        }
     };
     let (ended, left) = run_filed(
         alloc,
@@ -193,5 +207,5 @@ fn run_set<I: Images, H: Host<DiskKeeper<I::Disk>>, E: Write>(
         host,
         errors,
     );
-    (ended, Some(left))
+    (ended, Leaves::Station(left))
 }

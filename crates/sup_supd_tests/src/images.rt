@@ -5,7 +5,7 @@ use std::env::Args;
 use std::io::{self, ErrorKind};
 use std::process::Abort;
 use sup_disk::{Disk, FileLock, LockFault};
-use sup_supd::{Images, Ran, SystemImages, run_started};
+use sup_supd::{Images, Leaves, Ran, SystemImages, run_started};
 
 /// An image that was taken: it was never saved, and can be read or, for an error of this kind, can't.
 #[derive(Drop)]
@@ -71,6 +71,16 @@ impl Images for Place {
     }
 }
 
+// What a run leaves, by a word.
+fn left_word<I: Drop, D: Drop, L: Drop>(left: &Leaves<I, D, L>) -> &'static str {
+    match left {
+        Leaves::Images(_) => "images",
+        Leaves::Nothing => "nothing",
+        Leaves::Image(_) => "image",
+        Leaves::Station(_) => "station",
+    }
+}
+
 const SOUND: Place = Place {
     untaken: None,
     unread: None,
@@ -85,7 +95,7 @@ fn arguments_of(alloc: Global, words: &[&str]) -> Result<Args, AllocError> {
     Ok(arguments.into_iter())
 }
 
-// Expects how a run over these words ends, the program's name first, whose host says nothing, and what it is told.
+// Expects how a run over these words ends, the program's name first, whose host says nothing, what it is told, and what is left.
 fn expect_words(
     rt: &(impl Abort + AllocGlobal),
     words: &[&str],
@@ -93,12 +103,13 @@ fn expect_words(
     said: &[u8],
     status: u8,
     line: &[u8],
+    leaves: &str,
 ) {
     let arguments = arguments_of(rt.alloc(), words).expect(rt, "room");
-    expect(rt, Ok(arguments), place, said, status, line);
+    expect(rt, Ok(arguments), place, said, status, line, leaves);
 }
 
-// Expects how a run over these arguments ends, whose host says nothing, and what it is told.
+// Expects how a run over these arguments ends, whose host says nothing, what it is told, and what is left.
 fn expect(
     rt: &(impl Abort + AllocGlobal),
     arguments: io::Result<Args>,
@@ -106,6 +117,7 @@ fn expect(
     said: &[u8],
     status: u8,
     line: &[u8],
+    leaves: &str,
 ) {
     let alloc = rt.alloc();
     let mut told = Vec::new(alloc);
@@ -123,17 +135,18 @@ fn expect(
         streams,
     } = ran;
     assert_eq!(rt; ended.status, status);
-    assert_eq!(rt; left.is_some(), !said.is_empty());
+    assert_eq!(rt; left_word(&left), leaves);
     assert_eq!(rt; told.as_slice(), line);
     match streams {
-        Some(streams) => assert_eq!(rt; streams.writer().as_slice(), said),
-        None => rt.panic("streams"),
+        Ok(streams) => assert_eq!(rt; streams.writer().as_slice(), said),
+        Err(_) => rt.panic("streams"),
     }
 }
 
 // The same of a node whose place tells these faults.
-fn expect_faulty(rt: &(impl Abort + AllocGlobal), place: Place, line: &[u8]) {
-    expect_words(rt, &["supd", "a", "--image", "x"], place, b"", 3, line);
+fn expect_faulty(rt: &(impl Abort + AllocGlobal), place: Place, line: &[u8], leaves: &str) {
+    let words = ["supd", "a", "--image", "x"];
+    expect_words(rt, &words, place, b"", 3, line, leaves);
 }
 
 const USAGE_LINE: &[u8] =
@@ -142,24 +155,25 @@ const USAGE_LINE: &[u8] =
 #[test]
 fn a_node_runs_over_its_image_until_its_host_says_no_more(rt: HostRuntime) {
     let words = ["supd", "a", "--image", "x"];
-    expect_words(&rt, &words, SOUND, b"ok boot 1\n\n", 0, b"");
+    expect_words(&rt, &words, SOUND, b"ok boot 1\n\n", 0, b"", "station");
     let others = ["supd", "a", "--image", "y"];
-    expect_words(&rt, &others, SOUND, b"", 3, b"device\n");
+    expect_words(&rt, &others, SOUND, b"", 3, b"device\n", "nothing");
 }
 
 #[test]
 fn words_that_set_no_node_are_told_the_usage(rt: HostRuntime) {
-    expect_words(&rt, &["supd"], SOUND, b"", 2, USAGE_LINE);
-    expect_words(&rt, &["supd", "a"], SOUND, b"", 2, USAGE_LINE);
-    expect_words(&rt, &["a", "--image", "x"], SOUND, b"", 2, USAGE_LINE);
+    expect_words(&rt, &["supd"], SOUND, b"", 2, USAGE_LINE, "images");
+    expect_words(&rt, &["supd", "a"], SOUND, b"", 2, USAGE_LINE, "images");
+    let unnamed = ["a", "--image", "x"];
+    expect_words(&rt, &unnamed, SOUND, b"", 2, USAGE_LINE, "images");
 }
 
 #[test]
 fn arguments_that_cant_be_had_are_told(rt: HostRuntime) {
     let no_text = Err(io::Error::from(ErrorKind::InvalidData));
-    expect(&rt, no_text, SOUND, b"", 2, USAGE_LINE);
+    expect(&rt, no_text, SOUND, b"", 2, USAGE_LINE, "images");
     let unheld = Err(io::Error::from(ErrorKind::OutOfMemory));
-    expect(&rt, unheld, SOUND, b"", 3, b"out of memory\n");
+    expect(&rt, unheld, SOUND, b"", 3, b"out of memory\n", "images");
 }
 
 // A place whose image can't be taken, for this fault.
@@ -172,9 +186,11 @@ fn untaken(fault: LockFault) -> Place {
 
 #[test]
 fn an_image_that_cant_be_taken_is_told(rt: HostRuntime) {
-    expect_faulty(&rt, untaken(LockFault::Taken), b"image in use\n");
-    expect_faulty(&rt, untaken(LockFault::Device), b"device\n");
-    expect_faulty(&rt, untaken(LockFault::OutOfMemory), b"out of memory\n");
+    let (held, lost) = (untaken(LockFault::Taken), untaken(LockFault::Device));
+    expect_faulty(&rt, held, b"image in use\n", "nothing");
+    expect_faulty(&rt, lost, b"device\n", "nothing");
+    let unheld = untaken(LockFault::OutOfMemory);
+    expect_faulty(&rt, unheld, b"out of memory\n", "nothing");
 }
 
 // A place whose image can't be read, by an error of this kind.
@@ -187,8 +203,10 @@ fn unread(kind: ErrorKind) -> Place {
 
 #[test]
 fn an_image_that_cant_be_read_is_told(rt: HostRuntime) {
-    expect_faulty(&rt, unread(ErrorKind::PermissionDenied), b"device\n");
-    expect_faulty(&rt, unread(ErrorKind::OutOfMemory), b"out of memory\n");
+    let denied = unread(ErrorKind::PermissionDenied);
+    expect_faulty(&rt, denied, b"device\n", "image");
+    let unheld = unread(ErrorKind::OutOfMemory);
+    expect_faulty(&rt, unheld, b"out of memory\n", "image");
 }
 
 #[test]

@@ -4,10 +4,15 @@ use Rattle.sup_supd.specs.Words.{set_of}
 use Rattle.sup_supd.proofs.program.run_set.Goals as goal
 
 pub returns-in-Err : goal.returns-in-Err
-returns-in-Err g c = inr (c.why_untaken.result, inr (inl (c.in-Err.fault, c.in-Err.ensures, c.why_untaken.ensures)), refl, refl, c.refuse.ensures)
+returns-in-Err g c = inr (c.why_untaken.result, (set_of c.args.settings, refl, c.in-Err.fault, c.in-Err.ensures, c.why_untaken.ensures), refl, c.refuse.ensures)
 
 pub returns-in-Err-open : goal.returns-in-Err-open
-returns-in-Err-open g c = inr (c.why_for.result, inr (inr ((c.in-Ok.disk, c.in-Ok.ensures), c.in-Err-open.unopened.error, c.why_for.ensures)), refl, refl, c.refuse-in-Err-open.ensures)
+returns-in-Err-open g c = inr (
+  c.why_for-why.result,
+  (set_of c.args.settings, refl, c.in-Ok.disk, c.in-Ok.ensures, c.in-Err-open.ensures.left, c.in-Err-open.unopened.error, c.why_for-why.ensures),
+  refl,
+  c.refuse-in-Err-open.ensures,
+)
 
 pub returns : goal.returns
 returns g c = inl (

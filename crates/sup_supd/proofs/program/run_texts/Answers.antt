@@ -6,4 +6,4 @@ pub returns-in-Some : goal.returns-in-Some
 returns-in-Some g c = rw c.in-Some.ensures.some c.run_set.ensures
 
 pub returns-in-None : goal.returns-in-None
-returns-in-None g c = rw c.in-None.ensures.none (inr (Words, inr refl, refl, refl, c.refuse.ensures))
+returns-in-None g c = rw c.in-None.ensures.none (inr (Words, (refl, inr (refl, refl)), refl, c.refuse.ensures))

@@ -6,4 +6,4 @@ pub returns-in-Ok : goal.returns-in-Ok
 returns-in-Ok g c = rw (c.as_slice.ensures.value, c.in-Ok.ensures) at c.run_texts.ensures
 
 pub returns-in-Err : goal.returns-in-Err
-returns-in-Err g c = inr (OutOfMemory, inl refl, refl, refl, c.refuse.ensures)
+returns-in-Err g c = inr (OutOfMemory, (refl, inl refl), refl, c.refuse.ensures)
