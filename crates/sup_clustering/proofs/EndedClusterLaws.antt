@@ -8,10 +8,11 @@ use Rattle.sup_jobs.specs.declared.fault.Fault.{Fault}
 use Rattle.sup_jobs.specs.declared.fault.Fault.TheVariants as job
 use Rattle.sup_jobs.specs.Ends.{KnownBytes}
 use Rattle.sup_jobs.specs.Tells.{IsCutShort}
+use Rattle.sup_node_gate.specs.declared.bound.TheConstants.{MAX_BOUND}
 use Rattle.sup_plan.specs.declared.plan.Plan.{Plan}
 use Rattle.sup_cluster_texts.specs.Plans.{IsReadFault, SaysPlan}
 use Rattle.sup_clustering.specs.CertifiedPlans.{IsRefused, PrintsCluster}
-use Rattle.sup_clustering.specs.ClusterRuns.{ClustersTo, PrintsShort}
+use Rattle.sup_clustering.specs.ClusterRuns.{ClustersTo, PrintsShort, all_start}
 use Rattle.sup_cluster_texts.specs.declared.fault.ClusterFault.{ClusterFault}
 use Rattle.sup_cluster_texts.specs.declared.fault.ClusterFault.TheVariants.{Job, HistoryFull, LinkClosed, Stuck, Differs}
 
@@ -24,7 +25,7 @@ unread X weigher config input before job.Device short h = absurd h
 unread X weigher config input before job.OutOfMemory short h = Keeps-refl before
 
 -- nothing is printed of the plan that it says
-pub unprinted : (X : Type 0) (weigher : Weigher) (config : Config) (input : List ℕ) (before : KnownBytes) (plan : Plan) (fault : ClusterFault) → SaysPlan config input plan → IsRefused weigher plan fault → ClustersTo {X = X} weigher config input before before (Err fault)
+pub unprinted : (X : Type 0) (weigher : Weigher) (config : Config) (input : List ℕ) (before : KnownBytes) (plan : Plan) (fault : ClusterFault) → SaysPlan config input plan → IsRefused weigher all_start MAX_BOUND plan fault → ClustersTo {X = X} weigher config input before before (Err fault)
 unprinted X weigher config input before plan (Job job.OutOfMemory) says h = Keeps-refl before
 unprinted X weigher config input before plan (Job (job.BadLine number)) says h = cc
 unprinted X weigher config input before plan (Job job.BadInput) says h = cc
@@ -36,7 +37,7 @@ unprinted X weigher config input before plan Stuck says h = (plan, says, h, Keep
 unprinted X weigher config input before plan (Differs node place) says h = (plan, says, h, Keeps-refl before)
 
 -- where nothing is printed of it, the device didn't fail
-pub no_device : {X : Type 0} (weigher : Weigher) (plan : Plan) (fault : ClusterFault) → IsRefused weigher plan fault → fault ≡ Job job.Device → X
+pub no_device : {X : Type 0} (weigher : Weigher) (plan : Plan) (fault : ClusterFault) → IsRefused weigher all_start MAX_BOUND plan fault → fault ≡ Job job.Device → X
 no_device weigher plan (Job job.Device) h is = cc
 no_device weigher plan (Job job.OutOfMemory) h is = cc
 no_device weigher plan (Job (job.BadLine number)) h is = cc
@@ -48,11 +49,11 @@ no_device weigher plan Stuck h is = cc
 no_device weigher plan (Differs node place) h is = cc
 
 -- all is printed
-pub printed : {X : Type 0} (x : X) (weigher : Weigher) (config : Config) (input : List ℕ) (before written : KnownBytes) (plan : Plan) (said text : List ℕ) → SaysPlan config input plan → PrintsCluster weigher plan said → text ≡ said → Appends before written text
+pub printed : {X : Type 0} (x : X) (weigher : Weigher) (config : Config) (input : List ℕ) (before written : KnownBytes) (plan : Plan) (said text : List ℕ) → SaysPlan config input plan → PrintsCluster weigher all_start MAX_BOUND plan said → text ≡ said → Appends before written text
     → ClustersTo {X = X} weigher config input before written (Ok x)
 printed x weigher config input before written plan said text says prints same h = (said, (plan, says, prints), subst (λ t. Appends before written t) same h)
 
 -- a front is printed
-pub cut : (weigher : Weigher) (config : Config) (input : List ℕ) (before written : KnownBytes) (plan : Plan) (said text : List ℕ) → SaysPlan config input plan → PrintsCluster weigher plan said → text ≡ said
+pub cut : (weigher : Weigher) (config : Config) (input : List ℕ) (before written : KnownBytes) (plan : Plan) (said text : List ℕ) → SaysPlan config input plan → PrintsCluster weigher all_start MAX_BOUND plan said → text ≡ said
     → IsCutShort before written text → PrintsShort weigher config input before written
 cut weigher config input before written plan said text says prints same h = (said, (plan, says, prints), subst (IsCutShort before written) same h)

@@ -1,5 +1,5 @@
 -- What a judgement of histories tells; and histories that a plan's threads gave can be judged, so that a refusal is that of a replay.
-use Rattle.std.specs.Prelude.{◌≡◌, ◌≢◌, ◌≤◌, false, All, List, [], ◌∷◌, length, Result, Ok, Err, IfOk, IfErr, refl}
+use Rattle.std.specs.Prelude.{◌≡◌, ◌≢◌, ◌≤◌, ℕ, Bool, false, All, List, [], ◌∷◌, length, Result, Ok, Err, IfOk, IfErr, refl}
 use Rattle.std.specs.List.{AllByRecursion, IsDistinct}
 use Rattle.std.specs.Str.{bytes_eq}
 use Rattle.std.specs.Cmp.Lexicographic.{nat_list_eq_equiv}
@@ -8,7 +8,7 @@ use Rattle.std.proofs.lemmas.Map.Text.{is_eq-slice_cmp}
 use mathlib.Core.Logic.{◌⊎◌, inl, inr}
 use Rattle.sup_specs.specs.Values.{Bytes}
 use Rattle.sup_placement.specs.Place.{Weigher}
-use Rattle.sup_node_gate.specs.declared.bound.TheConstants.{MAX_BOUND}
+use Rattle.sup_local_sup.specs.declared.effect.Effect.{Effect}
 use Rattle.sup_model.specs.Follows.{NameIsApart, NamesAllDiffer}
 use Rattle.sup_plan.specs.Plans.{IsPlan}
 use Rattle.sup_plan.specs.declared.histories.History.{History}
@@ -26,8 +26,8 @@ use Rattle.sup_posts.specs.declared.fault.RunFault.TheVariants as run
 use Rattle.sup_cluster_texts.specs.Faults.{of_certify, of_run}
 use Rattle.sup_cluster_texts.specs.declared.fault.ClusterFault.{ClusterFault}
 use Rattle.sup_cluster_texts.specs.declared.fault.ClusterFault.TheVariants.{Job, HistoryFull, LinkClosed, Stuck, Differs}
-use Rattle.sup_clustering.specs.CertifiedPlans.{all_start, IsGiven, IsRefused}
-use Rattle.sup_clustering.specs.Verdicts.{IsNoRun, RefusesHistories}
+use Rattle.sup_clustering.specs.CertifiedPlans.{IsGiven, IsRefused, PrintsCluster}
+use Rattle.sup_clustering.specs.Verdicts.{IsNoRun, PrintsRun, RefusesHistories}
 
 -- ---- the judgement
 -- a fault of a replay, where memory was not wanted
@@ -75,33 +75,41 @@ distinct_names (name ∷ names) d = (apart_from name names d.0, distinct_names n
 names_make : (plan : Plan) → IsPlan plan → AreWorldNames plan.nodes.items
 names_make plan p = record { some = omega (arith, p.few.0); few = omega (arith, p.few.1); apart = distinct_names plan.nodes.items p.distinct }
 
--- what a plan's threads gave can be judged
-can_judge : (g : Weigher) (plan : Plan) (hs : List History) → IsPlan plan → IsGiven g plan hs → CanJudge plan.nodes.items hs
-can_judge g plan hs p given = record { are_of = given.ran.nodes; named = names_make plan p }
-
 -- where they can be judged, they make no run
 pub none_judged : (g : Weigher) (plan : Plan) (hs : List History) (fault : CertifyFault) → CanJudge plan.nodes.items hs → (¬ CanJudge plan.nodes.items hs) ⊎ IsNoRun g plan hs fault → IsNoRun g plan hs fault
 none_judged g plan hs fault can (inl cannot) = absurd (cannot can)
 none_judged g plan hs fault can (inr none) = none
 
--- why what a plan's threads gave isn't printed
-pub refused_given : (g : Weigher) (plan : Plan) (hs : List History) (fault : ClusterFault) → IsPlan plan → IsGiven g plan hs → RefusesHistories g plan hs fault → IsRefused g plan fault
-refused_given g plan hs (Job fault) p given r = r
-refused_given g plan hs HistoryFull p given r = tt
-refused_given g plan hs LinkClosed p given r = tt
-refused_given g plan hs Stuck p given r = record { histories = hs; given = given; no_run = none_judged g plan hs judged.Stuck (can_judge g plan hs p given) r }
-refused_given g plan hs (Differs node place) p given r = record { histories = hs; given = given; no_run = r }
+module _ (g : Weigher) (did : Bytes → Effect → Bool → Type 0) (bound : ℕ) (plan : Plan) where
+  -- what a plan's threads gave can be judged
+  can_judge : (hs : List History) → IsPlan plan → IsGiven g did bound plan hs → CanJudge plan.nodes.items hs
+  can_judge hs p given = record { are_of = given.ran.nodes; named = names_make plan p }
 
--- why there is nothing to print where they gave no histories
-pub refused_run : (g : Weigher) (plan : Plan) (fault : RunFault) → IsRefused g plan (of_run fault)
-refused_run g plan run.BadPlan = refl
-refused_run g plan run.HistoryFull = tt
-refused_run g plan run.LinkClosed = tt
-refused_run g plan run.OutOfMemory = refl
+  -- why what a plan's threads gave isn't printed
+  refused_given : (hs : List History) (fault : ClusterFault) → IsPlan plan → IsGiven g did bound plan hs → RefusesHistories g plan hs fault → IsRefused g did bound plan fault
+  refused_given hs (Job fault) p given r = r
+  refused_given hs HistoryFull p given r = tt
+  refused_given hs LinkClosed p given r = tt
+  refused_given hs Stuck p given r = record { histories = hs; given = given; no_run = none_judged g plan hs judged.Stuck (can_judge hs p given) r }
+  refused_given hs (Differs node place) p given r = record { histories = hs; given = given; no_run = r }
 
--- why there is nothing to print where they ended so
-pub refused_ended : {S : Type 0} (g : Weigher) (plan : Plan) (ended : Result (List History) RunFault) (told : Result S ClusterFault) → IsPlan plan → IfOk ended (IsRunOf g all_start plan) → IfOk ended (All (λ (h : History). length h.entries.items ≤ MAX_BOUND))
-    → IfOk ended (λ hs. IfErr told (RefusesHistories g plan hs)) → IfErr ended (λ fault. told ≡ Err (of_run fault)) → IfErr told (IsRefused g plan)
-refused_ended g plan (Ok hs) (Ok s) p ran bounded refused faulted = tt
-refused_ended g plan (Ok hs) (Err fault) p ran bounded refused faulted = refused_given g plan hs fault p (record { ran = ran; bounded = bounded }) refused
-refused_ended {S = S} g plan (Err fault) told p ran bounded refused faulted = subst (λ (t : Result S ClusterFault). IfErr t (IsRefused g plan)) (sym faulted) (refused_run g plan fault)
+  -- why there is nothing to print where they gave no histories
+  refused_run : (fault : RunFault) → IsRefused g did bound plan (of_run fault)
+  refused_run run.BadPlan = refl
+  refused_run run.HistoryFull = tt
+  refused_run run.LinkClosed = tt
+  refused_run run.OutOfMemory = refl
+
+  -- what is printed where they ended so
+  pub printed_ended : {S : Type 0} (bytes : S → List ℕ) (ended : Result (List History) RunFault) (told : Result S ClusterFault) → IfOk ended (IsRunOf g did plan) → IfOk ended (All (λ (h : History). length h.entries.items ≤ bound))
+      → IfOk ended (λ hs. IfOk told (λ s. PrintsRun g plan hs (bytes s))) → IfErr ended (λ fault. told ≡ Err (of_run fault)) → IfOk told (λ s. PrintsCluster g did bound plan (bytes s))
+  printed_ended bytes (Ok hs) (Ok s) ran bounded prints faulted = record { histories = hs; given = record { ran = ran; bounded = bounded }; prints = prints }
+  printed_ended bytes (Ok hs) (Err fault) ran bounded prints faulted = tt
+  printed_ended {S = S} bytes (Err fault) told ran bounded prints faulted = subst (λ (t : Result S ClusterFault). IfOk t (λ s. PrintsCluster g did bound plan (bytes s))) (sym faulted) tt
+
+  -- why there is nothing to print where they ended so
+  pub refused_ended : {S : Type 0} (ended : Result (List History) RunFault) (told : Result S ClusterFault) → IsPlan plan → IfOk ended (IsRunOf g did plan) → IfOk ended (All (λ (h : History). length h.entries.items ≤ bound))
+      → IfOk ended (λ hs. IfErr told (RefusesHistories g plan hs)) → IfErr ended (λ fault. told ≡ Err (of_run fault)) → IfErr told (IsRefused g did bound plan)
+  refused_ended (Ok hs) (Ok s) p ran bounded refused faulted = tt
+  refused_ended (Ok hs) (Err fault) p ran bounded refused faulted = refused_given hs fault p (record { ran = ran; bounded = bounded }) refused
+  refused_ended {S = S} (Err fault) told p ran bounded refused faulted = subst (λ (t : Result S ClusterFault). IfErr t (IsRefused g did bound plan)) (sym faulted) (refused_run fault)

@@ -1,6 +1,8 @@
 -- The command cluster: a script's nodes run by threads, and what they know once they have settled.
-use Rattle.std.specs.Prelude.{◌≡◌, ◌<◌, ◌≤◌, ◌⊎◌, ℕ, List, length, Result, Ok, Err, IfSome}
+use Rattle.std.specs.Prelude.{◌≡◌, ◌<◌, ◌≤◌, ◌⊎◌, ℕ, Bool, true, List, length, Result, Ok, Err, IfSome}
 use Rattle.std.specs.Io.KnownBytes.{Appends, Consumes, Keeps}
+use Rattle.sup_specs.specs.Values.{Bytes}
+use Rattle.sup_local_sup.specs.declared.effect.Effect.{Effect}
 use Rattle.sup_replica.specs.Configs.{Config}
 use Rattle.sup_placement.specs.Place.{Weigher}
 use Rattle.sup_jobs.specs.declared.fault.Ended.{Ended}
@@ -8,6 +10,7 @@ use Rattle.sup_jobs.specs.declared.fault.Fault.{Fault}
 use Rattle.sup_jobs.specs.declared.fault.Fault.TheVariants as job
 use Rattle.sup_jobs.specs.Ends.{KnownBytes, IsTaken}
 use Rattle.sup_jobs.specs.Tells.{IsCutShort, Tells}
+use Rattle.sup_node_gate.specs.declared.bound.TheConstants.{MAX_BOUND}
 use Rattle.sup_plan.specs.declared.plan.Plan.{Plan}
 use Rattle.sup_cluster_lines.specs.Script.{plan_script_of}
 use Rattle.sup_cluster_texts.specs.Faults.{fault_line_at, status_at}
@@ -16,9 +19,13 @@ use Rattle.sup_clustering.specs.CertifiedPlans.{IsRefused, PrintsCluster}
 use Rattle.sup_cluster_texts.specs.declared.fault.ClusterFault.{ClusterFault}
 use Rattle.sup_cluster_texts.specs.declared.fault.ClusterFault.TheVariants.{Job, HistoryFull, LinkClosed, Stuck, Differs}
 
+-- each effect is done, and no start fails
+abbrev pub all_start : Bytes → Effect → Bool → Type 0
+all_start node effect answer = answer ≡ true
+
 -- what is printed of a certified run of the plan that the input says
 abbrev pub MayPrint : Weigher → Config → List ℕ → List ℕ → Type 0
-MayPrint weigher config input said = (plan : Plan) × SaysPlan config input plan × PrintsCluster weigher plan said
+MayPrint weigher config input said = (plan : Plan) × SaysPlan config input plan × PrintsCluster weigher all_start MAX_BOUND plan said
 
 -- The writer has got a front of what is printed, and not all.
 abbrev pub PrintsShort : Weigher → Config → List ℕ → KnownBytes → KnownBytes → Type 0
@@ -30,7 +37,7 @@ StopsAt weigher config input before written = Keeps before written ⊎ PrintsSho
 
 -- A plan that the input says was run, and nothing is printed of it, for this fault.
 abbrev pub RefusesAt : Weigher → Config → List ℕ → KnownBytes → KnownBytes → ClusterFault → Type 0
-RefusesAt weigher config input before written fault = (plan : Plan) × SaysPlan config input plan × IsRefused weigher plan fault × Keeps before written
+RefusesAt weigher config input before written fault = (plan : Plan) × SaysPlan config input plan × IsRefused weigher all_start MAX_BOUND plan fault × Keeps before written
 
 -- How a run over this input ends by a fault of any job, and what the writer has got then.
 abbrev pub EndsJob : Weigher → Config → List ℕ → KnownBytes → KnownBytes → Fault → Type 0

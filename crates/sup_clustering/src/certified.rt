@@ -1,9 +1,9 @@
-//! A plan's run by threads, and what is told of its end.
+//! A planned run by threads, and what is told of its end.
 
-ghost use Rattle.std.specs.Prelude.{◌≡◌, ◌≢◌, ◌≤◌, All, Err, IfErr, IfOk, length, string_bytes};
+ghost use Rattle.std.specs.Prelude.{◌≡◌, ◌≢◌, Err, IfErr, IfOk, string_bytes};
+ghost use Rattle.sup_node_gate.specs.Gates.{IsBound};
 ghost use Rattle.sup_plan.specs.Plans.{IsPlan};
-ghost use Rattle.sup_cluster.specs.Runs.{IsRunOf};
-ghost use Rattle.sup_clustering.specs.CertifiedPlans.{IsRefused, PrintsCluster, all_start};
+ghost use Rattle.sup_clustering.specs.CertifiedPlans.{IsRefused, PrintsCluster};
 ghost use Rattle.sup_clustering.specs.Verdicts.{RefusesHistories, PrintsRun};
 ghost use Rattle.sup_cluster_texts.specs.Faults.{of_run};
 
@@ -11,48 +11,38 @@ use crate::verdict::judged_text;
 use std::alloc::Global;
 use std::sync::Wait;
 use std::thread::Threads;
-use sup_cluster::{PlannedRun, Quiet, run};
+use sup_cluster::{PlannedRun, Quiet, Runner, run};
 use sup_cluster_texts::{ClusterFault, of_run};
-use sup_node_gate::MAX_BOUND;
 use sup_placement::Weigh;
 use sup_plan::{Histories, Plan};
 use sup_posts::RunFault;
 
-/// Runs a plan by threads, and gives what is printed of its nodes once the run is certified and they have settled.
+/// Makes a planned run by threads, and gives what is printed of its nodes once the run is certified and they have settled. What is to be
+/// done with their children is told its runner. The run is used up: what is told is told of this one.
 ///
 /// # Errors
 ///
 /// Why the threads gave no histories; or why these are no run, in whatever order; or `OutOfMemory`, which stands also where settling is
 /// refused.
-pub fn plan_text<T: Threads + Wait + Sync, G: Weigh + Copy + Drop + Send + Sync>(
+pub fn plan_text<
+    'a,
+    T: Threads + Wait + Sync,
+    G: Weigh + Copy + Drop + Send + Sync,
+    N: Runner + Sync,
+>(
     rt: &T,
     alloc: Global,
     weigher: &G,
-    plan: &Plan,
+    planned: PlannedRun<'a, N, Quiet>,
 ) -> Result<String, ClusterFault>
-    requires { IsPlan plan.now }
-    ensures prints { IfOk result (λ s. PrintsCluster G.weight_of plan.now (string_bytes s)) }
-    ensures refused { IfErr result (IsRefused G.weight_of plan.now) }
+    requires plan { IsPlan planned.plan }
+    requires bound { IsBound planned.bound }
+    ensures prints { IfOk result (λ s. PrintsCluster G.weight_of (N.did planned.entry.runner) planned.entry.bound planned.entry.plan (string_bytes s)) }
+    ensures refused { IfErr result (IsRefused G.weight_of (N.did planned.entry.runner) planned.entry.bound planned.entry.plan) }
 {
-    // No contract can say that the threads run once: so nothing stands here but the run and what is told of its end.
-    let ended = run_once(rt, alloc, weigher, plan);
+    let plan = planned.plan();
+    let ended = run(rt, alloc, planned, weigher);
     ended_text(alloc, weigher, plan, ended)
-}
-
-// A run of the plan by threads, of which nobody is told.
-fn run_once<T: Threads + Wait + Sync, G: Weigh + Send + Sync>(
-    rt: &T,
-    alloc: Global,
-    weigher: &G,
-    plan: &Plan,
-) -> Result<Histories, RunFault>
-    requires { IsPlan plan.now }
-    ensures good { result ≢ Err RunFault.BadPlan }
-    ensures run { IfOk result (IsRunOf G.weight_of all_start plan.now) }
-    ensures bound { IfOk result (λ histories. All (λ h. length h.entries.items ≤ MAX_BOUND) histories) }
-{
-    let planned = PlannedRun::new(plan, MAX_BOUND, &Quiet, &Quiet)?;
-    run(rt, alloc, planned, weigher)
 }
 
 // What is told of threads that ended so: the verdict over just these histories, or just this fault. Nothing runs by threads here, so no

@@ -1,17 +1,22 @@
 //! The command `cluster`.
 
-ghost use Rattle.std.specs.Prelude.{◌≡◌, ◌≤◌, ◌+◌, length, Ok, Err, IfSome};
+ghost use Rattle.std.specs.Prelude.{◌≡◌, ◌≤◌, ◌+◌, length, string_bytes, Ok, Err, IfErr, IfOk, IfSome};
 ghost use Rattle.sup_jobs.specs.Ends.{TakesAtMost};
-ghost use Rattle.sup_clustering.specs.ClusterRuns.{RunsCluster, ClustersTo, PrintsShort, TakesFor};
+ghost use Rattle.sup_plan.specs.Plans.{IsPlan};
+ghost use Rattle.sup_clustering.specs.CertifiedPlans.{IsRefused, PrintsCluster};
+ghost use Rattle.sup_clustering.specs.ClusterRuns.{RunsCluster, ClustersTo, PrintsShort, TakesFor, all_start};
 
 use crate::certified::plan_text;
 use std::alloc::Global;
 use std::io::{Read, Write};
 use std::sync::Wait;
 use std::thread::Threads;
+use sup_cluster::{PlannedRun, Quiet};
 use sup_cluster_texts::{ClusterFault, finish, read_plan};
 use sup_jobs::{Ended, Fault, LIMIT, put_all, read_input};
+use sup_node_gate::MAX_BOUND;
 use sup_placement::Weigh;
+use sup_plan::Plan;
 use sup_replica::Config;
 
 /// Runs the script that the reader has by threads, each of its nodes with this setting: writes what its nodes know once they have exchanged
@@ -82,7 +87,7 @@ fn run_bytes<T: Threads + Wait + Sync, G: Weigh + Copy + Drop + Send + Sync, W: 
         Ok(plan) => plan,
         Err(fault) => return Err(ClusterFault::Job(fault)),
     };
-    let text = match plan_text(rt, alloc, weigher, &plan) {
+    let text = match certified_text(rt, alloc, weigher, &plan) {
         Ok(text) => text,
         Err(fault) => return Err(fault),
     };
@@ -90,4 +95,22 @@ fn run_bytes<T: Threads + Wait + Sync, G: Weigh + Copy + Drop + Send + Sync, W: 
         Ok(()) => Ok(()),
         Err(_) => Err(ClusterFault::Job(Fault::Device)),
     }
+}
+
+// What is told of a run of the plan of which nobody is told. No contract can say that just one is made: so nothing else stands here.
+fn certified_text<T: Threads + Wait + Sync, G: Weigh + Copy + Drop + Send + Sync>(
+    rt: &T,
+    alloc: Global,
+    weigher: &G,
+    plan: &Plan,
+) -> Result<String, ClusterFault>
+    requires { IsPlan plan.now }
+    ensures prints { IfOk result (λ s. PrintsCluster G.weight_of all_start MAX_BOUND plan.now (string_bytes s)) }
+    ensures refused { IfErr result (IsRefused G.weight_of all_start MAX_BOUND plan.now) }
+{
+    // A plan that is read can be run.
+    let Ok(planned) = PlannedRun::new(plan, MAX_BOUND, &Quiet, &Quiet) else {
+        unreachable!()
+    };
+    plan_text(rt, alloc, weigher, planned)
 }
