@@ -54,7 +54,7 @@ fn play<R: Threads + Wait + Sync>(
     let plan = read_plan(alloc, Config::default(), script).map_err(|_| invalid())?;
     let planned = PlannedRun::new(&plan, MAX_BOUND, &Quiet, &Quiet).map_err(|_| invalid())?;
     let histories = run(rt, alloc, planned, &FlatWeigh).map_err(|_| invalid())?;
-    let steps = judged(alloc, &plan, &histories, judgements)?;
+    let steps = judged(alloc, &plan, histories.histories(), judgements)?;
     for _ in 0..replays {
         replay(alloc, &plan, &steps)?;
     }

@@ -31,14 +31,14 @@ use Rattle.sup_plan.specs.declared.histories.History.{History}
 use Rattle.sup_plan.specs.declared.plan.Command.{Command}
 use Rattle.sup_plan.specs.declared.plan.Plan.{Plan}
 use Rattle.sup_posts.specs.Jobs.{Seat, CarriedLetters, GivesDriven, DrivesNode}
-use Rattle.sup_posts.specs.Rounds.{IsRound, StoodByAll, delivery}
+use Rattle.sup_posts.specs.Rounds.{IsRound, MakesCommands, delivery}
 use Rattle.sup_posts.specs.declared.thread_fault.ThreadFault.{ThreadFault}
 use Rattle.sup_posts.specs.declared.shared_node.SharedNode.{SharedNode}
 use Rattle.sup_posts.specs.declared.jobs.Lane.{Lane}
 use Rattle.sup_posts.specs.declared.jobs.Drive.{Drive}
 use Rattle.sup_posts.specs.declared.jobs.Driven.{Driven}
 use Rattle.sup_posts.specs.declared.jobs.Arrived.{Arrived}
-use Rattle.sup_cluster.specs.Runs.{HasRun, RanCommands, CameFrom, IsMadeOfRounds, IsRunOf, HasStoodBy, carried, in_a_row}
+use Rattle.sup_cluster.specs.Runs.{HasRun, RanCommands, CameFrom, IsRunOf, AllStoodBy, carried, in_a_row}
 use Rattle.sup_posts.proofs.ItemLaws.{zip_append}
 use Rattle.sup_posts.specs.Drives.{IsFresh, IsLaneTo, IsDriveOf, LeadsToItsNode, others_of, places, passes_to, shares_of, dealt_by, HaveWhole, IsSharedNodeOf}
 use Rattle.sup_run_ends.specs.Passes.{of_arrived, calls_by, AreMadeBy}
@@ -50,7 +50,7 @@ use Rattle.sup_cluster.proofs.HistorySublistLaws.{in_deliveries}
 use Rattle.sup_cluster.proofs.PassPlaceLaws.{one_other, not_itself, none_comes, one_comes, passes_both, same_shares}
 use Rattle.sup_cluster.proofs.ShuffleImageLaws.{shuffle_of_images, row_image, some_injective}
 
-module _ {W : Type 0} {h : WeighGhosts W} (did : Bytes → Effect → Bool → Type 0) (stood : Bytes → Command → ℕ → Type 0) where
+module _ {W : Type 0} {h : WeighGhosts W} (did : Bytes → Effect → Bool → Type 0) (stood : Bytes → Command → ℕ → List Effect → Type 0) where
   abbrev passes_of : List (Driven W h) → List (Arrived W h)
   passes_of = flat_map (λ d. d.arrived.items)
 
@@ -58,23 +58,6 @@ module _ {W : Type 0} {h : WeighGhosts W} (did : Bytes → Effect → Bool → T
   node_named : (plan : Plan) (posts : List (SharedNode W h)) (post : SharedNode W h) (drive : Drive W h) (driven : Driven W h) (x : History)
       → IsDriveOf plan posts post drive → (r : DrivesNode did stood posts drive driven) → x.node ≡ post.name → r.seat.0.name ≡ x.node
   node_named plan posts post drive driven x is r named = ap (λ (p : SharedNode W h). p.name) (same_place posts drive.at drive.at r.seat.0 post r.seat.1 is.place refl) ∙ sym named
-
-  -- the checkpoint stood by each of the node's commands
-  stood_at : (g : Weigher) (plan : Plan) (posts : List (SharedNode W h)) (drives : List (Drive W h)) (driven : List (Driven W h)) (all : List History)
-      → AllZip (IsDriveOf plan posts) posts drives → AllZip (DrivesNode did stood posts) drives driven → AllZip (IsHistoryOf g) posts all
-      → (i : ℕ) (x : History) → slice_get all i ≡ Some x → HasStoodBy stood plan x
-  stood_at g plan posts drives driven all ds gs hs i x e =
-      let p = zip_right (IsHistoryOf g) posts all i x hs e in
-      let d = zip_left (IsDriveOf plan posts) posts drives i p.0 ds p.1 in
-      let r = zip_left (DrivesNode did stood posts) drives driven i d.0 gs d.1 in
-      subst (λ l. StoodByAll (stood x.node) l) (d.2.commands ∙ ap (λ n. commands_of n plan.commands.items) (sym p.2.named))
-      (subst (λ n. StoodByAll (stood n) d.0.commands.items) (node_named plan posts p.0 d.0 r.0 x d.2 r.2 p.2.named) r.2.stood_by)
-
-  pub all_stood : (g : Weigher) (plan : Plan) (posts : List (SharedNode W h)) (drives : List (Drive W h)) (results : List (Result (Driven W h) ThreadFault)) (all : List History)
-      → AllZip (IsDriveOf plan posts) posts drives → AllZip (GivesDriven did stood posts) drives results → AreFinished g posts results all → All (HasStoodBy stood plan) all
-  all_stood g plan posts drives results all ds gs f =
-      let given : AllZip (DrivesNode did stood posts) drives f.driven = zip_map (GivesDriven did stood posts) Ok drives f.driven (subst (AllZip (GivesDriven did stood posts) drives) f.given gs) in
-      all_at (HasStoodBy stood plan) all (stood_at g plan posts drives f.driven all ds given f.histories)
 
   -- what a lane carried, said of the two histories
   reached : (plan : Plan) (posts : List (SharedNode W h)) (all : List History) (front : List Entry) (from to : History) (post other : SharedNode W h) (at : ℕ)
@@ -185,7 +168,7 @@ module _ {W : Type 0} {h : WeighGhosts W} (did : Bytes → Effect → Bool → T
     )
 
     module _ (whole : HaveWhole (map (λ (d : Drive W h). d.seat) drives) (dealt_by drives)) (made : AreMadeBy (map (λ (d : Driven W h). d.seat) driven) (passes_of driven) all) where
-      rounds_at : (before : List History) (x : History) (after : List History) → all ≡ before ++ x ∷ after → IsMadeOfRounds (did x.node) plan (before ++ after) x
+      rounds_at : AllStoodBy did stood plan all
       rounds_at before x after e =
           let j : ℕ = length before in
           let at_x : slice_get all j ≡ Some x = ap (λ l. slice_get l j) e ∙ get_next before after x in
@@ -214,20 +197,25 @@ module _ {W : Type 0} {h : WeighGhosts W} (did : Bytes → Effect → Bool → T
           ∙ map-append (λ (s : Seat W h). calls_of (view_of s)) (passes_to j (map of_arrived (passes_of parts.0))) (passes_to j (map of_arrived (passes_of parts.1)))
           ∙ (λ i. b.2 i ++ a.2 i)
           ∙ sym (ap (map (map some)) (map-append in_a_row b.0 a.0) ∙ map-append (map some) (map in_a_row b.0) (map in_a_row a.0)) in
-          let mine : calls_of (view_of r.0.seat) ≡ map some (in_a_row r.2.made.rounds)
-          = r.2.made.own ∙ ap (λ l. l ++ flat_map (map some) r.2.made.rounds) (fresh_calls d.0.seat d.2.fresh) ∙ row_image some r.2.made.rounds in
+          let drove : MakesCommands (did x.node) (stood x.node) (view_of d.0.seat) (commands_of x.node plan.commands.items) (view_of r.0.seat)
+          = subst (λ l. MakesCommands (did x.node) (stood x.node) (view_of d.0.seat) l (view_of r.0.seat)) (d.2.commands ∙ ap (λ n. commands_of n plan.commands.items) (sym p.2.named))
+          (subst (λ n. MakesCommands (did n) (stood n) (view_of d.0.seat) d.0.commands.items (view_of r.0.seat)) (node_named plan posts p.0 d.0 r.0 x d.2 r.2 p.2.named) r.2.drove) in
+          let mine : calls_of (view_of r.0.seat) ≡ map some (in_a_row drove.made.rounds)
+          = drove.made.own ∙ ap (λ l. l ++ flat_map (map some) drove.made.rounds) (fresh_calls d.0.seat d.2.fresh) ∙ row_image some drove.made.rounds in
           let shares : IsWhole ((view_of r.0.seat).shares ++ shares_of (passes_to j (map of_arrived (passes_of driven))))
-          = subst (λ (y : List ℕ × List ℕ). IsWhole (y.0 ++ y.1)) (λ i. (sym r.2.made.shares i, sym (same_shares did posts stood j drives driven gs) i))
+          = subst (λ (y : List ℕ × List ℕ). IsWhole (y.0 ++ y.1)) (λ i. (sym drove.made.shares i, sym (same_shares did posts stood j drives driven gs) i))
           (whole j d.0.seat (get_map (λ (y : Drive W h). y.seat) drives j d.0 d.1)) in
           let calls = made j r.0.seat x (get_map (λ (y : Driven W h). y.seat) driven j r.0 r.1) at_x shares in
           record {
-            own = r.2.made.rounds;
-            commands = subst (λ l. AllZip (IsRound (did x.node)) (map asked l) r.2.made.rounds) (d.2.commands ∙ ap (λ n. commands_of n plan.commands.items) (sym p.2.named))
-                (subst (λ n. AllZip (IsRound (did n)) (map asked d.0.commands.items) r.2.made.rounds) (node_named plan posts p.0 d.0 r.0 x d.2 r.2 p.2.named) r.2.made.are);
-            received = b.0 ++ a.0;
-            came = zip_append (CameFrom (did x.node) plan x) before b.0 after a.0 b.1 a.1;
-            whole = shuffle_of_images some some_injective (map in_a_row (b.0 ++ a.0)) (in_a_row r.2.made.rounds) x.entries.items
-                (subst (λ (y : List (M.Option Entry) × List (List (M.Option Entry))). IsShuffleOf y.0 y.1 (map some x.entries.items)) (λ i. (mine i, others i)) calls);
+            made = record {
+              own = drove.made.rounds;
+              commands = drove.made.are;
+              received = b.0 ++ a.0;
+              came = zip_append (CameFrom (did x.node) plan x) before b.0 after a.0 b.1 a.1;
+              whole = shuffle_of_images some some_injective (map in_a_row (b.0 ++ a.0)) (in_a_row drove.made.rounds) x.entries.items
+                  (subst (λ (y : List (M.Option Entry) × List (List (M.Option Entry))). IsShuffleOf y.0 y.1 (map some x.entries.items)) (λ i. (mine i, others i)) calls);
+            };
+            told = drove.told;
           }
 
   pub is_run : (g : Weigher) (plan : Plan) (bound : ℕ) (posts : List (SharedNode W h)) (drives : List (Drive W h)) (results : List (Result (Driven W h) ThreadFault)) (all : List History)
@@ -250,8 +238,16 @@ module _ {W : Type 0} {h : WeighGhosts W} (did : Bytes → Effect → Bool → T
             let n = zip_right (IsSharedNodeOf plan.config bound) plan.nodes.items posts i p.0 ps p.1 in
             p.2.saves n.2.sound);
         drove = all_at (RanCommands plan all) all (drove_at g plan posts drives f.driven all ds given f.histories f.own f.others);
-        made = rounds_at g plan posts drives f.driven all ds given f.histories f.own at_places whole f.made;
+        made = λ before x after e. (rounds_at g plan posts drives f.driven all ds given f.histories f.own at_places whole f.made before x after e).made;
       }
+
+  pub all_stood : (g : Weigher) (plan : Plan) (posts : List (SharedNode W h)) (drives : List (Drive W h)) (results : List (Result (Driven W h) ThreadFault)) (all : List History)
+      → AllZip (IsDriveOf plan posts) posts drives → AllZip (GivesDriven did stood posts) drives results
+      → map (λ (d : Drive W h). d.at) drives ≡ places (length posts) → HaveWhole (map (λ (d : Drive W h). d.seat) drives) (dealt_by drives)
+      → AreFinished g posts results all → AllStoodBy did stood plan all
+  all_stood g plan posts drives results all ds gs at_places whole f =
+      let given : AllZip (DrivesNode did stood posts) drives f.driven = zip_map (GivesDriven did stood posts) Ok drives f.driven (subst (AllZip (GivesDriven did stood posts) drives) f.given gs) in
+      rounds_at g plan posts drives f.driven all ds given f.histories f.own at_places whole f.made
 
 -- no history is longer than its gate lets it be
 pub all_within : {W : Type 0} {h : WeighGhosts W} (g : Weigher) (config : Config) (bound : ℕ) (names : List Bytes) (posts : List (SharedNode W h)) (all : List History)

@@ -126,7 +126,7 @@ module _ {W : Type 0} {h : WeighGhosts W} (did : Bytes → Effect → Bool → T
   shares_both xs ys = flat_map-append (λ (s : Seat W h). (view_of s).shares) xs ys
 
   -- what comes back to a place has what was dealt to it
-  pub same_shares : (stood : Bytes → Command → ℕ → Type 0) (j : ℕ) (drives : List (Drive W h)) (driven : List (Driven W h)) → AllZip (DrivesNode did stood posts) drives driven
+  pub same_shares : (stood : Bytes → Command → ℕ → List Effect → Type 0) (j : ℕ) (drives : List (Drive W h)) (driven : List (Driven W h)) → AllZip (DrivesNode did stood posts) drives driven
       → shares_of (passes_to j (map of_arrived (flat_map (λ (d : Driven W h). d.arrived.items) driven))) ≡ shares_of (passes_to j (dealt_by drives))
   same_shares stood j [] [] z = refl
   same_shares stood j [] (r ∷ more) z = absurd z

@@ -19,7 +19,7 @@ use Rattle.sup_run_ends.proofs.ZipLaws.{zip_right, zip_through}
 use Rattle.sup_run_ends.proofs.RunEndItemLaws.{all_at, same_place}
 
 module _ {W : Type 0} {h : WeighGhosts W} where
-  module _ (did : Bytes → Effect → Bool → Type 0) (stood : Bytes → Command → ℕ → Type 0) where
+  module _ (did : Bytes → Effect → Bool → Type 0) (stood : Bytes → Command → ℕ → List Effect → Type 0) where
     arrives : (posts : List (SharedNode W h)) (drive : Drive W h) (driven : Driven W h) (d : DrivesNode did stood posts drive driven) → All (IsArrived posts) driven.arrived.items
     arrives posts drive driven d = all_at (IsArrived posts) driven.arrived.items (λ i a e.
         let c = zip_right (CarriedLetters did posts (view_of driven.seat).seen) drive.lanes.items driven.arrived.items i a d.carried e in

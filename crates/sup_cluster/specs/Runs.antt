@@ -69,6 +69,11 @@ pub record IsRunOf (g : Weigher) (did : Bytes → Effect → Bool → Type 0) (p
   pub drove : All (RanCommands plan all) all
   pub made : (before : List History) (h : History) (after : List History) → all ≡ before ++ h ∷ after → IsMadeOfRounds (did h.node) plan (before ++ after) h
 
--- the checkpoint was told of each of the node's commands, with its place
-abbrev pub HasStoodBy : (Bytes → Command → ℕ → Type 0) → Plan → History → Type 0
-HasStoodBy stood plan h = StoodByAll (stood h.node) (commands_of h.node plan.commands.items)
+-- the history is made of rounds, and the checkpoint was told of each of the node's commands, with its place and with what its round's answer asks for
+pub record HasStoodBy (did : Effect → Bool → Type 0) (stood : Command → ℕ → List Effect → Type 0) (plan : Plan) (others : List History) (h : History) : Type 0 where
+  pub made : IsMadeOfRounds did plan others h
+  pub told : StoodByAll stood (commands_of h.node plan.commands.items) made.own
+
+-- the same of each history
+abbrev pub AllStoodBy : (Bytes → Effect → Bool → Type 0) → (Bytes → Command → ℕ → List Effect → Type 0) → Plan → List History → Type 0
+AllStoodBy did stood plan all = (before : List History) (h : History) (after : List History) → all ≡ before ++ h ∷ after → HasStoodBy (did h.node) (stood h.node) plan (before ++ after) h

@@ -10,3 +10,4 @@ mod running;
 pub use running::run;
 pub use sup_driving::{Checkpoint, PlannedRun, Quiet, Runner};
 pub use sup_posts::{Request, Requests};
+pub use sup_run_ends::RunHistories;

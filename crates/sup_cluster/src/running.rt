@@ -4,16 +4,15 @@ ghost use Rattle.sup_node_gate.specs.Gates.{IsBound};
 ghost use Rattle.sup_plan.specs.Plans.{IsPlan};
 ghost use Rattle.sup_posts.specs.declared.fault.RunFault.TheVariants.{BadPlan};
 ghost use Rattle.sup_driving.specs.Called.{stood_by};
-ghost use Rattle.sup_cluster.specs.Runs.{IsRunOf, HasStoodBy};
+ghost use Rattle.sup_cluster.specs.Runs.{IsRunOf, AllStoodBy};
 
 use std::alloc::Global;
 use std::sync::Wait;
 use std::thread::Threads;
 use sup_driving::{Checkpoint, PlannedRun, Runner, launch};
 use sup_placement::Weigh;
-use sup_plan::Histories;
 use sup_posts::RunFault;
-use sup_run_ends::{finish, make_drives, open_posts};
+use sup_run_ends::{RunHistories, finish, make_drives, open_posts};
 
 /// Makes a run: each node of its plan is driven by the plan's commands, over links by its scripts, in threads of their own. What is to
 /// be done with nodes' children is told its runner, and its checkpoint stands by each command. Gives what happened at each node.
@@ -29,12 +28,17 @@ pub fn run<
     W: Weigh + Send + Sync,
     N: Runner + Sync,
     C: Checkpoint + Sync,
->(rt: &R, alloc: Global, planned: PlannedRun<'a, N, C>, weigher: &W) -> Result<Histories, RunFault>
+>(
+    rt: &R,
+    alloc: Global,
+    planned: PlannedRun<'a, N, C>,
+    weigher: &W,
+) -> Result<RunHistories, RunFault>
     requires plan { IsPlan planned.plan }
     requires bound { IsBound planned.bound }
     ensures good { result ≢ Err BadPlan }
     ensures run { IfOk result (λ histories. IsRunOf W.weight_of (N.did planned.entry.runner) planned.entry.plan histories) }
-    ensures stood { IfOk result (λ histories. All (HasStoodBy (stood_by C.was_before C.was_answered planned.entry.checkpoint) planned.entry.plan) histories) }
+    ensures stood { IfOk result (λ histories. AllStoodBy (N.did planned.entry.runner) (stood_by C.was_before C.was_answered planned.entry.checkpoint) planned.entry.plan histories) }
     ensures bound { IfOk result (λ histories. All (λ h. length h.entries.items ≤ planned.entry.bound) histories) }
 {
     let plan = planned.plan();
@@ -42,5 +46,5 @@ pub fn run<
     let drives = make_drives(alloc, plan, &posts, seats)?;
     let results = launch(rt, alloc, weigher, planned, &posts, drives)?;
     let histories = finish(alloc, posts, results)?;
-    Ok(Histories::new(histories))
+    Ok(histories)
 }

@@ -11,10 +11,10 @@ use std::process::Abort;
 use std::sync::Wait;
 use std::sync::atomic::{AtomicBool, Ordering};
 use std::thread::Threads;
-use sup_cluster::{Checkpoint, PlannedRun, Quiet, Requests, run};
+use sup_cluster::{Checkpoint, PlannedRun, Quiet, Requests, RunHistories, run};
 use sup_links::Verdict;
 use sup_placement::FlatWeigh;
-use sup_plan::{Command, Histories, Plan};
+use sup_plan::{Command, Plan};
 use sup_posts::RunFault;
 use sup_specs::NodeName;
 
@@ -24,7 +24,7 @@ fn run_within<R: Threads + Wait + Sync + AllocGlobal, C: Checkpoint + Sync>(
     plan: &Plan,
     bound: u64,
     checkpoint: &C,
-) -> Result<Histories, RunFault>
+) -> Result<RunHistories, RunFault>
     requires { IsBound bound }
     ensures bad { ¬ (IsPlan plan.now) → result ≡ Err BadPlan }
     ensures good { IsPlan plan.now → result ≢ Err BadPlan }
@@ -89,7 +89,7 @@ struct Lamps {
 impl Checkpoint for Lamps {
     ghost was_before = { λ lamps node command place. Unit {0} };
 
-    ghost was_answered = { λ lamps node place. Unit {0} };
+    ghost was_answered = { λ lamps node place effects. Unit {0} };
 
     fn before(&self, node: &NodeName, place: u64, _command: &Command) {
         if node.as_str() == "a" && place == 2 {

@@ -3,11 +3,13 @@ use crate::given::{join, plan, run_flat, start, told};
 use std::process::Abort;
 use std::sync::atomic::{AtomicBool, Ordering};
 use sup_cluster::{Checkpoint, Quiet, Requests};
+use sup_local_sup::Effect;
 use sup_plan::{Command, Plan};
 use sup_replica::{Act, Event};
 use sup_specs::NodeName;
 
-/// Notes whether it was told of anything, and of what no plan of these tests has there: each node first joins, and then starts a child.
+/// Notes whether it was told of anything, and of what no plan of these tests has there: each node first joins, and then starts a child, for
+/// which its answer asks.
 #[derive(Drop)]
 struct Ledger {
     is_told: AtomicBool,
@@ -24,7 +26,7 @@ fn new_ledger() -> Ledger {
 impl Checkpoint for Ledger {
     ghost was_before = { λ ledger node command place. Unit {0} };
 
-    ghost was_answered = { λ ledger node place. Unit {0} };
+    ghost was_answered = { λ ledger node place effects. Unit {0} };
 
     fn before(&self, node: &NodeName, place: u64, command: &Command) {
         self.is_told.store(true, Ordering::SeqCst);
@@ -38,8 +40,17 @@ impl Checkpoint for Ledger {
         }
     }
 
-    fn answered(&self, _node: &NodeName, _place: u64, _asks: &Requests) {
+    fn answered(&self, _node: &NodeName, place: u64, asks: &Requests) {
         self.is_told.store(true, Ordering::SeqCst);
+        // Nothing came from the other node yet, so that each starts its own child.
+        let is_of_place = match asks.effect(0) {
+            None => place == 1,
+            Some(Effect::Start { id, .. }) => place == 2 && id.as_str() == "x",
+            Some(Effect::Stop { .. }) => false,
+        };
+        if !is_of_place || asks.effect(1).is_some() {
+            self.is_mistaken.store(true, Ordering::SeqCst);
+        }
     }
 }
 

@@ -19,7 +19,7 @@ struct Lamps {
 impl Checkpoint for Lamps {
     ghost was_before = { λ lamps node command place. Unit {0} };
 
-    ghost was_answered = { λ lamps node place. Unit {0} };
+    ghost was_answered = { λ lamps node place effects. Unit {0} };
 
     fn before(&self, node: &NodeName, place: u64, _command: &Command) {
         match (node.as_str(), place) {

@@ -11,10 +11,10 @@ use crate::verdict::judged_text;
 use std::alloc::Global;
 use std::sync::Wait;
 use std::thread::Threads;
-use sup_cluster::{PlannedRun, Quiet, Runner, run};
+use sup_cluster::{PlannedRun, Quiet, RunHistories, Runner, run};
 use sup_cluster_texts::{ClusterFault, of_run};
 use sup_placement::Weigh;
-use sup_plan::{Histories, Plan};
+use sup_plan::Plan;
 use sup_posts::RunFault;
 
 /// Makes a planned run by threads, and gives what is printed of its nodes once the run is certified and they have settled. What is to be
@@ -51,7 +51,7 @@ fn ended_text<G: Weigh + Copy + Drop>(
     alloc: Global,
     weigher: &G,
     plan: &Plan,
-    ended: Result<Histories, RunFault>,
+    ended: Result<RunHistories, RunFault>,
 ) -> Result<String, ClusterFault>
     requires { ended ≢ Err RunFault.BadPlan }
     ensures prints { IfOk ended (λ histories. IfOk result (λ s. PrintsRun G.weight_of plan.now histories (string_bytes s))) }
@@ -59,7 +59,7 @@ fn ended_text<G: Weigh + Copy + Drop>(
     ensures faulted { IfErr ended (λ fault. result ≡ Err (of_run fault)) }
 {
     match ended {
-        Ok(histories) => judged_text(alloc, weigher, plan, &histories),
+        Ok(histories) => judged_text(alloc, weigher, plan, histories.histories()),
         Err(fault) => Err(of_run(fault)),
     }
 }

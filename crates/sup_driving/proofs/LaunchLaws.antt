@@ -20,7 +20,7 @@ use Rattle.sup_plan.specs.declared.plan.Command.{Command}
 use Rattle.sup_plan.specs.declared.plan.Plan.{Plan}
 use Rattle.sup_posts.specs.Drives.{IsDriveOf}
 use Rattle.sup_posts.specs.Jobs.{IsLane, MayTakeDrive, CarriedLetters, DrivesNode, GivesDriven}
-use Rattle.sup_posts.specs.Rounds.{MakesCalls, StoodByAll, delivery}
+use Rattle.sup_posts.specs.Rounds.{MakesCalls, MakesCommands, delivery}
 use Rattle.sup_posts.specs.declared.thread_fault.ThreadFault.{ThreadFault}
 use Rattle.sup_posts.specs.declared.shared_node.SharedNode.{SharedNode}
 use Rattle.sup_posts.specs.declared.jobs.Lane.{Lane}
@@ -42,7 +42,7 @@ drives_take plan all [] (d ∷ ds) z = absurd z
 drives_take plan all (p ∷ ps) [] z = absurd z
 drives_take plan all (p ∷ ps) (d ∷ ds) z = All-cons (MayTakeDrive all) d ds z.0.takes (drives_take plan all ps ds z.1)
 
-module _ {W : Type 0} {h : WeighGhosts W} (did : Bytes → Effect → Bool → Type 0) (stood : Bytes → Command → ℕ → Type 0) where
+module _ {W : Type 0} {h : WeighGhosts W} (did : Bytes → Effect → Bool → Type 0) (stood : Bytes → Command → ℕ → List Effect → Type 0) where
   -- what the receiver of a job gives
   abbrev Took : List (SharedNode W h) → Receive W h → Reception W h → Type 0
   Took posts receive result = IfOk result (ReceivesLetters did posts receive)
@@ -133,10 +133,9 @@ module _ {W : Type 0} {h : WeighGhosts W} (did : Bytes → Effect → Bool → T
           entries = s.entries;
           calls = s.are ∙ ap (λ v. map asked v.items) t.commands;
           seen = subst (λ x. Sublist s.entries (view_of x).seen) (sym g.seat) s.stand;
-          stood_by = subst (λ v. StoodByAll (stood s.seat.0.name) v.items) t.commands s.stood_by;
-          made = subst (λ x. MakesCalls (did s.seat.0.name) (view_of drive.seat) (map asked drive.commands.items) (view_of x)) (sym g.seat)
-              (subst (λ v. MakesCalls (did s.seat.0.name) (view_of drive.seat) (map asked v.items) (view_of g.steered.seat)) t.commands
-              (subst (λ x. MakesCalls (did s.seat.0.name) (view_of x) (map asked team.lead.commands.items) (view_of g.steered.seat)) t.seat s.made));
+          drove = subst (λ x. MakesCommands (did s.seat.0.name) (stood s.seat.0.name) (view_of drive.seat) drive.commands.items (view_of x)) (sym g.seat)
+              (subst (λ v. MakesCommands (did s.seat.0.name) (stood s.seat.0.name) (view_of drive.seat) v.items (view_of g.steered.seat)) t.commands
+              (subst (λ x. MakesCommands (did s.seat.0.name) (stood s.seat.0.name) (view_of x) team.lead.commands.items (view_of g.steered.seat)) t.seat s.drove));
           carried = subst (λ x. AllZip (CarriedLetters did posts (view_of x).seen) drive.lanes.items driven.arrived.items) (sym g.seat)
               (carried_each posts (view_of g.steered.seat).seen drive.lanes.items team.lead.wires.items team.others.items g.steered.sent.items done.others.items driven.arrived.items t.wires t.others s.sent d.1 g.met);
         }

@@ -11,11 +11,11 @@ use Rattle.sup_node_gate.specs.Histories.{IsPrefix}
 use Rattle.sup_node_gate.specs.Views.{calls_of}
 use Rattle.sup_links.specs.declared.link_out.LinkOut.{LinkOut}
 use Rattle.sup_links.specs.Ends.{has_ended}
-use Rattle.sup_plan.specs.Calls.{Call, call_of}
+use Rattle.sup_plan.specs.Calls.{Call, call_of, asked}
 use Rattle.sup_plan.specs.Sublists.{Sublist}
 use Rattle.sup_plan.specs.declared.plan.Command.{Command}
 use Rattle.sup_posts.specs.Requests.{Unasked}
-use Rattle.sup_posts.specs.Rounds.{ChildIncarnation, IsDone, TellsRunner}
+use Rattle.sup_posts.specs.Rounds.{ChildIncarnation, IsDone, IsRound, StoodByRound, TellsRunner}
 use Rattle.sup_posts.specs.declared.thread_fault.ThreadFault.{ThreadFault}
 use Rattle.sup_posts.specs.declared.thread_fault.ThreadFault.TheVariants.{HistoryFull, LinkClosed, OutOfMemory}
 
@@ -50,9 +50,17 @@ effects_in = flat_map (λ r. r.effects)
 abbrev pub AreOf : Bytes → List Unasked → Type 0
 AreOf name = All (λ r. r.node ≡ name)
 
--- the checkpoint was told of a node's command, and of its answer by the place
-abbrev pub stood_by : {C : Type 0} → (C → Bytes → Command → ℕ → Type 0) → (C → Bytes → ℕ → Type 0) → C → Bytes → Command → ℕ → Type 0
-stood_by before answered checkpoint node command place = before checkpoint node command place × answered checkpoint node place
+-- the checkpoint was told of a node's command, and of its answer, with its effects, by the place
+abbrev pub stood_by : {C : Type 0} → (C → Bytes → Command → ℕ → Type 0) → (C → Bytes → ℕ → List Effect → Type 0) → C → Bytes → Command → ℕ → List Effect → Type 0
+stood_by before answered checkpoint node command place effects = before checkpoint node command place × answered checkpoint node place effects
+
+-- the pass's own calls since are one command's and the exits behind it, and the checkpoint was told of the command, at this place, and of its answer
+pub record MakesCommand (did : Effect → Bool → Type 0) (stood : Command → ℕ → List Effect → Type 0) (v : View) (command : Command) (place : ℕ) (v' : View) : Type 0 where
+  pub round : List Entry
+  pub is : IsRound did (asked command) round
+  pub told : StoodByRound stood command place round
+  pub own : calls_of v' ≡ calls_of v ++ map some round
+  pub shares : v'.shares ≡ v.shares
 
 -- why a thread makes no more calls: the history is full, and it has seen it whole; or memory was refused
 abbrev pub StopsCalling : ℕ → View → ThreadFault → Type 0

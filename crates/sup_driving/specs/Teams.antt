@@ -17,7 +17,7 @@ use Rattle.sup_posts.specs.declared.jobs.Lane.{Lane}
 use Rattle.sup_posts.specs.declared.jobs.Drive.{Drive}
 use Rattle.sup_crew.specs.declared.team.Team.{Team}
 use Rattle.sup_crew.specs.Teams.{AllOfTeam}
-use Rattle.sup_posts.specs.Rounds.{MakesCalls, StoodByAll, delivery}
+use Rattle.sup_posts.specs.Rounds.{MakesCalls, MakesCommands, delivery}
 use Rattle.sup_driving.specs.Wires.{IsUnused}
 use Rattle.sup_driving.specs.declared.teams.Steer.{Steer}
 use Rattle.sup_driving.specs.declared.teams.Receive.{Receive}
@@ -69,15 +69,14 @@ module _ {W : Type 0} {h : WeighGhosts W} where
 
   -- the commands stand in order, each once with its moment, in what the driver's pass has seen, and the letters of all that it has seen were sent,
   -- and nothing else; the pass made no other call but exits of children that didn't start at a command, as the runner answered; the checkpoint was
-  -- told of each command
-  pub record SteersNode (did : Bytes → Effect → Bool → Type 0) (stood : Bytes → Command → ℕ → Type 0) (posts : List (SharedNode W h)) (steer : Steer W h) (steered : Steered W h) : Type 0 where
+  -- told of each command and its answer
+  pub record SteersNode (did : Bytes → Effect → Bool → Type 0) (stood : Bytes → Command → ℕ → List Effect → Type 0) (posts : List (SharedNode W h)) (steer : Steer W h) (steered : Steered W h) : Type 0 where
     pub seat : IsSeatAt posts steer.at steered.seat
     pub entries : List Entry
     pub are : map call_of entries ≡ map asked steer.commands.items
     pub stand : Sublist entries (view_of steered.seat).seen
     pub sent : AllZip (HasSent (view_of steered.seat).seen) steer.wires.items steered.sent.items
-    pub stood_by : StoodByAll (stood seat.0.name) steer.commands.items
-    pub made : MakesCalls (did seat.0.name) (view_of steer.seat) (map asked steer.commands.items) (view_of steered.seat)
+    pub drove : MakesCommands (did seat.0.name) (stood seat.0.name) (view_of steer.seat) steer.commands.items (view_of steered.seat)
 
   -- all that came out of the link was delivered, in its order; the pass made no other call but exits of children that didn't start at it, as
   -- the runner answered

@@ -5,8 +5,8 @@ ghost use Rattle.sup_node_gate.specs.Gates.{IsOf, view_of, bound_of};
 ghost use Rattle.sup_node_gate.specs.InMemory.{failures_by, sound_by};
 ghost use Rattle.sup_station.specs.OpenedStations.{kept_by};
 ghost use Rattle.sup_plan.specs.Calls.{Call, asked};
-ghost use Rattle.sup_posts.specs.Rounds.{MakesCalls, StoodByAll};
-ghost use Rattle.sup_driving.specs.Called.{CallsStand, StopsCalling, stood_by};
+ghost use Rattle.sup_posts.specs.Rounds.{MakesCommands};
+ghost use Rattle.sup_driving.specs.Called.{CallsStand, MakesCommand, StopsCalling, stood_by};
 ghost use Rattle.sup_driving.specs.Wires.{HaveLetters, HaveShipped, IsLater, IsUnused, StopsPutting};
 
 use crate::field::Field;
@@ -35,8 +35,7 @@ impl<'a, R: Wait, W: Weigh, N: Runner, C: Checkpoint> Field<'a, R, W, N, C> {
         ensures later { OnOk result (AllZip IsLater wires.old wires.new) }
         ensures shipped { IfOk result (λ n. HaveShipped n (view_of seat.new).seen wires.new) }
         ensures did { (calls : List Call) → CallsStand calls (view_of seat.old).seen → OnOk result (CallsStand (calls ++ asked command ∷ []) (view_of seat.new).seen) }
-        ensures made { OnOk result (MakesCalls (N.did self.now.runner.now post.now.name) (view_of seat.old) (asked command ∷ []) (view_of seat.new)) }
-        ensures stood { OnOk result (stood_by C.was_before C.was_answered self.now.checkpoint.now post.now.name command place) }
+        ensures made { OnOk result (MakesCommand (N.did self.now.runner.now post.now.name) (stood_by C.was_before C.was_answered self.now.checkpoint.now post.now.name) (view_of seat.old) command place (view_of seat.new)) }
         ensures fault { IfErr result (λ f. StopsCalling (bound_of post.now.gate) (view_of seat.new) f ⊎ StopsPutting wires.new f) }
     {
         self.checkpoint.before(&post.name, place, &command);
@@ -63,8 +62,7 @@ impl<'a, R: Wait, W: Weigh, N: Runner, C: Checkpoint> Field<'a, R, W, N, C> {
         ensures later { OnOk result (AllZip IsLater wires.old wires.new) }
         ensures letters { OnOk result (HaveLetters (view_of seat.new).seen wires.new) }
         ensures did { OnOk result (CallsStand (map asked commands.items) (view_of seat.new).seen) }
-        ensures made { OnOk result (MakesCalls (N.did self.now.runner.now post.now.name) (view_of seat.old) (map asked commands.items) (view_of seat.new)) }
-        ensures stood { OnOk result (StoodByAll (stood_by C.was_before C.was_answered self.now.checkpoint.now post.now.name) commands.items) }
+        ensures made { OnOk result (MakesCommands (N.did self.now.runner.now post.now.name) (stood_by C.was_before C.was_answered self.now.checkpoint.now post.now.name) (view_of seat.old) commands.items (view_of seat.new)) }
         ensures fault { IfErr result (λ f. StopsCalling (bound_of post.now.gate) (view_of seat.new) f ⊎ StopsPutting wires.new f) }
     {
         let mut place: u64 = 0;

@@ -22,7 +22,8 @@ use sup_posts::{Drive, Driven, SharedNode, ThreadFault};
 /// moment, and what the links make of the letters of all answers that the history had then, and of nothing else, is delivered to the other
 /// nodes. The threads make no other calls but exits, with the reason `failed`, of runs that didn't start: each of a run that an answer to the
 /// thread began, of which the runner answered so, and at the moment of the command or the delivery to which it was. Of each node the runner
-/// was told all effects of its answers to the driver and its receivers, by the node's name, and the checkpoint each command, with its place.
+/// was told all effects of its answers to the driver and its receivers, by the node's name, and the checkpoint each command, with its place
+/// and what its answer asks for.
 /// Of the faults of a driver and of the receivers behind its links the gravest is told: want of memory before a full history, and that
 /// before a closed link. Such a driver still ends its links, and a receiver at a full history still takes what comes, and throws it away: so
 /// the others come to their ends.

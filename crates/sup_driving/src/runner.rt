@@ -1,5 +1,5 @@
 //! What those who run a cluster are told while it runs.
-ghost use Rattle.std.specs.Prelude.{◌≡◌, ℕ, Bool, true};
+ghost use Rattle.std.specs.Prelude.{◌≡◌, ℕ, Bool, true, List};
 ghost use Rattle.sup_specs.specs.Values.{Bytes};
 ghost use Rattle.sup_local_sup.specs.declared.effect.Effect.{Effect};
 ghost use Rattle.sup_plan.specs.declared.plan.Command.{Command};
@@ -28,16 +28,17 @@ pub trait Checkpoint {
     /// That it was told of a node, by its name, that this command comes, and at which place, as [`Runner::did`].
     ghost was_before: { Self → Bytes → Command → ℕ → Type 0 };
 
-    /// The same of the answer of the command at this place.
-    ghost was_answered: { Self → Bytes → ℕ → Type 0 };
+    /// The same of the answer of the command at this place, and of the effects that it asks for.
+    ghost was_answered: { Self → Bytes → ℕ → List Effect → Type 0 };
 
     /// Before the node's command at this place, from 1. It is lent the command, which the call then uses up.
     fn before(&self, node: &NodeName, place: u64, command: &Command)
         ensures { was_before self.now node.now command.entry.now place };
 
-    /// After that command was answered. It is lent what the answer asks for, which only the call makes; then the runner is told of it.
+    /// After that command was answered. It is lent what the answer asks for, all of it, which only the call makes; then the runner is told of
+    /// it.
     fn answered(&self, node: &NodeName, place: u64, asks: &Requests)
-        ensures { was_answered self.now node.now place };
+        ensures { was_answered self.now node.now place asks.now.effects };
 }
 
 /// Does nothing, and fails at nothing.
@@ -54,7 +55,7 @@ impl Runner for Quiet {
 impl Checkpoint for Quiet {
     ghost was_before = { λ quiet node command place. Unit {0} };
 
-    ghost was_answered = { λ quiet node place. Unit {0} };
+    ghost was_answered = { λ quiet node place effects. Unit {0} };
 
     fn before(&self, _node: &NodeName, _place: u64, _command: &Command) {}
 

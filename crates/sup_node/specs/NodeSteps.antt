@@ -80,7 +80,7 @@ pub record IsPlanOf (g : Weigher) (s : Station State) (event : Event) (now : ℕ
   pub reads : ReadsMail event mail
   pub ready : IsReady g (stepped g s event now mail) s p
 
--- it is the plan of some event, of the node as it is: a plan that was carried out fits no more
+-- it is the plan of some event, of the node as it is: once it changed the node, that is another one
 abbrev pub IsPlanNow : Weigher → Station State → Planned → Type 0
 IsPlanNow g s p = (event : Event) × (now : ℕ) × IsPlanOf g s event now p
 

@@ -16,7 +16,7 @@ use Rattle.sup_links.specs.Ends.{AreOneLink, script_of, put_of, is_closed, taken
 use Rattle.sup_plan.specs.Calls.{call_of, asked, letters_to, deliveries}
 use Rattle.sup_plan.specs.declared.plan.Command.{Command}
 use Rattle.sup_plan.specs.Sublists.{Sublist}
-use Rattle.sup_posts.specs.Rounds.{MakesCalls, StoodByAll, delivery}
+use Rattle.sup_posts.specs.Rounds.{MakesCalls, MakesCommands, delivery}
 use Rattle.sup_posts.specs.declared.thread_fault.ThreadFault.{ThreadFault}
 use Rattle.sup_posts.specs.declared.shared_node.SharedNode.{SharedNode}
 use Rattle.sup_posts.specs.declared.jobs.Lane.{Lane}
@@ -46,8 +46,8 @@ module _ {W : Type 0} {h : WeighGhosts W} where
     pub seat : IsSeatAt posts drive.at drive.seat
     pub lanes : All (IsLane posts) drive.lanes.items
 
-  -- Two relations are arguments: `did`, what the runner did and answered at nodes, by their names; and `stood`, of which of their commands, and
-  -- at which places, the checkpoint was told. Only their own calls show them.
+  -- Two relations are arguments: `did`, what the runner did and answered at nodes, by their names; and `stood`, of which of their commands, at
+  -- which places, and of which effects of their answers, the checkpoint was told. Only their own calls show them.
 
   -- what the link makes of the letters to the other node, of the answers of these entries, stands in order among the deliveries to that node; the
   -- pass there delivered just this, and made no other call but exits of children that didn't start at it, as the runner answered, which was told
@@ -62,16 +62,15 @@ module _ {W : Type 0} {h : WeighGhosts W} where
 
   -- the commands stand in order, each once with its moment, in what the driver's pass has seen, and the letters of all that it has seen were carried,
   -- and nothing else; the pass made no other call but exits of children that didn't start at a command, as the runner answered, which was told of
-  -- all effects of the answers; the checkpoint was told of each command
-  pub record DrivesNode (did : Bytes → Effect → Bool → Type 0) (stood : Bytes → Command → ℕ → Type 0) (posts : List (SharedNode W h)) (drive : Drive W h) (driven : Driven W h) : Type 0 where
+  -- all effects of the answers; the checkpoint was told of each command and its answer
+  pub record DrivesNode (did : Bytes → Effect → Bool → Type 0) (stood : Bytes → Command → ℕ → List Effect → Type 0) (posts : List (SharedNode W h)) (drive : Drive W h) (driven : Driven W h) : Type 0 where
     pub seat : IsSeatAt posts drive.at driven.seat
     pub entries : List Entry
     pub calls : map call_of entries ≡ map asked drive.commands.items
     pub seen : Sublist entries (view_of driven.seat).seen
-    pub made : MakesCalls (did seat.0.name) (view_of drive.seat) (map asked drive.commands.items) (view_of driven.seat)
-    pub stood_by : StoodByAll (stood seat.0.name) drive.commands.items
+    pub drove : MakesCommands (did seat.0.name) (stood seat.0.name) (view_of drive.seat) drive.commands.items (view_of driven.seat)
     pub carried : AllZip (CarriedLetters did posts (view_of driven.seat).seen) drive.lanes.items driven.arrived.items
 
   -- what a driver gives back
-  abbrev pub GivesDriven : (Bytes → Effect → Bool → Type 0) → (Bytes → Command → ℕ → Type 0) → List (SharedNode W h) → Drive W h → Result (Driven W h) ThreadFault → Type 0
+  abbrev pub GivesDriven : (Bytes → Effect → Bool → Type 0) → (Bytes → Command → ℕ → List Effect → Type 0) → List (SharedNode W h) → Drive W h → Result (Driven W h) ThreadFault → Type 0
   GivesDriven did stood posts drive result = IfOk result (DrivesNode did stood posts drive)

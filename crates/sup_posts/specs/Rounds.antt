@@ -1,6 +1,6 @@
 -- Which calls of its gate a thread of a run makes, and what it tells the runner (the rule of starts that fail): what it has to do, and behind each of
 -- these the exits of children of which the runner answered that they didn't start.
-use Rattle.std.specs.Prelude.{◌≡◌, ℕ, suc, Bool, true, false, List, [], ◌∷◌, ◌++◌, map, flat_map, Some, Ok, Err, slice_get}
+use Rattle.std.specs.Prelude.{◌≡◌, ℕ, suc, Bool, true, false, List, [], ◌∷◌, ◌++◌, map, flat_map, Some, Ok, Err}
 use Rattle.std.specs.List.{AllZip, AllByRecursion}
 use mathlib.Core.Option.{some}
 use Rattle.sup_specs.specs.Values.{Bytes}
@@ -16,7 +16,7 @@ use Rattle.sup_node_gate.specs.declared.entry.Entry.{Entry}
 use Rattle.sup_node_gate.specs.declared.view.View.{View}
 use Rattle.sup_node_gate.specs.Histories.{StationAnswer, may_enter}
 use Rattle.sup_node_gate.specs.Views.{calls_of}
-use Rattle.sup_plan.specs.Calls.{Call, call_of}
+use Rattle.sup_plan.specs.Calls.{Call, call_of, asked}
 use Rattle.sup_plan.specs.declared.plan.Command.{Command}
 
 -- a run of a child: its id and its incarnation
@@ -77,6 +77,24 @@ pub record MakesCalls (did : Effect → Bool → Type 0) (v : View) (calls : Lis
 abbrev pub delivery : Bytes → Call
 delivery text = (Of (Deliver text), 0)
 
--- who stands by was told of all these commands, each with its place, from 1
-abbrev pub StoodByAll : (Command → ℕ → Type 0) → List Command → Type 0
-StoodByAll stood commands = (place : ℕ) (command : Command) → slice_get commands place ≡ Some command → stood command (suc place)
+-- What the checkpoint was told of a node is an argument too, `stood`: a relation of commands, their places and the effects of their answers.
+
+-- the checkpoint was told of this command, at this place, and of what its own answer asks for: that of the round's first entry
+abbrev pub StoodByRound : (Command → ℕ → List Effect → Type 0) → Command → ℕ → List Entry → Type 0
+StoodByRound stood command place [] = ⊥
+StoodByRound stood command place (e ∷ exits) = stood command place (effects_of e.answer)
+
+-- the same of all these commands, each at its place, from this one on, and of the round that it made
+abbrev pub StoodByFrom : (Command → ℕ → List Effect → Type 0) → ℕ → List Command → List (List Entry) → Type 0
+StoodByFrom stood place [] [] = Unit {0}
+StoodByFrom stood place (command ∷ commands) (round ∷ rounds) = StoodByRound stood command place round × StoodByFrom stood (suc place) commands rounds
+StoodByFrom stood place _ _ = ⊥
+
+-- and from the first place on
+abbrev pub StoodByAll : (Command → ℕ → List Effect → Type 0) → List Command → List (List Entry) → Type 0
+StoodByAll stood commands rounds = StoodByFrom stood 1 commands rounds
+
+-- the pass's own calls since are these commands', and the checkpoint was told of each, with its answer
+pub record MakesCommands (did : Effect → Bool → Type 0) (stood : Command → ℕ → List Effect → Type 0) (v : View) (commands : List Command) (v' : View) : Type 0 where
+  pub made : MakesCalls did v (map asked commands) v'
+  pub told : StoodByAll stood commands made.rounds

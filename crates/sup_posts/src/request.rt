@@ -1,8 +1,9 @@
 //! What a node asks of those who run its children.
 ghost use Rattle.std.specs.Prelude.{◌≡◌, ◌∷◌, [], IfNone, IfSome};
+ghost use Rattle.std.specs.Slice.{IsItemAt};
 
+use std::collections::VecDeque;
 use std::marker::Model;
-use std::vec::IntoIter;
 use sup_local_sup::{Effect, Effects};
 use sup_specs::NodeName;
 
@@ -50,16 +51,15 @@ impl Request {
 #[derive(Drop)]
 pub struct Requests {
     node: NodeName,
-    effects: IntoIter<Effect>,
+    effects: VecDeque<Effect>,
 }
 
 impl Model for Requests {
-    ghost use Rattle.std.specs.Vec.Iter.{into_iter_items};
     ghost use Rattle.sup_posts.specs.Requests.{Unasked};
 
     ghost Value = { Unasked };
 
-    ghost view = { λ r. record { node = r.node; effects = into_iter_items r.effects } };
+    ghost view = { λ r. record { node = r.node; effects = r.effects.items } };
 }
 
 impl Requests {
@@ -69,8 +69,15 @@ impl Requests {
     {
         Requests {
             node,
-            effects: effects.into_vec().into_iter(),
+            effects: VecDeque::from_vec(effects.into_vec()),
         }
+    }
+
+    /// The effect at this place, from 0, of those that were not taken out yet; none behind the last.
+    pub fn effect(&self, place: usize) -> Option<&Effect>
+        ensures { IsItemAt self.now.effects place result }
+    {
+        self.effects.get(place)
     }
 
     /// Takes the next one out, in the order of the effects.
@@ -80,7 +87,7 @@ impl Requests {
         ensures none { IfNone result (self.old.effects ≡ []) }
         ensures ended { IfNone result (self.new.effects ≡ []) }
     {
-        let effect = self.effects.next()?;
+        let effect = self.effects.pop_front()?;
         Some(Request {
             node: self.node,
             effect,

@@ -17,7 +17,7 @@ use Rattle.sup_placing.specs.Placing.{placement}
 use Rattle.sup_inspecting.specs.InspectedImages.{InspectsImage}
 use Rattle.sup_program.specs.SimulatedScripts.{simulation}
 use Rattle.sup_program.specs.PerformedRequests.{PerformsRequest, RefusesWords, WantsMemory}
-use Rattle.sup_program.specs.Runs.{EndsWith, IfStatus, RunsWords}
+use Rattle.sup_program.specs.Runs.{IfDone, RunsWords}
 use Rattle.sup_program.specs.declared.run.Ran.{Ran}
 use Rattle.sup_program.specs.declared.run.Ran.TheVariants as Ran
 
@@ -49,11 +49,11 @@ none_taken (Some bytes) = refl
 module _ {R W E : Type 0} (remaining : R → KnownBytes) (contents : W → KnownBytes) (told : E → KnownBytes) (words : List Text) (old left : R) (before written : W) (errors_before errors_written : E) where
   -- what was asked for was done, if that waits for nobody
   pub ran_so : (ran : Ran) (request : Request) → request_of words ≡ Some request
-      → IfStatus ran (λ status. EndsWith status (PerformsRequest (Some request) (remaining old) (remaining left) (contents before) (contents written) (told errors_before) (told errors_written)))
+      → IfDone ran (PerformsRequest (Some request) (remaining old) (remaining left) (contents before) (contents written) (told errors_before) (told errors_written))
       → TakesAtMost 1048577 (remaining old) (remaining left)
-      → IfStatus ran (RunsWords remaining contents told words old left before written errors_before errors_written)
-  ran_so (Ran.Status status) request asked h taken = record {
-    performs = subst (λ a. EndsWith status (PerformsRequest a (remaining old) (remaining left) (contents before) (contents written) (told errors_before) (told errors_written))) (sym asked) h;
+      → IfDone ran (RunsWords remaining contents told words old left before written errors_before errors_written)
+  ran_so (Ran.Done ended) request asked h taken = record {
+    performs = subst (λ a. PerformsRequest a (remaining old) (remaining left) (contents before) (contents written) (told errors_before) (told errors_written) ended) (sym asked) h;
     taken = taken;
     unread = λ none. absurd (none-some request (sym none ∙ asked));
     unwritten = λ none. absurd (none-some request (sym none ∙ asked));
@@ -63,14 +63,10 @@ module _ {R W E : Type 0} (remaining : R → KnownBytes) (contents : W → Known
 module _ {R W E : Type 0} (remaining : R → KnownBytes) (contents : W → KnownBytes) (told : E → KnownBytes) (words : List Text) (reader : R) (writer : W) (errors_before errors_written : E) where
   -- nothing was read or written
   pub unstarted_run : (ended : Ended) → PerformsRequest (request_of words) (remaining reader) (remaining reader) (contents writer) (contents writer) (told errors_before) (told errors_written) ended
-      → RunsWords remaining contents told words reader reader writer writer errors_before errors_written ended.status
+      → RunsWords remaining contents told words reader reader writer writer errors_before errors_written ended
   unstarted_run ended h = record {
-    performs = (ended, refl, h);
+    performs = h;
     taken = ([], omega arith, none_taken (remaining reader));
     unread = λ _. refl;
     unwritten = λ _. refl;
   }
-
--- an end of which only the status is told
-pub ended_so : (Is : Ended → Type 0) (ended : Ended) → Is ended → EndsWith ended.status Is
-ended_so Is ended h = (ended, refl, h)

@@ -4,7 +4,7 @@ ghost use Rattle.std.specs.Prelude.{◌≡◌, ◌+◌, None, Some, map};
 ghost use Rattle.sup_command_line.specs.Requests.{request_of};
 ghost use Rattle.sup_jobs.specs.Ends.{TakesAtMost};
 ghost use Rattle.sup_program.specs.PerformedRequests.{PerformsRequest, RefusesWords, WantsMemory};
-ghost use Rattle.sup_program.specs.Runs.{EndsWith, IfCluster, IfStatus, RunsWords};
+ghost use Rattle.sup_program.specs.Runs.{IfCluster, IfDone, RunsWords};
 
 use crate::simulate::simulate;
 use clap::Error;
@@ -33,15 +33,15 @@ pub struct Options {
 /// How a run ended that waits for nobody.
 #[derive(Clone, Copy, Debug, PartialEq, Eq)]
 pub enum Ran {
-    /// With this exit status.
-    Status(u8),
+    /// It is done, and ended so.
+    Done(Ended),
     /// It is still to be done: the words ask for a cluster with these options, which only threads can run.
     Cluster(Options),
 }
 
 /// Runs the commands that wait for nobody, and answers how that ended: with exit status 0, or 1 where the input is bad, `USAGE` where
-/// the words are refused, and 3 where the device or memory ended it; or that the words ask for a cluster, with nothing read or written.
-/// The words are those after the program's name. Faults of the error writer are passed over.
+/// the words are refused, and 3 where the device or memory ended it, and whether the error writer took all that it was told; or that the
+/// words ask for a cluster, with nothing read or written. The words are those after the program's name.
 pub fn run_plain<S: AsStr, R: Read, W: Write, E: Write>(
     alloc: Global,
     words: &[S],
@@ -49,7 +49,7 @@ pub fn run_plain<S: AsStr, R: Read, W: Write, E: Write>(
     writer: &mut W,
     errors: &mut E,
 ) -> Ran
-    ensures status { IfStatus result (RunsWords R.remaining W.contents E.contents (map S.text words.now) reader.old reader.new
+    ensures done { IfDone result (RunsWords R.remaining W.contents E.contents (map S.text words.now) reader.old reader.new
         writer.old writer.new errors.old errors.new) }
     ensures asked { IfCluster result (λ o. request_of (map S.text words.now) ≡ Some (Request.Cluster o.weigh o.config)) }
     ensures unread { IfCluster result (λ _. reader.new ≡ reader.old) }
@@ -58,8 +58,8 @@ pub fn run_plain<S: AsStr, R: Read, W: Write, E: Write>(
 {
     match read_words(alloc, words) {
         Ok(request) => perform(alloc, request, reader, writer, errors),
-        Err(error) if is_want_of_memory(&error) => Ran::Status(want_of_memory(errors).status),
-        Err(error) => Ran::Status(refuse(alloc, &error, errors).status),
+        Err(error) if is_want_of_memory(&error) => Ran::Done(want_of_memory(errors)),
+        Err(error) => Ran::Done(refuse(alloc, &error, errors)),
     }
 }
 
@@ -71,8 +71,8 @@ fn perform<R: Read, W: Write, E: Write>(
     writer: &mut W,
     errors: &mut E,
 ) -> Ran
-    ensures status { IfStatus result (λ status. EndsWith status (PerformsRequest (Some request) (R.remaining reader.old) (R.remaining reader.new)
-        (W.contents writer.old) (W.contents writer.new) (E.contents errors.old) (E.contents errors.new))) }
+    ensures done { IfDone result (PerformsRequest (Some request) (R.remaining reader.old) (R.remaining reader.new)
+        (W.contents writer.old) (W.contents writer.new) (E.contents errors.old) (E.contents errors.new)) }
     ensures taken { TakesAtMost (LIMIT + 1) (R.remaining reader.old) (R.remaining reader.new) }
     ensures asked { IfCluster result (λ o. request ≡ Request.Cluster o.weigh o.config) }
     ensures unread { IfCluster result (λ _. reader.new ≡ reader.old) }
@@ -81,17 +81,17 @@ fn perform<R: Read, W: Write, E: Write>(
 {
     match request {
         Request::Simulate { weighing, config } => {
-            Ran::Status(simulate_by(alloc, weighing, config, reader, writer, errors).status)
+            Ran::Done(simulate_by(alloc, weighing, config, reader, writer, errors))
         }
         Request::Cluster {
             weighing: weigh,
             config,
         } => Ran::Cluster(Options { weigh, config }),
         Request::Place { weighing } => {
-            Ran::Status(place_by(alloc, weighing, reader, writer, errors).status)
+            Ran::Done(place_by(alloc, weighing, reader, writer, errors))
         }
         Request::Inspect { weighing } => {
-            Ran::Status(inspect_by(alloc, weighing, reader, writer, errors).status)
+            Ran::Done(inspect_by(alloc, weighing, reader, writer, errors))
         }
     }
 }

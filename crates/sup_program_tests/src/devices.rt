@@ -1,5 +1,5 @@
 //! Readers and writers that fail.
-use crate::runs::{OUTPUT, SCRIPT, expect_run, simulate};
+use crate::runs::{OUTPUT, SCRIPT, expect_run, of_status, simulate};
 use std::alloc::Global;
 use std::io::{self, ErrorKind, Read, Write};
 use std::process::Abort;
@@ -142,7 +142,7 @@ fn a_placement_whose_reader_fails_is_a_device_fault(rt: HostRuntime) {
     let mut written = Vec::new(rt.alloc());
     let mut told = Vec::new(rt.alloc());
     let words = ["place", "--weigh", "flat"];
-    let status = run(
+    let ended = run(
         &rt,
         rt.alloc(),
         &words,
@@ -150,7 +150,7 @@ fn a_placement_whose_reader_fails_is_a_device_fault(rt: HostRuntime) {
         &mut written,
         &mut told,
     );
-    assert!(rt; status == 3 && written.is_empty());
+    assert!(rt; ended == of_status(3) && written.is_empty());
     assert!(rt; told.as_slice() == b"device\n".as_slice());
 }
 
@@ -165,7 +165,7 @@ fn expect_front(
     let mut writer = Short::new(rt.alloc(), room);
     let mut errors = Vec::new(rt.alloc());
     let words = ["simulate", "--weigh", "flat"];
-    let status = run(
+    let ended = run(
         rt,
         rt.alloc(),
         &words,
@@ -176,9 +176,9 @@ fn expect_front(
     let count = output.len().min(room);
     assert!(rt; writer.bytes.as_slice() == &output[..count]);
     if room < output.len() {
-        assert!(rt; status == 3 && errors.as_slice() == b"device\n".as_slice());
+        assert!(rt; ended == of_status(3) && errors.as_slice() == b"device\n".as_slice());
     } else {
-        assert!(rt; status == 0 && errors.is_empty());
+        assert!(rt; ended == of_status(0) && errors.is_empty());
     }
 }
 
@@ -204,7 +204,7 @@ fn what_a_placement_wrote_before_a_fault_stays(rt: HostRuntime) {
         let mut writer = Short::new(rt.alloc(), room);
         let mut errors = Vec::new(rt.alloc());
         let words = ["place", "--weigh", "flat"];
-        let status = run(
+        let ended = run(
             &rt,
             rt.alloc(),
             &words,
@@ -213,19 +213,19 @@ fn what_a_placement_wrote_before_a_fault_stays(rt: HostRuntime) {
             &mut errors,
         );
         assert!(rt; writer.bytes.as_slice() == &output[..room]);
-        assert!(rt; status == 3 && errors.as_slice() == b"device\n".as_slice());
+        assert!(rt; ended == of_status(3) && errors.as_slice() == b"device\n".as_slice());
     }
 }
 
 #[test]
-fn faults_of_the_error_writer_are_passed_over(rt: HostRuntime) {
+fn faults_of_the_error_writer_are_told_beside_the_status(rt: HostRuntime) {
     let line = b"bad line 12\n".as_slice();
     for room in 0..line.len() {
         let mut reader = b"\n\n\n\n\n\n\n\n\n\n\nshow\n".as_slice();
         let mut writer = Vec::new(rt.alloc());
         let mut errors = Short::new(rt.alloc(), room);
-        let status = simulate(&rt, rt.alloc(), &mut reader, &mut writer, &mut errors);
-        assert!(rt; status == 1 && writer.is_empty());
+        let ended = simulate(&rt, rt.alloc(), &mut reader, &mut writer, &mut errors);
+        assert!(rt; ended.status == 1 && ended.told.is_err() && writer.is_empty());
         assert!(rt; errors.bytes.as_slice() == &line[..room]);
     }
 }
@@ -235,7 +235,7 @@ fn usage_that_cant_be_told_keeps_its_status(rt: HostRuntime) {
     let mut reader = SCRIPT;
     let mut writer = Vec::new(rt.alloc());
     let mut errors = Short::new(rt.alloc(), 0);
-    let status = run(
+    let ended = run(
         &rt,
         rt.alloc(),
         &["simulat"],
@@ -243,5 +243,6 @@ fn usage_that_cant_be_told_keeps_its_status(rt: HostRuntime) {
         &mut writer,
         &mut errors,
     );
-    assert!(rt; status == 2 && writer.is_empty() && errors.bytes.is_empty());
+    assert!(rt; ended.status == 2 && ended.told.is_err());
+    assert!(rt; writer.is_empty() && errors.bytes.is_empty());
 }

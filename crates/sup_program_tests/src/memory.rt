@@ -53,7 +53,7 @@ fn run_lean(
     let mut reader = input;
     let mut writer = printed;
     let mut error_writer = errors;
-    let status = run(
+    let ended = run(
         rt,
         rt.alloc(),
         words,
@@ -62,7 +62,7 @@ fn run_lean(
         &mut error_writer,
     );
     LeanRun {
-        status,
+        status: ended.status,
         written: room.saturating_sub(writer.len()),
         told: errors_room.saturating_sub(error_writer.len()),
     }

@@ -2,6 +2,7 @@
 use crate::runs::{OUTPUT, SCRIPT};
 use std::process::Abort;
 use sup_command_line::Weighing;
+use sup_jobs::Ended;
 use sup_program::run::{Options, Ran, run_plain};
 use sup_replica::Config;
 
@@ -10,16 +11,22 @@ fn expect_plain(
     rt: &(impl Abort + AllocGlobal),
     words: &[&str],
     input: &[u8],
-    ran: Ran,
+    status: u8,
     output: &[u8],
 ) {
     let mut reader = input;
     let mut written = Vec::new(rt.alloc());
     let mut told = Vec::new(rt.alloc());
     let ended = run_plain(rt.alloc(), words, &mut reader, &mut written, &mut told);
-    assert!(rt; ended == ran);
+    assert!(rt;
+        ended
+            == Ran::Done(Ended {
+                status,
+                told: Ok(())
+            })
+    );
     assert!(rt; written.as_slice() == output);
-    assert!(rt; told.is_empty() == (ran == Ran::Status(0)));
+    assert!(rt; told.is_empty() == (status == 0));
 }
 
 // Expects that these words ask for a cluster with these options, and that nothing is read or
@@ -49,12 +56,12 @@ fn expect_cluster(
 
 #[test]
 fn a_run_ends_with_its_status(rt: HostRuntime) {
-    expect_plain(&rt, &["simulate"], SCRIPT, Ran::Status(0), OUTPUT);
-    expect_plain(&rt, &["place"], b"members a\nx\n", Ran::Status(0), b"x a\n");
-    expect_plain(&rt, &["simulate"], b"show a\n", Ran::Status(1), b"");
-    expect_plain(&rt, &["place"], b"nodes a\n", Ran::Status(1), b"");
-    expect_plain(&rt, &["simulate", "x"], SCRIPT, Ran::Status(2), b"");
-    expect_plain(&rt, &[], SCRIPT, Ran::Status(2), b"");
+    expect_plain(&rt, &["simulate"], SCRIPT, 0, OUTPUT);
+    expect_plain(&rt, &["place"], b"members a\nx\n", 0, b"x a\n");
+    expect_plain(&rt, &["simulate"], b"show a\n", 1, b"");
+    expect_plain(&rt, &["place"], b"nodes a\n", 1, b"");
+    expect_plain(&rt, &["simulate", "x"], SCRIPT, 2, b"");
+    expect_plain(&rt, &[], SCRIPT, 2, b"");
 }
 
 #[test]
@@ -68,12 +75,6 @@ fn a_cluster_is_left_to_threads(rt: HostRuntime) {
         "--intensity=2",
     ];
     expect_cluster(&rt, &words, Weighing::Flat, (2, 3, 4));
-    expect_plain(&rt, &["cluster", "x"], SCRIPT, Ran::Status(2), b"");
-    expect_plain(
-        &rt,
-        &["cluster", "--buffer", "0"],
-        SCRIPT,
-        Ran::Status(2),
-        b"",
-    );
+    expect_plain(&rt, &["cluster", "x"], SCRIPT, 2, b"");
+    expect_plain(&rt, &["cluster", "--buffer", "0"], SCRIPT, 2, b"");
 }

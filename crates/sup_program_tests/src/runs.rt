@@ -4,6 +4,7 @@ use std::io::{Read, Write};
 use std::process::Abort;
 use std::sync::Wait;
 use std::thread::Threads;
+use sup_jobs::Ended;
 use sup_program::run::USAGE;
 use sup_supctl::run::run;
 
@@ -12,13 +13,21 @@ pub(crate) const SCRIPT: &[u8] = b"# two nodes\nnodes a b\n\nshow b\nshow z\nsho
 
 pub(crate) const OUTPUT: &[u8] = b"node b boot 1\nrefused 3 UnknownNode\nnode a boot 1\n";
 
+/// An end with this status, whose line was told.
+pub(crate) fn of_status(status: u8) -> Ended {
+    Ended {
+        status,
+        told: Ok(()),
+    }
+}
+
 pub(crate) fn simulate<T: Threads + Wait + Sync, R: Read, W: Write, E: Write>(
     rt: &T,
     alloc: Global,
     reader: &mut R,
     writer: &mut W,
     errors: &mut E,
-) -> u8 {
+) -> Ended {
     run(rt, alloc, &["simulate"], reader, writer, errors)
 }
 
@@ -32,7 +41,8 @@ pub(crate) fn expect_run<R: Read>(
 ) {
     let mut written = Vec::new(rt.alloc());
     let mut told = Vec::new(rt.alloc());
-    assert!(rt; simulate(rt, rt.alloc(), reader, &mut written, &mut told) == status);
+    let ended = simulate(rt, rt.alloc(), reader, &mut written, &mut told);
+    assert!(rt; ended == of_status(status));
     assert!(rt; written.as_slice() == output && told.as_slice() == errors);
 }
 
@@ -49,7 +59,8 @@ pub(crate) fn expect(
     let mut written = Vec::new(rt.alloc());
     let mut told = Vec::new(rt.alloc());
     let ended = run(rt, rt.alloc(), words, &mut reader, &mut written, &mut told);
-    assert!(rt; ended == status, "{ended}");
+    let came = ended.status;
+    assert!(rt; ended == of_status(status), "{came}");
     let text = std::str::from_utf8(written.as_slice()).unwrap_or("");
     assert!(rt; written.as_slice() == output, "{text}");
     assert!(rt; told.as_slice() == errors);
@@ -65,7 +76,8 @@ pub(crate) fn expect_usage(
     let mut written = Vec::new(rt.alloc());
     let mut told = Vec::new(rt.alloc());
     let ended = run(rt, rt.alloc(), words, &mut reader, &mut written, &mut told);
-    assert!(rt; ended == USAGE && ended == 2, "{ended}");
+    let came = ended.status;
+    assert!(rt; ended == of_status(USAGE) && USAGE == 2, "{came}");
     assert!(rt; reader.len() == input.len());
     assert!(rt; written.is_empty());
     let text = std::str::from_utf8(told.as_slice()).unwrap_or("");

@@ -1,4 +1,5 @@
 //! Runs whose words can't be had.
+use crate::runs::of_status;
 use std::io::{self, ErrorKind};
 use std::process::Abort;
 use std::sync::Wait;
@@ -18,7 +19,7 @@ fn expect_wordless(
     let mut told = Vec::new(rt.alloc());
     let words = Err(io::Error::from(kind));
     let ended = run_with(rt, rt.alloc(), words, &mut reader, &mut written, &mut told);
-    assert!(rt; ended == status);
+    assert!(rt; ended == of_status(status));
     assert!(rt; reader.len() == 15 && written.is_empty());
     assert!(rt; told.as_slice() == errors);
 }

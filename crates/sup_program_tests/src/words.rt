@@ -1,4 +1,5 @@
 //! The words that the program is started with.
+use crate::runs::of_status;
 use std::env::{self, Env, FillError};
 use std::io::ErrorKind;
 use std::process::Abort;
@@ -72,7 +73,7 @@ fn expect_started(
     let mut written = Vec::new(rt.alloc());
     let mut told = Vec::new(rt.alloc());
     let ended = run_with(rt, rt.alloc(), words, &mut reader, &mut written, &mut told);
-    assert!(rt; ended == status);
+    assert!(rt; ended == of_status(status));
     assert!(rt; written.as_slice() == output && told.as_slice() == errors);
     assert!(rt; reader.is_empty() == (status == 0));
 }

@@ -14,6 +14,6 @@ over_input Runs given input before errors same none untold runs =
 
 -- what is told of an outcome that came of the case's run judges the case
 pub judges : {E : Type 0} (name : List ℕ) (case : Case) (came : Outcome) (before after : Option (List ℕ)) (told : Result Bool E)
-    → CameOfRun (lines (string_bytes case.words)) case.input.items came → IfOk told (TellsOutcome name case.wanted came before after) → IfOk told (JudgesCase name case before after)
+    → CameOfRun (lines (string_bytes case.given.words)) case.given.input.items came → IfOk told (TellsOutcome name case.wanted came before after) → IfOk told (JudgesCase name case before after)
 judges name case came before after (Ok well) ran tells = record { came = came; of_run = ran; tells = tells }
 judges name case came before after (Err error) ran tells = tt

@@ -14,10 +14,16 @@ use std::thread::Threads;
 use sup_program::run::USAGE;
 use sup_supctl::run::run;
 
+/// What the program is given.
 #[derive(Drop)]
-pub(crate) struct Case {
+pub(crate) struct Given {
     words: String,
     input: Vec<u8>,
+}
+
+#[derive(Drop)]
+pub(crate) struct Case {
+    pub(crate) given: Given,
     pub(crate) wanted: Outcome,
 }
 
@@ -25,8 +31,10 @@ impl Case {
     /// Reads the files of the case of this name.
     pub(crate) fn read(rt: &(impl Files + AllocGlobal), name: &str) -> io::Result<Case> {
         Ok(Case {
-            words: read_text(rt, name, "args")?,
-            input: read_part(rt, name, "stdin")?,
+            given: Given {
+                words: read_text(rt, name, "args")?,
+                input: read_part(rt, name, "stdin")?,
+            },
             wanted: Outcome {
                 status: read_text(rt, name, "status")?,
                 output: read_part(rt, name, "stdout")?,
@@ -34,20 +42,22 @@ impl Case {
             },
         })
     }
+}
 
-    /// Runs the program, and answers what came of it.
+impl Given {
+    /// Runs the program once, and answers what came of it.
     pub(crate) fn play(
-        &self,
+        self,
         rt: &(impl Threads + Wait + Sync),
         alloc: Global,
     ) -> io::Result<Outcome>
-        ensures { IfOk result (CameOfRun (lines (string_bytes self.now.words)) self.now.input.items) }
+        ensures { IfOk result (CameOfRun (lines (string_bytes self.words)) self.input.items) }
     {
         let words = words_of(alloc, &self.words)?;
         let mut reader = self.input.as_slice();
         let mut output = Vec::new(alloc);
         let mut errors = Vec::new(alloc);
-        let status = run(
+        let ended = run(
             rt,
             alloc,
             words.as_slice(),
@@ -55,6 +65,7 @@ impl Case {
             &mut output,
             &mut errors,
         );
+        let status = ended.status;
         let (left, given) = (reader.len(), self.input.len());
         Ok(Outcome {
             status: format!(in alloc; "{status}\n")?,

@@ -29,7 +29,7 @@ fn main(rt: HostRuntime) -> io::Result<ExitCode> {
     let mut status = ExitCode::SUCCESS;
     for name in names.lines() {
         let case = Case::read(&rt, name)?;
-        if !goes_well(&rt, rt.alloc(), name, &case, &mut rt.stdout())? {
+        if !goes_well(&rt, rt.alloc(), name, case, &mut rt.stdout())? {
             status = ExitCode::FAILURE;
         }
     }
@@ -41,13 +41,14 @@ fn goes_well<T: Threads + Wait + Sync, W: Write>(
     rt: &T,
     alloc: Global,
     name: &str,
-    case: &Case,
+    case: Case,
     writer: &mut W,
 ) -> io::Result<bool>
-    ensures { IfOk result (JudgesCase name.now case.now (W.contents writer.old) (W.contents writer.new)) }
+    ensures { IfOk result (JudgesCase name.now case (W.contents writer.old) (W.contents writer.new)) }
 {
-    let came = case.play(rt, alloc)?;
-    tell(name, &case.wanted, &came, writer)
+    let Case { given, wanted } = case;
+    let came = given.play(rt, alloc)?;
+    tell(name, &wanted, &came, writer)
 }
 
 // Tells how a case went of which this was wanted and that came, and whether these are the same.

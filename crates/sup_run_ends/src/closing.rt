@@ -11,6 +11,7 @@ ghost use Rattle.sup_run_ends.specs.Passes.{IsMadeBy, AreMadeBy, of_arrived};
 ghost use Rattle.sup_run_ends.specs.Steps.{IsSeatOf, IsArrived, IsHistoryOf, BeginsWithSeen, EndsHistory, ReturnsDriven, AreFinished, IsFaultOf};
 
 use crate::joining::{join_all, separate, take_apart};
+use crate::run_histories::RunHistories;
 use std::alloc::Global;
 use sup_placement::Weigh;
 use sup_plan::History;
@@ -99,12 +100,12 @@ pub fn finish<W: Weigh>(
     alloc: Global,
     posts: Vec<SharedNode<W>>,
     results: Vec<Result<Driven<W>, ThreadFault>>,
-) -> Result<Vec<History>, ThreadFault>
+) -> Result<RunHistories, ThreadFault>
     requires { AllZip (ReturnsDriven posts.items) posts.items results.items }
-    ensures histories { IfOk result (λ hs. AreFinished W.weight_of posts.items results.items hs.items) }
+    ensures histories { IfOk result (λ hs. AreFinished W.weight_of posts.items results.items hs) }
     ensures fault { IfErr result (IsFaultOf results.items) }
 {
     let (seats, arrived) = take_apart(alloc, results)?;
     let histories = close_all(alloc, posts, seats, arrived)?;
-    Ok(histories)
+    Ok(RunHistories::of(histories))
 }

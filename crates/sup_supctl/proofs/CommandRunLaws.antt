@@ -1,5 +1,5 @@
 -- What the commands that wait for nobody do is what a run does, and so is what a cluster does.
-use Rattle.std.proofs.Common.{◌≡◌, ℕ, List, [], Option, Some, None, Err, refl, sym, subst, ◌∙◌, arith}
+use Rattle.std.proofs.Common.{◌≡◌, List, [], Option, Some, None, Err, sym, subst, ◌∙◌, arith}
 use Rattle.std.specs.Io.KnownBytes.{Consumes, Keeps}
 use Rattle.std.proofs.lemmas.Option.{none-some}
 use Rattle.clap.specs.Words.{Text}
@@ -37,9 +37,9 @@ performed (Some (Place weighing)) input left before written errors_before errors
 performed (Some (Inspect weighing)) input left before written errors_before errors_written ended h = h
 
 module _ {R W E : Type 0} (remaining : R → KnownBytes) (contents : W → KnownBytes) (told : E → KnownBytes) (words : List Text) (old left : R) (before written : W) (errors_before errors_written : E) where
-  pub all : (status : ℕ) → RunsWords remaining contents told words old left before written errors_before errors_written status → RunsAll remaining contents told words old left before written errors_before errors_written status
-  all status h = record {
-    performs = (h.performs.0, h.performs.1, performed (request_of words) (remaining old) (remaining left) (contents before) (contents written) (told errors_before) (told errors_written) h.performs.0 h.performs.2);
+  pub all : (ended : Ended) → RunsWords remaining contents told words old left before written errors_before errors_written ended → RunsAll remaining contents told words old left before written errors_before errors_written ended
+  all ended h = record {
+    performs = performed (request_of words) (remaining old) (remaining left) (contents before) (contents written) (told errors_before) (told errors_written) ended h.performs;
     taken = h.taken;
     unread = h.unread;
     unwritten = h.unwritten;
@@ -50,13 +50,13 @@ module _ {R W E : Type 0} (remaining : R → KnownBytes) (contents : W → Known
       → mid ≡ old → kept ≡ before → quiet ≡ errors_before
       → RunsCluster (weight_of weighing) config (remaining mid) (remaining left) (contents kept) (contents written) (told quiet) (told errors_written) ended
       → TakesAtMost 1048577 (remaining mid) (remaining left)
-      → RunsAll remaining contents told words old left before written errors_before errors_written ended.status
+      → RunsAll remaining contents told words old left before written errors_before errors_written ended
   clustered mid kept quiet weighing config ended asked unread unwritten untold does taken =
       let read = subst (λ r. RunsCluster (weight_of weighing) config (remaining r) (remaining left) (contents kept) (contents written) (told quiet) (told errors_written) ended) unread does in
       let wrote = subst (λ w. RunsCluster (weight_of weighing) config (remaining old) (remaining left) (contents w) (contents written) (told quiet) (told errors_written) ended) unwritten read in
       let tells = subst (λ e. RunsCluster (weight_of weighing) config (remaining old) (remaining left) (contents before) (contents written) (told e) (told errors_written) ended) untold wrote in
       record {
-        performs = (ended, refl, subst (λ a. PerformsAll a (remaining old) (remaining left) (contents before) (contents written) (told errors_before) (told errors_written) ended) (sym asked) tells);
+        performs = subst (λ a. PerformsAll a (remaining old) (remaining left) (contents before) (contents written) (told errors_before) (told errors_written) ended) (sym asked) tells;
         taken = subst (λ r. TakesAtMost 1048577 (remaining r) (remaining left)) unread taken;
         unread = λ none. absurd (none-some (Cluster weighing config) (sym none ∙ asked));
         unwritten = λ none. absurd (none-some (Cluster weighing config) (sym none ∙ asked));

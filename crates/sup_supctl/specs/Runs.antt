@@ -12,7 +12,6 @@ use Rattle.sup_jobs.specs.declared.fault.Ended.{Ended}
 use Rattle.sup_jobs.specs.Ends.{KnownBytes, TakesAtMost}
 use Rattle.sup_clustering.specs.ClusterRuns.{RunsCluster}
 use Rattle.sup_program.specs.PerformedRequests.{PerformsRequest, TellsUsage, WantsMemory}
-use Rattle.sup_program.specs.Runs.{EndsWith}
 
 -- A cluster is run by threads. All else is done as the commands do it that wait for nobody.
 abbrev pub PerformsAll : Option Request → KnownBytes → KnownBytes → KnownBytes → KnownBytes → KnownBytes → KnownBytes → Ended → Type 0
@@ -33,15 +32,15 @@ no_text_line = codes "error: invalid UTF-8 was detected in one or more arguments
 
 module _ {R W E : Type 0} (remaining : R → KnownBytes) (contents : W → KnownBytes) (told : E → KnownBytes) where
   -- What a run does that was started with these words.
-  pub record RunsAll (words : List Text) (old left : R) (before written : W) (errors_before errors_written : E) (status : ℕ) : Type 0 where
-    pub performs : EndsWith status (PerformsAll (request_of words) (remaining old) (remaining left) (contents before) (contents written) (told errors_before) (told errors_written))
+  pub record RunsAll (words : List Text) (old left : R) (before written : W) (errors_before errors_written : E) (ended : Ended) : Type 0 where
+    pub performs : PerformsAll (request_of words) (remaining old) (remaining left) (contents before) (contents written) (told errors_before) (told errors_written) ended
     pub taken : TakesAtMost 1048577 (remaining old) (remaining left)
     pub unread : request_of words ≡ None → left ≡ old
     pub unwritten : request_of words ≡ None → written ≡ before
 
   -- What it does that was to be started with words that can't be had.
-  pub record RunsWithout (error : Error) (old left : R) (before written : W) (errors_before errors_written : E) (status : ℕ) : Type 0 where
-    pub usage : error_kind error ≢ kind.OutOfMemory → EndsWith status (TellsUsage no_text_line (told errors_before) (told errors_written))
-    pub memory : error_kind error ≡ kind.OutOfMemory → EndsWith status (WantsMemory (told errors_before) (told errors_written))
+  pub record RunsWithout (error : Error) (old left : R) (before written : W) (errors_before errors_written : E) (ended : Ended) : Type 0 where
+    pub usage : error_kind error ≢ kind.OutOfMemory → TellsUsage no_text_line (told errors_before) (told errors_written) ended
+    pub memory : error_kind error ≡ kind.OutOfMemory → WantsMemory (told errors_before) (told errors_written) ended
     pub unread : left ≡ old
     pub unwritten : written ≡ before

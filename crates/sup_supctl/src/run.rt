@@ -18,8 +18,8 @@ use sup_placement::{FlatWeigh, Sha256Weigh};
 use sup_program::run::{Options, Ran, run_plain};
 
 /// Runs the program, and answers its exit status: 0, or 1 where the input is bad, 2 where the words are refused, 3 where the device or
-/// memory ended it, or a full history or a closed link of a cluster, and 4 where a cluster isn't certified. The words are those after
-/// the program's name. Faults of the error writer are passed over. In code, though by no clause, threads are made only where the words
+/// memory ended it, or a full history or a closed link of a cluster, and 4 where a cluster isn't certified; and whether the error writer
+/// took all that it was told. The words are those after the program's name. In code, though by no clause, threads are made only where the words
 /// ask for a cluster, and only there may it wait for one.
 pub fn run<T: Threads + Wait + Sync, S: AsStr, R: Read, W: Write, E: Write>(
     rt: &T,
@@ -28,13 +28,13 @@ pub fn run<T: Threads + Wait + Sync, S: AsStr, R: Read, W: Write, E: Write>(
     reader: &mut R,
     writer: &mut W,
     errors: &mut E,
-) -> u8
+) -> Ended
     ensures { RunsAll R.remaining W.contents E.contents (map S.text words.now) reader.old reader.new
         writer.old writer.new errors.old errors.new result }
 {
     match run_plain(alloc, words, reader, writer, errors) {
-        Ran::Status(status) => status,
-        Ran::Cluster(options) => run_options(rt, alloc, options, reader, writer, errors).status,
+        Ran::Done(ended) => ended,
+        Ran::Cluster(options) => run_options(rt, alloc, options, reader, writer, errors),
     }
 }
 

@@ -30,7 +30,7 @@ pub fn words_of(alloc: Global, arguments: io::Result<Args>) -> io::Result<Vec<St
     Ok(words)
 }
 
-/// Runs the program with the words after its name, or tells why they can't be had. Answers the exit status: that of `run`, or 3 where
+/// Runs the program with the words after its name, or tells why they can't be had. Answers as `run` does, or with status 3 where
 /// memory for the words was refused, or else `USAGE`.
 pub fn run_with<T: Threads + Wait + Sync, R: Read, W: Write, E: Write>(
     rt: &T,
@@ -39,7 +39,7 @@ pub fn run_with<T: Threads + Wait + Sync, R: Read, W: Write, E: Write>(
     reader: &mut R,
     writer: &mut W,
     errors: &mut E,
-) -> u8
+) -> Ended
     ensures runs { IfOk words (λ given. RunsAll R.remaining W.contents E.contents (map string_bytes given.items)
         reader.old reader.new writer.old writer.new errors.old errors.new result) }
     ensures without { IfErr words (λ error. RunsWithout R.remaining W.contents E.contents error
@@ -47,10 +47,7 @@ pub fn run_with<T: Threads + Wait + Sync, R: Read, W: Write, E: Write>(
 {
     match words {
         Ok(words) => run(rt, alloc, words.as_slice(), reader, writer, errors),
-        Err(error) => {
-            let ended = without_words(&error, errors);
-            ended.status
-        }
+        Err(error) => without_words(&error, errors),
     }
 }
 

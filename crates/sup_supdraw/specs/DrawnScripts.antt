@@ -11,7 +11,6 @@ use Rattle.sup_jobs.specs.declared.fault.Ended.{Ended}
 use Rattle.sup_jobs.specs.Ends.{KnownBytes, Job, Does}
 use Rattle.sup_jobs.specs.Tells.{IsCutShort, Tells}
 use Rattle.sup_program.specs.PerformedRequests.{WantsMemory}
-use Rattle.sup_program.specs.Runs.{EndsWith}
 use Rattle.sup_drawing.specs.Drawn.{DrawsScript}
 use Rattle.sup_drawing.specs.Lines.{Captions}
 
@@ -50,18 +49,10 @@ abbrev pub DrawsTo : Weigher → Config → KnownBytes → KnownBytes → KnownB
 DrawsTo weigher config input left before written errors_before errors_written ended =
     Does (drawing weigher config) input left before written errors_before errors_written ended
 
--- The run ended so, with this status; whether the error writer took all that it was told is passed over.
-abbrev pub DrawsWith : Weigher → Config → KnownBytes → KnownBytes → KnownBytes → KnownBytes → KnownBytes → KnownBytes → ℕ → Type 0
-DrawsWith weigher config input left before written errors_before errors_written status =
-    (ended : Ended) × (ended.status ≡ status) × DrawsTo weigher config input left before written errors_before errors_written ended
-
 abbrev pub TellsUsage : KnownBytes → KnownBytes → Ended → Type 0
 TellsUsage errors_before errors_written ended = (ended.status ≡ 2) × Tells ended.told errors_before errors_written (codes "usage: supdraw < SCRIPT > FILE.svg\n")
 
-abbrev pub RefusesScript : KnownBytes → KnownBytes → ℕ → Type 0
-RefusesScript errors_before errors_written status = (ended : Ended) × (ended.status ≡ status) × TellsUsage errors_before errors_written ended
-
 -- The words can't be had: they are no text, or memory was refused to them.
-pub record RefusesWithout (error : Error) (errors_before errors_written : KnownBytes) (status : ℕ) : Type 0 where
-  pub usage : error_kind error ≢ kind.OutOfMemory → RefusesScript errors_before errors_written status
-  pub memory : error_kind error ≡ kind.OutOfMemory → EndsWith status (WantsMemory errors_before errors_written)
+pub record RefusesWithout (error : Error) (errors_before errors_written : KnownBytes) (ended : Ended) : Type 0 where
+  pub usage : error_kind error ≢ kind.OutOfMemory → TellsUsage errors_before errors_written ended
+  pub memory : error_kind error ≡ kind.OutOfMemory → WantsMemory errors_before errors_written ended

@@ -5,7 +5,7 @@ ghost use Rattle.std.specs.IoError.{error_kind};
 ghost use Rattle.sup_placement.specs.Weights.{sha256_weight};
 ghost use Rattle.sup_replica.specs.Configs.{default};
 ghost use Rattle.sup_program.specs.PerformedRequests.{WantsMemory};
-ghost use Rattle.sup_supdraw.specs.DrawnScripts.{DrawsTo, DrawsWith, RefusesScript, TellsUsage};
+ghost use Rattle.sup_supdraw.specs.DrawnScripts.{DrawsTo, TellsUsage};
 ghost use Rattle.sup_supdraw.specs.Runs.{RunsWithout, RunsWords};
 
 use crate::script::draw;
@@ -22,14 +22,14 @@ pub const USAGE: u8 = 2;
 /// Runs the program, which takes no words, and answers its exit status: 0, or 1 where the input is bad, `USAGE` where there are
 /// words or they are no text, and 3 where the device or memory ended it, or memory for the words was refused. Members are weighed
 /// by SHA-256, and the nodes have the default settings. Where the words end it, or memory for them, nothing is read or written. A
-/// fault, or the usage, is told to the error writer, whose own faults are passed over.
+/// fault, or the usage, is told to the error writer; whether that took all of it is answered too.
 pub fn run_with<R: Read, W: Write, E: Write>(
     alloc: Global,
     words: io::Result<Vec<String>>,
     reader: &mut R,
     writer: &mut W,
     errors: &mut E,
-) -> u8
+) -> Ended
     ensures runs { IfOk words (λ given. RunsWords R.remaining W.contents E.contents given.items
         reader.old reader.new writer.old writer.new errors.old errors.new result) }
     ensures without { IfErr words (λ error. RunsWithout R.remaining W.contents E.contents error
@@ -37,10 +37,7 @@ pub fn run_with<R: Read, W: Write, E: Write>(
 {
     match words {
         Ok(words) => run(alloc, words.as_slice(), reader, writer, errors),
-        Err(error) => {
-            let ended = without_words(&error, errors);
-            ended.status
-        }
+        Err(error) => without_words(&error, errors),
     }
 }
 
@@ -51,16 +48,16 @@ fn run<R: Read, W: Write, E: Write>(
     reader: &mut R,
     writer: &mut W,
     errors: &mut E,
-) -> u8
-    ensures draws { words.now ≡ [] → DrawsWith sha256_weight default (R.remaining reader.old) (R.remaining reader.new)
+) -> Ended
+    ensures draws { words.now ≡ [] → DrawsTo sha256_weight default (R.remaining reader.old) (R.remaining reader.new)
         (W.contents writer.old) (W.contents writer.new) (E.contents errors.old) (E.contents errors.new) result }
-    ensures refuses { words.now ≢ [] → RefusesScript (E.contents errors.old) (E.contents errors.new) result }
+    ensures refuses { words.now ≢ [] → TellsUsage (E.contents errors.old) (E.contents errors.new) result }
     ensures unread { words.now ≢ [] → reader.new ≡ reader.old }
     ensures unwritten { words.now ≢ [] → writer.new ≡ writer.old }
 {
     match words {
-        [] => draw_plain(alloc, reader, writer, errors).status,
-        [_, ..] => refuse(errors).status,
+        [] => draw_plain(alloc, reader, writer, errors),
+        [_, ..] => refuse(errors),
     }
 }
 

@@ -13,7 +13,7 @@ use sup_replica::{Act, Config, Refusal};
 use sup_specs::NodeName;
 use sup_station::Station;
 
-/// Keeps the last image in memory, and the one before it, of which only its own clause speaks.
+/// Keeps the last image in memory, and the one before it, of which only its own clauses speak.
 #[derive(Drop)]
 pub struct TwoImages {
     pub last: Vec<u8>,
@@ -47,7 +47,11 @@ impl Keeper for TwoImages {
         Ok(())
     }
 
-    fn load(&mut self) -> Result<Vec<u8>, KeepFault> {
+    fn load(&mut self) -> Result<Vec<u8>, KeepFault>
+        ensures gives { IfOk result (λ bytes. bytes.items ≡ self.old.last.items) }
+        ensures same { self.new ≡ self.old }
+        ensures sound { result ≢ Err Failed }
+    {
         let copy = self.last.to_vec(self.alloc)?;
         Ok(copy)
     }

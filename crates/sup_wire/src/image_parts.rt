@@ -1,15 +1,13 @@
 //! The parts that an image's text is put together of.
 ghost use Rattle.std.specs.Prelude.{◌≡◌, ◌<◌, ◌^◌, IfOk};
-ghost use Rattle.sup_tables.specs.Lent.{rows_lent};
-ghost use Rattle.sup_wire.specs.ImageTexts.{IsFront, IsTextWith, closed_shown};
+ghost use Rattle.sup_wire.specs.ImageTexts.{IsFront, closed_shown};
 
 use crate::heading::Heading;
 use crate::writing::fronts::front_after;
-use crate::writing::images::{closed, text_by};
+use crate::writing::images::closed;
 use crate::writing::lending::lent_parts;
 use std::alloc::{AllocError, Global};
 use sup_array_text::{ArrayBuilding, ArrayText};
-use sup_tables::LentRow;
 
 /// What stands before the rows of an image. An `Err` where a growth was refused.
 pub fn image_front(alloc: Global, heading: &Heading<'_>) -> Result<Vec<u8>, AllocError>
@@ -33,25 +31,4 @@ pub fn closed_image(made: ArrayBuilding) -> Result<ArrayText, AllocError>
     ensures { IfOk result (λ t. t ≡ closed_shown made.front made.items) }
 {
     closed(made)
-}
-
-/// The text of an image with this heading and these rows, all of it written anew. An `Err` where a growth was refused.
-pub fn image_text(
-    alloc: Global,
-    heading: &Heading<'_>,
-    rows: &[LentRow<'_>],
-) -> Result<ArrayText, AllocError>
-    ensures { IfOk result (λ t. IsTextWith heading.now (rows_lent rows.now) t) }
-{
-    // For the clause: the context's counters are in their limits.
-    heading.context.counted();
-    let parts = lent_parts(heading.context, rows)?;
-    let text = text_by(
-        Vec::new(alloc),
-        &heading.node,
-        heading.boot,
-        heading.count,
-        &parts,
-    )?;
-    Ok(text)
 }

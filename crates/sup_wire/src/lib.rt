@@ -21,7 +21,7 @@ pub use codec::{
 pub use fault::WireFault;
 pub use heading::Heading;
 pub use image::Image;
-pub use image_parts::{closed_image, image_front, image_text};
+pub use image_parts::{closed_image, image_front};
 pub use lent_image::LentImage;
 pub use message::Message;
 pub use row_item::RowItem;

@@ -2,22 +2,35 @@
 use crate::given::{IMAGE, OPENING, node};
 use crate::made::{alone, joined_kept, lent, opening, start};
 use std::process::Abort;
-use sup_wire::{Heading, Image, LentImage, encode_image, encode_lent_image, image_text};
+use sup_array_text::Room;
+use sup_image_text::{NextImage, RowChange, text_after};
+use sup_wire::{Heading, Image, LentImage, encode_image, encode_lent_image, text_of};
 
 fn expect_text(rt: &(impl Abort + AllocGlobal), image: &LentImage<'_>, wanted: &str) {
     let text = encode_lent_image(rt.alloc(), image).expect(rt, "room");
     assert!(rt; text.as_slice() == wanted.as_bytes(), "{wanted}");
 }
 
-// Its heading and its rows have that text too.
-fn expect_parts(rt: &(impl Abort + AllocGlobal), image: &LentImage<'_>, wanted: &str) {
-    let heading = Heading {
-        node: image.node,
-        boot: image.boot,
-        count: image.count,
-        context: image.context,
+// Its rows, all of them written anew, have that text too, whatever image they come of.
+fn expect_all(rt: &(impl Abort + AllocGlobal), image: LentImage<'_>, wanted: &str) {
+    let last = text_of(rt.alloc(), &opening(rt)).expect(rt, "room");
+    let LentImage {
+        node,
+        boot,
+        count,
+        context,
+        rows,
+    } = image;
+    let next = NextImage {
+        heading: Heading {
+            node,
+            boot,
+            count,
+            context,
+        },
+        rows: RowChange::All(rows),
     };
-    let text = image_text(rt.alloc(), &heading, &image.rows).expect(rt, "room");
+    let text = text_after(rt.alloc(), &last, &next, Room::new(rt.alloc())).expect(rt, "room");
     assert!(rt; text.text() == wanted.as_bytes(), "{wanted}");
 }
 
@@ -27,7 +40,7 @@ fn expect_same(rt: &(impl Abort + AllocGlobal), image: &Image, wanted: &str) {
     assert!(rt; text.as_slice() == wanted.as_bytes(), "{wanted}");
     let image = lent(image).expect(rt, "room");
     expect_text(rt, &image, wanted);
-    expect_parts(rt, &image, wanted);
+    expect_all(rt, image, wanted);
 }
 
 #[test]

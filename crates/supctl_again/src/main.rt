@@ -6,12 +6,13 @@ use std::process::ExitCode;
 use sup_supctl::run_started;
 
 fn main(rt: HostRuntime) -> ExitCode {
-    run_started(
+    let (code, _told) = run_started(
         &rt,
         rt.alloc(),
         env::args(&rt),
         &mut rt.stdin(),
         &mut rt.stdout(),
         &mut rt.stderr(),
-    )
+    );
+    code
 }

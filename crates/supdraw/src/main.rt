@@ -2,36 +2,53 @@
 #![tactic(auto)]
 
 ghost use Rattle.std.specs.Process.{exit_status};
+ghost use Rattle.sup_program.specs.Runs.{ExitsBy};
 ghost use Rattle.supdraw.specs.Started.{RunsStarted};
 
 use std::alloc::Global;
 use std::env::{self, Args};
 use std::io::{self, Read, Write};
 use std::process::ExitCode;
+use sup_jobs::{DeviceFault, Ended};
 use sup_supdraw::{run_with, words_of};
 
 fn main(rt: HostRuntime) -> ExitCode {
-    run_started(
+    let (code, _told) = run_started(
         rt.alloc(),
         env::args(&rt),
         &mut rt.stdin(),
         &mut rt.stdout(),
         &mut rt.stderr(),
-    )
+    );
+    code
 }
 
-// Runs the program with the words behind its name, or tells why they can't be had, and ends with that status.
+// Runs the program with the words behind its name, or tells why they can't be had, and ends with that status. Beside it: whether the
+// error writer took all that it was told.
 fn run_started<R: Read, W: Write, E: Write>(
     alloc: Global,
     arguments: io::Result<Args>,
     reader: &mut R,
     writer: &mut W,
     errors: &mut E,
-) -> ExitCode
+) -> (ExitCode, Result<(), DeviceFault>)
+    ensures { ExitsBy (exit_status result.0) result.1 (RunsStarted R.remaining W.contents E.contents arguments reader.old reader.new
+        writer.old writer.new errors.old errors.new) }
+{
+    let ended = run_behind_name(alloc, arguments, reader, writer, errors);
+    (ExitCode::from(ended.status), ended.told)
+}
+
+fn run_behind_name<R: Read, W: Write, E: Write>(
+    alloc: Global,
+    arguments: io::Result<Args>,
+    reader: &mut R,
+    writer: &mut W,
+    errors: &mut E,
+) -> Ended
     ensures { RunsStarted R.remaining W.contents E.contents arguments reader.old reader.new
-        writer.old writer.new errors.old errors.new (exit_status result) }
+        writer.old writer.new errors.old errors.new result }
 {
     let words = words_of(alloc, arguments);
-    let status = run_with(alloc, words, reader, writer, errors);
-    ExitCode::from(status)
+    run_with(alloc, words, reader, writer, errors)
 }

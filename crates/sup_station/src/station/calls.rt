@@ -179,7 +179,8 @@ impl<K: Keeper, W: Weigh> Station<K, W> {
         }
     }
 
-    /// One act at the moment `now`: [`prepare`](Station::prepare) and [`commit`](Station::commit).
+    /// One act at the moment `now`: [`prepare`](Station::prepare) and [`commit`](Station::commit). An event or a stop that
+    /// has nothing to save leaves the keeper as it is.
     ///
     /// # Errors
     ///
@@ -196,6 +197,7 @@ impl<K: Keeper, W: Weigh> Station<K, W> {
         ensures sound { K.sound (keeper_of self.old) ≡ true → result ≢ Err KeepFailed }
         ensures unsaved { IsFailingOrSound K.failing K.sound self.old → result ≡ Err KeepFailed → FailsActBySave K.kept W.weight_of self.old act now }
         ensures order { K.readable (keeper_of self.old) ≡ true → result ≡ Err KeepFailed → FailsActBySave K.kept W.weight_of self.old act now }
+        ensures idle { act ≢ Restart → ¬ FailsActBySave K.kept W.weight_of self.old act now → keeper_of self.new ≡ keeper_of self.old }
         ensures stays_sound { K.sound (keeper_of self.old) ≡ true → K.sound (keeper_of self.new) ≡ true }
         ensures stays_readable { K.readable (keeper_of self.old) ≡ true → K.readable (keeper_of self.new) ≡ true }
         ensures steady { K.sound (keeper_of self.old) ≡ true → K.failures (keeper_of self.new) ≡ K.failures (keeper_of self.old) }

@@ -1,13 +1,11 @@
-use Rattle.std.proofs.Common.{◌≡◌, ◌≤◌, ◌∙◌, All, length, map, refl, sym, subst}
+use Rattle.std.proofs.Common.{◌≡◌, ◌∙◌, length, map, refl, sym, subst}
 use Rattle.std.specs.List.{AllZip}
 use Rattle.sup_node_gate.specs.Gates.{IsBound}
 use Rattle.sup_plan.specs.Plans.{IsPlan}
-use Rattle.sup_plan.specs.declared.histories.History.{History}
 use Rattle.sup_posts.specs.Drives.{places}
 use Rattle.sup_posts.specs.Jobs.{GivesDriven}
 use Rattle.sup_posts.specs.declared.jobs.Drive.{Drive}
 use Rattle.sup_driving.specs.Called.{stood_by}
-use Rattle.sup_cluster.specs.Runs.{IsRunOf, HasStoodBy}
 use Rattle.sup_cluster.proofs.ReturnedTeamLaws.{returned, same_drives, same_nodes}
 use Rattle.sup_cluster.proofs.FinishedRunLaws.{all_stood, all_within, is_run}
 use Rattle.sup_cluster.proofs.running.run.Goals as goal
@@ -32,23 +30,23 @@ finish-requires g c =
 
 pub returns-clause-run : goal.returns-clause-run
 returns-clause-run g c =
-    subst (IsRunOf g.W.Weigh.weight_of (g.N.Runner.did c.args.planned.runner) c.args.planned.plan) (sym c.new.ensures)
-    (is_run (g.N.Runner.did c.args.planned.runner) (stood_by g.C.Checkpoint.was_before g.C.Checkpoint.was_answered c.args.planned.checkpoint) g.W.Weigh.weight_of c.args.planned.plan c.args.planned.bound c.in_ok-posts.posts.items c.in_ok-drives.drives.items c.in_ok-results.results.items c.in_ok-histories.histories.items
+    is_run (g.N.Runner.did c.args.planned.runner) (stood_by g.C.Checkpoint.was_before g.C.Checkpoint.was_answered c.args.planned.checkpoint) g.W.Weigh.weight_of c.args.planned.plan c.args.planned.bound c.in_ok-posts.posts.items c.in_ok-drives.drives.items c.in_ok-results.results.items c.in_ok-histories.histories
     (same_nodes c.plan-plan.result.now c.args.planned.plan c.bound.result c.args.planned.bound _ _ _ c.plan-plan.ensures c.bound.ensures c.deref.ensures.value refl c.in_ok-posts.ensures.posts)
     (same_drives c.plan-plan.result.now c.args.planned.plan _ _ c.in_ok-drives.drives.items c.plan-plan.ensures c.deref-2.ensures.value c.in_ok-drives.ensures.drives)
     (subst (λ l. AllZip (GivesDriven (g.N.Runner.did c.args.planned.runner) (stood_by g.C.Checkpoint.was_before g.C.Checkpoint.was_answered c.args.planned.checkpoint) l) c.in_ok-drives.drives.items c.in_ok-results.results.items) c.deref-3.ensures.value c.in_ok-results.ensures)
     (subst (λ l. map (λ (d : Drive g.row.W.Denot g.W.Weigh). d.at) c.in_ok-drives.drives.items ≡ places (length l)) c.deref-2.ensures.value c.in_ok-drives.ensures.places)
-    c.in_ok-drives.ensures.whole c.in_ok-histories.ensures.histories)
+    c.in_ok-drives.ensures.whole c.in_ok-histories.ensures.histories
 
 pub returns-clause-stood : goal.returns-clause-stood
-returns-clause-stood g c = subst (All (HasStoodBy (stood_by g.C.Checkpoint.was_before g.C.Checkpoint.was_answered c.args.planned.checkpoint) c.args.planned.plan)) (sym c.new.ensures)
-    (all_stood (g.N.Runner.did c.args.planned.runner) (stood_by g.C.Checkpoint.was_before g.C.Checkpoint.was_answered c.args.planned.checkpoint) g.W.Weigh.weight_of c.args.planned.plan c.in_ok-posts.posts.items c.in_ok-drives.drives.items c.in_ok-results.results.items c.in_ok-histories.histories.items
+returns-clause-stood g c =
+    all_stood (g.N.Runner.did c.args.planned.runner) (stood_by g.C.Checkpoint.was_before g.C.Checkpoint.was_answered c.args.planned.checkpoint) g.W.Weigh.weight_of c.args.planned.plan c.in_ok-posts.posts.items c.in_ok-drives.drives.items c.in_ok-results.results.items c.in_ok-histories.histories
     (same_drives c.plan-plan.result.now c.args.planned.plan _ _ c.in_ok-drives.drives.items c.plan-plan.ensures c.deref-2.ensures.value c.in_ok-drives.ensures.drives)
     (subst (λ l. AllZip (GivesDriven (g.N.Runner.did c.args.planned.runner) (stood_by g.C.Checkpoint.was_before g.C.Checkpoint.was_answered c.args.planned.checkpoint) l) c.in_ok-drives.drives.items c.in_ok-results.results.items) c.deref-3.ensures.value c.in_ok-results.ensures)
-    c.in_ok-histories.ensures.histories)
+    (subst (λ l. map (λ (d : Drive g.row.W.Denot g.W.Weigh). d.at) c.in_ok-drives.drives.items ≡ places (length l)) c.deref-2.ensures.value c.in_ok-drives.ensures.places)
+    c.in_ok-drives.ensures.whole c.in_ok-histories.ensures.histories
 
 pub returns-clause-bound : goal.returns-clause-bound
-returns-clause-bound g c = subst (All (λ (k : History). length k.entries.items ≤ c.args.planned.bound)) (sym c.new.ensures)
-    (all_within g.W.Weigh.weight_of c.args.planned.plan.config c.args.planned.bound c.args.planned.plan.nodes.items c.in_ok-posts.posts.items c.in_ok-histories.histories.items
+returns-clause-bound g c =
+    all_within g.W.Weigh.weight_of c.args.planned.plan.config c.args.planned.bound c.args.planned.plan.nodes.items c.in_ok-posts.posts.items c.in_ok-histories.histories
     (same_nodes c.plan-plan.result.now c.args.planned.plan c.bound.result c.args.planned.bound _ _ _ c.plan-plan.ensures c.bound.ensures c.deref.ensures.value refl c.in_ok-posts.ensures.posts)
-    c.in_ok-histories.ensures.histories.histories)
+    c.in_ok-histories.ensures.histories.histories

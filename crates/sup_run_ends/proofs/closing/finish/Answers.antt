@@ -1,10 +1,10 @@
-use Rattle.std.proofs.Common.{subst, List, All, ◌∙◌}
+use Rattle.std.proofs.Common.{subst, sym, List, All, ◌∙◌}
 use Rattle.std.specs.List.{AllZip}
 use Rattle.sup_posts.specs.Jobs.{Seat}
 use Rattle.sup_posts.specs.declared.jobs.Arrived.{Arrived}
 use Rattle.sup_posts.specs.declared.jobs.Driven.{Driven}
 use Rattle.sup_run_ends.specs.Passes.{AreMadeBy}
-use Rattle.sup_run_ends.specs.Steps.{BeginsWithSeen, EndsHistory}
+use Rattle.sup_run_ends.specs.Steps.{AreFinished, BeginsWithSeen, EndsHistory}
 use Rattle.sup_run_ends.proofs.ReturnedPassLaws.{seats_taken, arrived_taken}
 use Rattle.sup_run_ends.proofs.ZipLaws.{zip_map_left}
 use Rattle.sup_run_ends.proofs.FaultlessLaws.{want_of_none}
@@ -19,14 +19,14 @@ close_all-requires-clause-arrived g c = arrived_taken c.args.posts.items c.args.
 pub returns-clause-histories : goal.returns-clause-histories
 returns-clause-histories g c =
     let t = c.in_ok-seats.ensures.parts in
-    record {
+    subst (AreFinished g.W.Weigh.weight_of c.args.posts.items c.args.results.items) (sym c.of.ensures) (record {
       driven = t.driven;
       given = t.all;
       histories = c.in_ok-histories.ensures.histories;
       own = zip_map_left BeginsWithSeen (λ (d : Driven g.row.W.Denot g.W.Weigh). d.seat) t.driven c.in_ok-histories.histories.items (subst (λ l. AllZip BeginsWithSeen l c.in_ok-histories.histories.items) t.own c.in_ok-histories.ensures.own);
       others = subst (All (EndsHistory c.in_ok-histories.histories.items)) t.others c.in_ok-histories.ensures.others;
       made = subst (λ (p : List (Seat g.row.W.Denot g.W.Weigh) × List (Arrived g.row.W.Denot g.W.Weigh)). AreMadeBy p.0 p.1 c.in_ok-histories.histories.items) (λ i. (t.own i, t.others i)) c.in_ok-histories.ensures.made;
-    }
+    })
 
 pub returns-in_err-histories-clause-fault : goal.returns-in_err-histories-clause-fault
 returns-in_err-histories-clause-fault g c =

@@ -1,8 +1,8 @@
 use Rattle.sup_supctl.proofs.CommandRunLaws.{all, clustered}
 use Rattle.sup_supctl.proofs.run.run.Goals as goal
 
-pub returns-in-Status : goal.returns-in-Status
-returns-in-Status g c = all _ _ _ _ _ _ _ _ _ _ c.in-Status.status c.in-Status.ensures.status
+pub returns-in-Done : goal.returns-in-Done
+returns-in-Done g c = all _ _ _ _ _ _ _ _ _ _ c.in-Done.ended c.in-Done.ensures.done
 
 pub returns-in-Cluster : goal.returns-in-Cluster
 returns-in-Cluster g c =

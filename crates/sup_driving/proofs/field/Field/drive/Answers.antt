@@ -1,13 +1,12 @@
-use Rattle.std.proofs.Common.{arith, ◌≡◌, ◌+◌, suc, ◌++◌, [], ◌∷◌, length, length-append, map, ap, sym, ◌∙◌, append_assoc, subst, refl}
+use Rattle.std.proofs.Common.{arith, ◌≡◌, ◌+◌, ◌++◌, [], ◌∷◌, length, length-append, map, ap, sym, ◌∙◌, append_assoc, subst, refl}
 use Rattle.std.proofs.lemmas.List.{map-append}
-use Rattle.std.proofs.lemmas.Option.{none-some}
 use Rattle.sup_node_gate.specs.Gates.{view_of}
 use Rattle.sup_plan.specs.Calls.{asked}
-use Rattle.sup_posts.specs.Rounds.{MakesCalls, StoodByAll}
-use Rattle.sup_driving.specs.Called.{CallsStand, stood_by}
+use Rattle.sup_posts.specs.Rounds.{MakesCommands}
+use Rattle.sup_driving.specs.Called.{CallsStand, MakesCommand, stood_by}
 use Rattle.sup_posts.proofs.ItemLaws.{none_left}
 use Rattle.sup_driving.proofs.PassCallLaws.{stand_none, stand_later}
-use Rattle.sup_driving.proofs.RoundLaws.{makes_none, makes_then, makes_still, stood_more}
+use Rattle.sup_driving.proofs.RoundLaws.{commands_none, commands_then, commands_still}
 use Rattle.sup_driving.proofs.WirePutLaws.{all_same, all_later, none_shipped}
 use Rattle.sup_driving.proofs.field.Field.drive.Goals as goal
 
@@ -18,16 +17,16 @@ loop-command-init g c = (
   all_same c.args.wires.now,
   none_shipped (view_of c.args.seat.now).seen c.args.wires.now c.requires.unused,
   stand_none (view_of c.args.seat.now).seen,
-  makes_none (g.N.Runner.did c.args.self.now.runner.now c.args.post.now.name) (view_of c.args.seat.now),
+  commands_none (g.N.Runner.did c.args.self.now.runner.now c.args.post.now.name) (stood_by g.C.Checkpoint.was_before g.C.Checkpoint.was_answered c.args.self.now.checkpoint.now c.args.post.now.name) (view_of c.args.seat.now),
   refl,
-  λ place command none. absurd (none-some command none),
 )
 
 pub loop-command-preserved : goal.loop-command-preserved
 loop-command-preserved g c =
     let stood = stood_by g.C.Checkpoint.was_before g.C.Checkpoint.was_answered c.args.self.now.checkpoint.now c.args.post.now.name in
     let n = length c.loop-command.yielded in
-    let plus_one : n + 1 ≡ suc n = omega arith in
+    let did = g.N.Runner.did c.args.self.now.runner.now c.args.post.now.name in
+    let plus_one : n + 1 ≡ 1 + n = omega arith in
     let rest = c.next.new.self.rest.items in
     let long : n + length (c.in-Some.command ∷ rest) ≡ length c.args.commands.items
     = sym (length-append c.loop-command.yielded (c.in-Some.command ∷ rest))
@@ -40,18 +39,10 @@ loop-command-preserved g c =
       c.in_ok-shipped.ensures.shipped,
       subst (λ l. CallsStand l (view_of c.make.new.seat).seen) (sym (map-append asked c.loop-command.yielded (c.in-Some.command ∷ [])))
           (c.in_ok-shipped.ensures.did (map asked c.loop-command.yielded) c.loop-command.invariant.4),
-      subst (λ l. MakesCalls (g.N.Runner.did c.args.self.now.runner.now c.args.post.now.name) (view_of c.args.seat.now) l (view_of c.make.new.seat)) (sym (map-append asked c.loop-command.yielded (c.in-Some.command ∷ [])))
-          (makes_then (g.N.Runner.did c.args.self.now.runner.now c.args.post.now.name) (view_of c.args.seat.now) (view_of c.loop-command.seat) (view_of c.make.new.seat) (map asked c.loop-command.yielded) (asked c.in-Some.command ∷ [])
-          c.loop-command.invariant.5 c.in_ok-shipped.ensures.made),
+      commands_then did stood (view_of c.args.seat.now) (view_of c.loop-command.seat) (view_of c.make.new.seat) c.loop-command.yielded c.in-Some.command c.loop-command.invariant.5
+          (subst (λ place. MakesCommand did stood (view_of c.loop-command.seat) c.in-Some.command place (view_of c.make.new.seat)) (here ∙ plus_one) c.in_ok-shipped.ensures.made),
       here ∙ sym (length-append c.loop-command.yielded (c.in-Some.command ∷ [])),
-      stood_more stood c.loop-command.yielded c.in-Some.command c.loop-command.invariant.7 (subst (stood c.in-Some.command) (here ∙ plus_one) c.in_ok-shipped.ensures.stood),
     )
-
-pub returns-clause-stood : goal.returns-clause-stood
-returns-clause-stood g c =
-    let all = none_left c.loop-command.yielded c.loop-command.command-iterator.rest.items c.args.commands.items (sym c.loop-command.command-iterator.rest.ok.0 ∙ c.in-None.ensures.steps.0)
-    (c.loop-command.invariant.0 ∙ c.into_iter-command-iterator.ensures.into_iter_gives.0) in
-    subst (λ l. StoodByAll (stood_by g.C.Checkpoint.was_before g.C.Checkpoint.was_answered c.args.self.now.checkpoint.now c.args.post.now.name) l) all c.loop-command.invariant.7
 
 pub returns-clause-later : goal.returns-clause-later
 returns-clause-later g c = all_later c.args.wires.now c.loop-command.wires c.ship.new.wires c.loop-command.invariant.2 c.in_ok-ship.ensures.later
@@ -66,7 +57,8 @@ returns-clause-did g c =
 pub returns-clause-made : goal.returns-clause-made
 returns-clause-made g c =
     let did = g.N.Runner.did c.args.self.now.runner.now c.args.post.now.name in
+    let stood = stood_by g.C.Checkpoint.was_before g.C.Checkpoint.was_answered c.args.self.now.checkpoint.now c.args.post.now.name in
     let all = none_left c.loop-command.yielded c.loop-command.command-iterator.rest.items c.args.commands.items (sym c.loop-command.command-iterator.rest.ok.0 ∙ c.in-None.ensures.steps.0)
     (c.loop-command.invariant.0 ∙ c.into_iter-command-iterator.ensures.into_iter_gives.0) in
-    makes_still did (view_of c.args.seat.now) (view_of c.loop-command.seat) (view_of c.ship.new.seat) (map asked c.args.commands.items)
-    (subst (λ l. MakesCalls did (view_of c.args.seat.now) (map asked l) (view_of c.loop-command.seat)) all c.loop-command.invariant.5) c.ship.ensures.own c.ship.ensures.shares
+    commands_still did stood (view_of c.args.seat.now) (view_of c.loop-command.seat) (view_of c.ship.new.seat) c.args.commands.items
+    (subst (λ l. MakesCommands did stood (view_of c.args.seat.now) l (view_of c.loop-command.seat)) all c.loop-command.invariant.5) c.ship.ensures.own c.ship.ensures.shares

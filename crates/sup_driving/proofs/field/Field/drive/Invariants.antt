@@ -4,7 +4,7 @@ use Rattle.sup_station.specs.OpenedStations.{kept_by}
 use Rattle.sup_node_gate.specs.Gates.{IsOf, view_of}
 use Rattle.sup_node_gate.specs.InMemory.{failures_by, sound_by}
 use Rattle.sup_plan.specs.Calls.{asked}
-use Rattle.sup_posts.specs.Rounds.{MakesCalls, StoodByAll}
+use Rattle.sup_posts.specs.Rounds.{MakesCommands}
 use Rattle.sup_driving.specs.Called.{CallsStand, stood_by}
 use Rattle.sup_driving.specs.Wires.{HaveShipped, IsLater}
 use Rattle.sup_driving.proofs.field.Field.drive.Given as goal
@@ -16,6 +16,5 @@ invariant-loop-command g l =
     × AllZip IsLater l.fn.wires l.wires
     × HaveShipped l.shipped (view_of l.seat).seen l.wires
     × CallsStand (map asked l.yielded) (view_of l.seat).seen
-    × MakesCalls (g.N.Runner.did l.self.runner.now l.post.name) (view_of l.fn.seat) (map asked l.yielded) (view_of l.seat)
+    × MakesCommands (g.N.Runner.did l.self.runner.now l.post.name) (stood_by g.C.Checkpoint.was_before g.C.Checkpoint.was_answered l.self.checkpoint.now l.post.name) (view_of l.fn.seat) l.yielded (view_of l.seat)
     × (l.place ≡ length l.yielded)
-    × StoodByAll (stood_by g.C.Checkpoint.was_before g.C.Checkpoint.was_answered l.self.checkpoint.now l.post.name) l.yielded

@@ -1,10 +1,9 @@
-use Rattle.std.proofs.Common.{◌++◌, length, map, take, drop, subst, ap, sym, ◌∙◌}
+use Rattle.std.proofs.Common.{◌++◌, length, take, drop, subst, ap, sym, ◌∙◌}
 use Rattle.std.proofs.lemmas.Option.{get_or_from_slice_get}
 use Rattle.sup_station.specs.OpenedStations.{kept_by}
 use Rattle.sup_node_gate.specs.Gates.{IsOf, view_of}
 use Rattle.sup_node_gate.specs.InMemory.{failures_by, sound_by}
-use Rattle.sup_plan.specs.Calls.{asked}
-use Rattle.sup_posts.specs.Rounds.{MakesCalls, StoodByAll}
+use Rattle.sup_posts.specs.Rounds.{MakesCommands}
 use Rattle.sup_posts.specs.declared.shared_node.SharedNode.{SharedNode}
 use Rattle.std.specs.List.{AllZip, AllByRecursion}
 use Rattle.sup_driving.specs.Called.{stood_by}
@@ -27,9 +26,8 @@ returns-in_ok-sent-in-Ok g c =
           (ap (λ n. take n (c.drive.new.wires ++ drop (length c.drive.new.wires) c.args.steer.wires.items)) c.args.steer.wires.ok.0 ∙ whole c.args.steer.wires.items c.drive.new.wires later)
           c.in_ok-sent-in-Ok.ensures)
           c.in-Ok.ensures.letters;
-      stood_by = subst (λ (p : SharedNode g.row.W.Denot g.W.Weigh). StoodByAll (stood_by g.C.Checkpoint.was_before g.C.Checkpoint.was_answered c.args.self.now.checkpoint.now p.name) c.args.steer.commands.items) here
-          c.in-Ok.ensures.stood;
-      made = subst (λ (p : SharedNode g.row.W.Denot g.W.Weigh). MakesCalls (g.N.Runner.did c.args.self.now.runner.now p.name) (view_of c.args.steer.seat) (map asked c.args.steer.commands.items) (view_of c.drive.new.seat)) here
+      drove = subst (λ (p : SharedNode g.row.W.Denot g.W.Weigh). MakesCommands (g.N.Runner.did c.args.self.now.runner.now p.name)
+          (stood_by g.C.Checkpoint.was_before g.C.Checkpoint.was_answered c.args.self.now.checkpoint.now p.name) (view_of c.args.steer.seat) c.args.steer.commands.items (view_of c.drive.new.seat)) here
           c.in-Ok.ensures.made;
     }
 
