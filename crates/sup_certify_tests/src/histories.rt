@@ -37,7 +37,7 @@ fn closed(rt: &impl Abort, at: Gate, pass: Caller) -> Vec<Entry>
     requires { IsOf kept_by failures_by sound_by at pass }
 {
     match at.close(pass) {
-        Some((_station, history)) => history,
+        Some(closed) => closed.history,
         None => panic!(rt; "a turn is held"),
     }
 }

@@ -1,5 +1,5 @@
 -- Each step of the gate keeps its rule.
-use Rattle.std.proofs.Common.{◌≡◌, ℕ, zero, suc, ◌+◌, ◌%◌, ◌^◌, ◌<◌, ◌≤◌, ◌≢◌, eqb, List, [], ◌∷◌, ◌++◌, length, get_or, set, sym, refl, ap, ◌∙◌, subst, ⊎_elim, arith, length-set, length-append, get_or-set_other, get_or-set_same, zero-le, None, Some}
+use Rattle.std.proofs.Common.{◌≡◌, ℕ, zero, suc, ◌+◌, ◌%◌, ◌^◌, ◌<◌, ◌≤◌, ◌≢◌, eqb, List, [], ◌∷◌, ◌++◌, length, map, get_or, set, sym, refl, ap, ◌∙◌, subst, ⊎_elim, arith, length-set, length-append, get_or-set_other, get_or-set_same, zero-le, None, Some}
 use Rattle.std.specs.Prelude.{is_some, true, false, slice_index}
 use Rattle.std.specs.declared.option.Option as P
 use mathlib.Core.Option.{none, some, some-injective, some-ne-none}
@@ -21,12 +21,12 @@ use Rattle.sup_node_gate.specs.Views.{IsAmongPlaces, PlacesRise, newcomer, takin
 use Rattle.sup_node_gate.specs.Rule.{OpensAt, SavesAll, FitsView, HasTurn, IsHeldBy, AllApart, AllOwned, all_shares, RuleHolds, IsSeenAt, took, raised, gave_back, looked, HasUncountedEntry}
 use Rattle.sup_node_gate.specs.Shares.{IsWhole, is_shared}
 use Rattle.sup_node_gate.proofs.ShareLaws.{first_whole, true_false}
-use Rattle.sup_node_gate.proofs.ViewShareLaws.{whole_stays, taken_apart}
+use Rattle.sup_node_gate.proofs.ViewShareLaws.{whole_stays, taken_apart, sole_calls}
 use Rattle.sup_node_gate.proofs.HistoryListLaws.{prefix_refl, prefix_longer, replays_one, saved_one, rises_more, rises_one, stands_below, stands_append, set_at, views_stay, apart_stays, held_stays, owned_stays, owned_one}
 
-opens_at : (o : P.Option Parts) (start x : Parts) → OpensAt o start → o ≡ Some x → x ≡ start
-opens_at (Some y) start x h e = let same : y ≡ x = cc in sym same ∙ h
-opens_at None start x h e = absurd (cc)
+opens_at : (o : P.Option Parts) (most : ℕ) (start : Parts) (bound : ℕ) (x : Parts) → OpensAt o most start bound → o ≡ Some x → (x ≡ start) × (most ≡ bound)
+opens_at (Some y) most start bound x h e = let same : y ≡ x = cc in (sym same ∙ h.0, h.1)
+opens_at None most start bound x h e = absurd (cc)
 
 -- what is like a holding has saved as that has
 saves_like : (opening : Parts) (h k : Holding) → IsLike h k → SavesAll opening k → SavesAll opening h
@@ -69,7 +69,7 @@ module _ {H : Type 0} where
     -- the words and the homes stay, and so does what lies there
     pub with_views : (s : State (P.Option H) View) (r : RuleHolds sight g start bound s) (views : List View)
         → (slice_index s.words 1 ≢ 0 → IsHeldBy views r.holder)
-        → ((j : ℕ) (v : View) → get_elem? views j ≡ some v → FitsView start r.held.history v)
+        → ((j : ℕ) (v : View) → get_elem? views j ≡ some v → FitsView start bound r.held.history v)
         → ((j : ℕ) (v : View) → get_elem? views j ≡ some v → HasTurn r.held (slice_index s.words 1) r.holder j v.turn)
         → AllApart views → AllOwned views (length r.held.history) → IsWhole (all_shares views)
         → RuleHolds sight g start bound (record { words = s.words; homes = s.homes; views = views })
@@ -92,10 +92,10 @@ module _ {H : Type 0} where
 
     -- a step that changes no word
     unmoved : (s : State (P.Option H) View) (r : RuleHolds sight g start bound s) (i me : ℕ) (cs : List (ℕ × P.Option H)) (v w : View) → get_elem? s.views me ≡ some v → w.own ≡ v.own → w.turn ≡ v.turn → w.shares ≡ v.shares
-        → FitsView start r.held.history w → RuleHolds sight g start bound (stepped s i (get_or s.words i 0) me cs w keeps)
+        → FitsView start bound r.held.history w → RuleHolds sight g start bound (stepped s i (get_or s.words i 0) me cs w keeps)
     unmoved s r i me cs v w at own turn shares fits = subst (λ (ws : List ℕ). RuleHolds sight g start bound record { words = ws; homes = s.homes; views = set s.views me w }) (sym (set-get_or s.words i 0)) (with_views s r (set s.views me w)
         (λ n. held_stays s.views me v w r.holder at turn (r.taken n))
-        (views_stay (λ _ d. FitsView start r.held.history d) s.views me w fits (λ j d _. r.each_view j d))
+        (views_stay (λ _ d. FitsView start bound r.held.history d) s.views me w fits (λ j d _. r.each_view j d))
         (views_stay (λ j d. HasTurn r.held (get_or s.words 1 0) r.holder j d.turn) s.views me w
         (subst (HasTurn r.held (get_or s.words 1 0) r.holder me) (sym turn) (r.each_turn me v at)) (λ j d _. r.each_turn j d))
         (apart_stays s.views me v w at own r.apart)
@@ -107,8 +107,10 @@ module _ {H : Type 0} where
       f.1,
       f.2,
       f.3,
-      λ o e. subst (λ (x : Parts). ReplaysEntries g (counted_in x) r.held.history (counted_at r.held)) (sym (opens_at v.opening start o f.0 e)) r.replays,
-      λ o e. subst (λ (x : Parts). SavesAll x r.held) (sym (opens_at v.opening start o f.0 e)) r.saves,
+      λ o e. subst (λ (x : Parts). ReplaysEntries g (counted_in x) r.held.history (counted_at r.held)) (sym (opens_at v.opening v.bound start bound o f.0 e).0) r.replays,
+      λ o e. subst (λ (x : Parts). SavesAll x r.held) (sym (opens_at v.opening v.bound start bound o f.0 e).0) r.saves,
+      λ o e. subst (λ (most : ℕ). length r.held.history ≤ most) (sym (opens_at v.opening v.bound start bound o f.0 e).1) r.within,
+      λ whole placed. sole_calls s.views me v r.held.history at r.owned (λ j d there. (r.each_view j d there).4) r.whole whole f.1 f.3 placed,
     )
 
     seen_like : (v : View) (h k : Holding) → IsLike h k → IsSeenAt g v k → IsSeenAt g v h
@@ -118,6 +120,8 @@ module _ {H : Type 0} where
       subst (λ (l : List Entry). PlacesRise 0 v.own (length l)) (sym like.0) seen.2,
       λ o e. subst (λ (x : List Entry × CountedStation). ReplaysEntries g (counted_in o) x.0 x.1) (λ i. (sym like.0 i, sym like.1 i)) (seen.3 o e),
       λ o e. saves_like o h k like (seen.4 o e),
+      λ o e. subst (λ (l : List Entry). length l ≤ v.bound) (sym like.0) (seen.5 o e),
+      λ whole placed. seen.6 whole placed ∙ ap (map some) (sym like.0),
     )
 
     of_turn : (s : State (P.Option H) View) (r : RuleHolds sight g start bound s) (me : ℕ) (v : View) (h : Holding) → get_elem? s.views me ≡ some v → v.turn ≡ Some h → HasTurn r.held (get_or s.words 1 0) r.holder me (Some h)
@@ -138,7 +142,7 @@ module _ {H : Type 0} where
         × took sight g (step slots 1 0 1 none) me (get_or s.words 1 0) (w, carried_after me.1 a))
         (λ (z : get_or s.words 1 0 ≡ 0). let home = r.free z in let h = home.0 in let held = sight h in let like : IsLike held r.held = home.2 in let w = taking me.0 held in let two = r.two in
         let now : get_or (set s.words 1 1) 1 0 ≡ 1 = get_or-set_same s.words 1 1 0 (omega arith) in
-        let fits : (j : ℕ) (d : View) → get_elem? s.views j ≡ some d → FitsView start held.history d = λ j d there. subst (λ (l : List Entry). FitsView start l d) (sym like.0) (r.each_view j d there) in let mine = fits id me.0 at in (
+        let fits : (j : ℕ) (d : View) → get_elem? s.views j ≡ some d → FitsView start bound held.history d = λ j d there. subst (λ (l : List Entry). FitsView start bound l d) (sym like.0) (r.each_view j d there) in let mine = fits id me.0 at in (
           w,
           takes 0 (Some h),
           home.1,
@@ -152,7 +156,7 @@ module _ {H : Type 0} where
             counted = get_or-set_other s.words 1 0 1 0 (λ e. omega arith) ∙ (r.counted ∙ ap length (sym like.0));
             free = λ e. absurd (omega arith);
             taken = λ _. (w, held, set_at s.views id me.0 w at, refl);
-            each_view = views_stay (λ _ d. FitsView start held.history d) s.views id w (mine.0, mine.1, mine.2, mine.3, λ bare. absurd (true_false (sym shared ∙ bare))) (λ j d _. fits j d);
+            each_view = views_stay (λ _ d. FitsView start bound held.history d) s.views id w (mine.0, mine.1, mine.2, mine.3, λ bare. absurd (true_false (sym shared ∙ bare))) (λ j d _. fits j d);
             each_turn = views_stay (λ j d. HasTurn held (get_or (set s.words 1 1) 1 0) id j d.turn) s.views id w (now, refl, refl)
                 (λ j d _ there. turns_none r.held held (get_or s.words 1 0) _ r.holder id j d.turn z (r.each_turn j d there));
             apart = apart_stays s.views id me.0 w at refl r.apart;
@@ -190,7 +194,7 @@ module _ {H : Type 0} where
               subst (IsLike (sight h)) t.2 like,
             );
             taken = λ n. absurd (n now);
-            each_view = views_stay (λ _ d. FitsView start r.held.history d) s.views id w (f.0, f.1, f.2, f.3, λ bare. ((f.4 bare).0, refl)) (λ j d _. r.each_view j d);
+            each_view = views_stay (λ _ d. FitsView start bound r.held.history d) s.views id w (f.0, f.1, f.2, f.3, λ bare. ((f.4 bare).0, refl)) (λ j d _. r.each_view j d);
             each_turn = views_stay (λ j d. HasTurn r.held (get_or (set s.words 1 0) 1 0) id j d.turn) s.views id w tt
                 (λ j d other there. turns_other r.held r.held (get_or s.words 1 0) _ r.holder id j d.turn (λ e. other (e ∙ sym t.1)) (r.each_turn j d there));
             apart = apart_stays s.views id me.0 w at refl r.apart;
@@ -210,7 +214,7 @@ module _ {H : Type 0} where
         let up : (get_or s.words 0 0 + 1) % 2 ^ 64 ≡ length held.history = omega arith in
         let z : ℕ = (get_or s.words 0 0 + 1) % 2 ^ 64 in
         let turn_word : get_or (set s.words 0 z) 1 0 ≡ 1 = get_or-set_other s.words 0 1 z 0 (λ e. omega arith) ∙ t.0 in
-        let fits : (j : ℕ) (d : View) → get_elem? s.views j ≡ some d → FitsView start had.history d = λ j d there. subst (λ (l : Holding). FitsView start l.history d) (sym t.2) (r.each_view j d there) in
+        let fits : (j : ℕ) (d : View) → get_elem? s.views j ≡ some d → FitsView start bound had.history d = λ j d there. subst (λ (l : Holding). FitsView start bound l.history d) (sym t.2) (r.each_view j d there) in
         let mine = fits id me.0 at in (
           w,
           keeps,
@@ -226,7 +230,7 @@ module _ {H : Type 0} where
             counted = get_or-set_same s.words 0 z 0 (omega arith) ∙ up;
             free = λ e. absurd (omega arith);
             taken = λ _. (w, held, set_at s.views id me.0 w at, refl);
-            each_view = views_stay (λ _ d. FitsView start held.history d) s.views id w
+            each_view = views_stay (λ _ d. FitsView start bound held.history d) s.views id w
                 (mine.0, prefix_refl held.history, (held.history, refl), subst (PlacesRise 0 (me.0.own ++ n ∷ [])) (omega arith) (rises_one 0 me.0.own n mine.3), λ bare. absurd (true_false (sym shared ∙ bare)))
                 (λ j d _ there. let f = fits j d there in (f.0, subst (IsPrefix d.seen) (sym longer) (prefix_longer d.seen _ _ f.1), subst (IsPrefix d.told) (sym longer) (prefix_longer d.told _ _ f.2), rises_more 0 d.own _ _ f.3 (omega arith), f.4));
             each_turn = views_stay (λ j d. HasTurn held (get_or (set s.words 0 z) 1 0) id j d.turn) s.views id w (turn_word, refl, refl)
@@ -238,12 +242,12 @@ module _ {H : Type 0} where
           λ k k' has' out'. let same : had ≡ k = cc in let same' : h ≡ k' = ap (slot_or h) (sym out ∙ out') in (λ i. (raising me.0 (length (same i).history) (sight (same' i)), me.1)),
         )
 
-    only : (opening : Parts) (j : ℕ) (v : View) → get_elem? (newcomer (Some opening) [] (0 ∷ []) ∷ []) j ≡ some v → newcomer (Some opening) [] (0 ∷ []) ≡ v
+    only : (opening : Parts) (j : ℕ) (v : View) → get_elem? (newcomer (Some opening) bound [] (0 ∷ []) ∷ []) j ≡ some v → newcomer (Some opening) bound [] (0 ∷ []) ≡ v
     only opening zero v e = some-injective _ v e
     only opening (suc j) v e = absurd (some-ne-none v (sym e))
 
     pub opens : (opening : Parts) (h : H) → opening ≡ start → IsLike (sight h) (record { history = []; parts = opening })
-        → RuleHolds sight g start bound (T.opening (0 ∷ 0 ∷ []) (Some h ∷ []) (newcomer (Some opening) [] (0 ∷ [])))
+        → RuleHolds sight g start bound (T.opening (0 ∷ 0 ∷ []) (Some h ∷ []) (newcomer (Some opening) bound [] (0 ∷ [])))
     opens opening h starts like = record {
       held = record { history = []; parts = opening };
       holder = 0;
@@ -254,7 +258,7 @@ module _ {H : Type 0} where
       counted = refl;
       free = λ _. (h, refl, like);
       taken = λ n. absurd (n refl);
-      each_view = λ j v there. subst (λ (d : View). FitsView start [] d) (only opening j v there) (starts, ([], refl), ([], refl), zero-le, λ _. (refl, refl));
+      each_view = λ j v there. subst (λ (d : View). FitsView start bound [] d) (only opening j v there) ((starts, refl), ([], refl), ([], refl), zero-le, λ _. (refl, refl));
       each_turn = λ j v there. subst (λ (d : View). HasTurn record { history = []; parts = opening } 0 0 j d.turn) (only opening j v there) tt;
       apart = λ i j p v u at_i at_j in_v in_u. absurd (subst (λ (d : View). IsAmongPlaces p d.own) (sym (only opening i v at_i)) in_v);
       owned = λ p lt. absurd (omega (arith, lt));

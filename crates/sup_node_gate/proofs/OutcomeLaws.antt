@@ -101,10 +101,10 @@ module _ {H : Type 0} where
   lent_slot m h lent held out there is = ap (slot_or held) ((λ i. (0, sym is i) ∷ rest m.1) ∙ (sym there ∙ out))
 
 -- once the turn is given back
-pub idle_after : {H : Type 0} (m : Me (P.Option H) View) (v w : View) → m ≡ (freeing w, []) → w.told ≡ [] → PlacesRise 0 w.own (length w.seen) → w.opening ≡ v.opening → w.tries ≡ v.tries → w.splits ≡ v.splits → w.shares ≡ v.shares → is_shared v.shares ≡ true
+pub idle_after : {H : Type 0} (m : Me (P.Option H) View) (v w : View) → m ≡ (freeing w, []) → w.told ≡ [] → PlacesRise 0 w.own (length w.seen) → w.opening ≡ v.opening → w.tries ≡ v.tries → w.splits ≡ v.splits → w.shares ≡ v.shares → w.bound ≡ v.bound → is_shared v.shares ≡ true
     → IsIdle m × KeepsStanding v m.0
-idle_after {H = H} m v w is told rises opening tries splits shares shared =
-    subst (λ (x : Me (P.Option H) View). IsIdle x × KeepsStanding v x.0) (sym is) ((refl, told, refl, rises, ap is_shared shares ∙ shared), (opening, tries, splits, shares))
+idle_after {H = H} m v w is told rises opening tries splits shares bound shared =
+    subst (λ (x : Me (P.Option H) View). IsIdle x × KeepsStanding v x.0) (sym is) ((refl, told, refl, rises, ap is_shared shares ∙ shared), (opening, tries, splits, shares, bound))
 
 enters_same : (g : Weigher) (s : CountedStation) (v u : View) (e : Entry) (v' : View) → v.seen ≡ u.seen → v.own ≡ u.own → EntersCall g s v e v' → EntersCall g s u e v'
 enters_same g s v u e v' seen own x = record {

@@ -1,24 +1,22 @@
--- A split and a join keep the rule, and what the table's last state tells.
-use Rattle.std.proofs.Common.{◌≡◌, ℕ, zero, suc, ◌≤◌, ◌≢◌, ◌⊎◌, List, [], ◌∷◌, ◌++◌, map, length, get_or, set, sym, refl, ap, ◌∙◌, subst, inl, inr, ⊎_elim, zero-le, None, Some}
-use Rattle.std.specs.Prelude.{is_some, false, IfSome}
-use Rattle.std.specs.declared.option.Option as P
+-- A split and a join keep the rule.
+use Rattle.std.proofs.Common.{◌≡◌, ℕ, zero, suc, ◌≢◌, ◌⊎◌, List, [], ◌∷◌, ◌++◌, length, get_or, set, sym, refl, ap, ◌∙◌, subst, inl, inr, ⊎_elim, zero-le}
+use Rattle.std.specs.Prelude.{is_some, false}
 use mathlib.Core.Logic.{dite}
 use mathlib.Core.Option.{some, some-injective, some-ne-none}
 use native.Mathlib.Decide.{ℕ_discrete}
 use lib.ListN.{get_elem?}
-use Rattle.atomic_table.specs.Table.{Splits, Joins, Final, Seen}
+use Rattle.atomic_table.specs.Table.{Splits, Joins}
 use Rattle.atomic_table.proofs.Lists.{at_set, at_snoc, at_longer, set_else}
 use Rattle.sup_placement.specs.Place.{Weigher}
 use Rattle.sup_node_gate.specs.declared.view.Holding.{Holding}
 use Rattle.sup_node_gate.specs.declared.view.Parts.{Parts}
 use Rattle.sup_node_gate.specs.declared.view.View.{View}
-use Rattle.sup_node_gate.specs.Views.{IsAmongPlaces, calls_of, merged, first, second, spent, joining}
+use Rattle.sup_node_gate.specs.Views.{IsAmongPlaces, merged, first, second, spent, joining}
 use Rattle.sup_node_gate.specs.Rule.{FitsView, HasTurn, IsHeldBy, AllApart, AllOwned, OwnsByShare, RuleHolds}
 use Rattle.sup_node_gate.proofs.GateRuleLaws.{with_views}
 use Rattle.sup_node_gate.proofs.HistoryListLaws.{set_at, views_stay, apart_stays, held_stays, owned_stays, owned_more}
-use Rattle.sup_node_gate.specs.Gates.{IsSole}
 use Rattle.sup_node_gate.proofs.ShareLaws.{shared_halved, none_left, none_right}
-use Rattle.sup_node_gate.proofs.ViewShareLaws.{free_has, whole_split, whole_joined, sole_calls}
+use Rattle.sup_node_gate.proofs.ViewShareLaws.{free_has, whole_split, whole_joined}
 use Rattle.sup_node_gate.proofs.PlaceListLaws.{stands_merged, rises_merged, merged_left, merged_right}
 
 pub index_at : {A : Type 0} (l : List A) (i : ℕ) (a d : A) → get_elem? l i ≡ some a → get_or l i d ≡ a
@@ -68,13 +66,13 @@ held_without vs other u w holder there idle b = dite (ℕ_discrete holder other)
 
 module _ {H : Type 0} (sight : H → Holding) (g : Weigher) (start : Parts) (bound : ℕ) where
   pub splits : (id : ℕ) (v : View) → Splits (RuleHolds sight g start bound) id v (first v) (second v)
-  splits id v s r at = let f = r.each_view id v at in let left : FitsView start r.held.history (first v) = (f.0, f.1, f.2, f.3, λ bare. f.4 (sym (shared_halved v.shares) ∙ bare)) in let vs = set s.views id (first v) in
-      let views : (j : ℕ) (d : View) → get_elem? vs j ≡ some d → FitsView start r.held.history d = views_stay (λ _ d. FitsView start r.held.history d) s.views id (first v) left (λ j d _. r.each_view j d) in
+  splits id v s r at = let f = r.each_view id v at in let left : FitsView start bound r.held.history (first v) = (f.0, f.1, f.2, f.3, λ bare. f.4 (sym (shared_halved v.shares) ∙ bare)) in let vs = set s.views id (first v) in
+      let views : (j : ℕ) (d : View) → get_elem? vs j ≡ some d → FitsView start bound r.held.history d = views_stay (λ _ d. FitsView start bound r.held.history d) s.views id (first v) left (λ j d _. r.each_view j d) in
       let turns : (j : ℕ) (d : View) → get_elem? vs j ≡ some d → HasTurn r.held (get_or s.words 1 0) r.holder j d.turn =
       views_stay (λ j d. HasTurn r.held (get_or s.words 1 0) r.holder j d.turn) s.views id (first v) (r.each_turn id v at) (λ j d _. r.each_turn j d) in
       let apart = apart_stays s.views id v (first v) at refl r.apart in with_views sight g start bound s r (vs ++ second v ∷ [])
       (λ n. let b = held_stays s.views id v (first v) r.holder at refl (r.taken n) in (b.0, b.1, at_longer vs (second v ∷ []) r.holder b.0 b.2, b.3))
-      (λ j d there. ⊎_elim (views j d) (λ (t : second v ≡ d). subst (λ (x : View). FitsView start r.held.history x) t (f.0, f.1, (r.held.history, refl), zero-le, λ _. (refl, refl))) (at_snoc vs (second v) d j there))
+      (λ j d there. ⊎_elim (views j d) (λ (t : second v ≡ d). subst (λ (x : View). FitsView start bound r.held.history x) t (f.0, f.1, (r.held.history, refl), zero-le, λ _. (refl, refl))) (at_snoc vs (second v) d j there))
       (λ j d there. ⊎_elim (turns j d) (λ (t : second v ≡ d). subst (λ (x : View). HasTurn r.held (get_or s.words 1 0) r.holder j x.turn) t tt) (at_snoc vs (second v) d j there))
       (λ i j p a b at_i at_j in_a in_b. ⊎_elim
       (λ (x : get_elem? vs i ≡ some a). ⊎_elim (λ (y : get_elem? vs j ≡ some b). apart i j p a b x y in_a in_b) (λ (y : second v ≡ b). absurd (subst (λ (z : View). IsAmongPlaces p z.own) (sym y) in_b)) (at_snoc vs (second v) b j at_j))
@@ -87,36 +85,10 @@ module _ {H : Type 0} (sight : H → Holding) (g : Weigher) (start : Parts) (bou
       let f = r.each_view id v at in let k = r.each_view other u there in
       let rises = rises_merged u.own v.own 0 (length r.held.history) f.3 k.3 (λ q a b. not (sym (r.apart id other q v u at there a b))) in with_views sight g start bound s r (set (set s.views id both) other spent)
       (λ n. held_without (set s.views id both) other u spent r.holder there' idle (held_stays s.views id v both r.holder at refl (r.taken n)))
-      (views_stay (λ _ d. FitsView start r.held.history d) (set s.views id both) other spent (tt, (r.held.history, refl), (r.held.history, refl), zero-le, λ _. (refl, refl))
-      (λ j d _. views_stay (λ _ d. FitsView start r.held.history d) s.views id both (f.0, f.1, k.1, rises, joined_none v u f.4 k.4) (λ j d _. r.each_view j d) j d))
+      (views_stay (λ _ d. FitsView start bound r.held.history d) (set s.views id both) other spent (tt, (r.held.history, refl), (r.held.history, refl), zero-le, λ _. (refl, refl))
+      (λ j d _. views_stay (λ _ d. FitsView start bound r.held.history d) s.views id both (f.0, f.1, k.1, rises, joined_none v u f.4 k.4) (λ j d _. r.each_view j d) j d))
       (views_stay (λ j d. HasTurn r.held (get_or s.words 1 0) r.holder j d.turn) (set s.views id both) other spent tt
       (λ j d _. views_stay (λ j d. HasTurn r.held (get_or s.words 1 0) r.holder j d.turn) s.views id both (r.each_turn id v at) (λ j d _. r.each_turn j d) j d))
       (joined_apart s.views id other v u at there r.apart not)
       (joined_owned s.views id other (length r.held.history) v u at there r.owned not)
       (whole_joined s.views id other v u both spent at there there' refl refl r.whole)
-
-  module _ (id : ℕ) (v : View) (ws : List ℕ) (xs : List (P.Option H)) (last : Final (Seen (RuleHolds sight g start bound) id v) ws xs) where
-    -- what a seat has the turn with is within the bound
-    pub within_at_end : (h : Holding) → v.turn ≡ Some h → length h.history ≤ bound
-    within_at_end h has = let s = last.0 in let r = last.1.0 in
-        let turn : HasTurn r.held (get_or s.words 1 0) r.holder id (Some h) = subst (HasTurn r.held (get_or s.words 1 0) r.holder id) has (r.each_turn id v last.1.1) in
-        subst (λ (z : Holding). length z.history ≤ bound) (sym turn.2) r.within
-
-    within_of : (t : P.Option Holding) → v.turn ≡ t → IfSome t (λ h. length h.history ≤ bound)
-    within_of None e = tt
-    within_of (Some h) e = within_at_end h e
-
-    pub within_bound : IfSome v.turn (λ h. length h.history ≤ bound)
-    within_bound = within_of v.turn refl
-
-    sole_at_end : (h : Holding) → v.turn ≡ Some h → IsSole v h.history
-    sole_at_end h has = λ whole placed. let s = last.0 in let r = last.1.0 in let at = last.1.1 in let f = r.each_view id v at in
-        let turn : HasTurn r.held (get_or s.words 1 0) r.holder id (Some h) = subst (HasTurn r.held (get_or s.words 1 0) r.holder id) has (r.each_turn id v at) in
-        subst (λ (z : Holding). calls_of v ≡ map some z.history) (sym turn.2) (sole_calls s.views id v r.held.history at r.owned (λ j d there. (r.each_view j d there).4) r.whole whole f.1 f.3 placed)
-
-    sole_of : (t : P.Option Holding) → v.turn ≡ t → IfSome t (λ h. IsSole v h.history)
-    sole_of None e = tt
-    sole_of (Some h) e = sole_at_end h e
-
-    pub sole_pass : IfSome v.turn (λ h. IsSole v h.history)
-    sole_pass = sole_of v.turn refl

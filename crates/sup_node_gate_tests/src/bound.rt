@@ -65,12 +65,12 @@ fn a_gate_enters_refusals_and_stops_at_its_bound(rt: HostRuntime) {
     let (pass, mut other) = gate.split(pass);
     assert!(rt; gate.seen(&mut other) == 2);
     let pass = gate.join(pass, other);
-    let Some((station, history)) = gate.close(pass) else {
+    let Some(closed) = gate.close(pass) else {
         panic!(rt; "a turn is held")
     };
-    assert!(rt; history.len() == 2);
+    assert!(rt; closed.history.len() == 2);
     let x = child(&rt, "x");
-    let Some(node) = station.node() else {
+    let Some(node) = closed.station.node() else {
         panic!(rt; "the node is stopped")
     };
     assert!(rt; node.tables().child(&x).is_some());

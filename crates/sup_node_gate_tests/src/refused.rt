@@ -74,11 +74,11 @@ pub(crate) fn tells<K: Keeper>(
 fn a_call_refused_for_memory_leaves_no_entry_and_is_made_when_asked_again(rt: HostRuntime) {
     let (at, pass) = gate(&rt, station(&rt, "a", MemKeeper::new(rt.alloc())));
     let pass = tells(&rt, &at, pass);
-    let Some((_station, history)) = at.close(pass) else {
+    let Some(closed) = at.close(pass) else {
         panic!(rt; "a turn is held")
     };
-    assert!(rt; history.len() as u64 == ACTS);
-    for (place, entry) in history.iter().enumerate() {
+    assert!(rt; closed.history.len() as u64 == ACTS);
+    for (place, entry) in closed.history.iter().enumerate() {
         assert!(rt; entry.now == place as u64);
         assert!(rt; entry.saved);
     }

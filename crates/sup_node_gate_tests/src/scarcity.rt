@@ -12,15 +12,15 @@ fn tells_over_scarcity(rt: &(impl Abort + AllocGlobal + Wait), k: u64) -> bool {
     let keeper = Scarce::new(MemKeeper::new(rt.alloc()), k);
     let (at, pass) = gate(rt, station(rt, "a", keeper));
     let pass = tells(rt, &at, pass);
-    let Some((station, history)) = at.close(pass) else {
+    let Some(closed) = at.close(pass) else {
         panic!(rt; "a turn is held")
     };
-    assert!(rt; history.len() as u64 == ACTS);
-    for (place, entry) in history.iter().enumerate() {
+    assert!(rt; closed.history.len() as u64 == ACTS);
+    for (place, entry) in closed.history.iter().enumerate() {
         assert!(rt; entry.now == place as u64);
         assert!(rt; entry.saved);
     }
-    station.keeper().has_refused()
+    closed.station.keeper().has_refused()
 }
 
 // The story's keeper saves the opening image and those of a member, a start and a delete, and loads and saves one at the restart.

@@ -114,10 +114,10 @@ fn four_work<R: Threads + Wait + Abort + AllocGlobal + Sync>(
 fn ends(rt: &(impl Abort + AllocGlobal), gate: MemGate, pass: MemPass, names: &[&str])
     requires { IsOf kept_by failures_by sound_by gate pass }
 {
-    let Some((_station, history)) = gate.close(pass) else {
+    let Some(closed) = gate.close(pass) else {
         panic!(rt; "a turn is held")
     };
-    judges(rt, &history, names);
+    judges(rt, &closed.history, names);
 }
 
 fn two_share<R: Threads + Wait + Abort + AllocGlobal + Sync>(rt: &R) {

@@ -28,12 +28,12 @@ fn close<W: Weigh>(post: SharedNode<W>, seat: Seat<W>) -> Result<History, Thread
 {
     let SharedNode { name, gate } = post;
     // A seat that has the whole gate closes it, and so have those of a run once they are joined.
-    let Ok((_, entries)) = gate.try_close(seat) else {
+    let Ok(closed) = gate.try_close(seat) else {
         return Err(ThreadFault::OutOfMemory);
     };
     Ok(History {
         node: name,
-        entries,
+        entries: closed.history,
     })
 }
 

@@ -36,7 +36,8 @@ pub fn share<R: Threads + Wait + Sync>(
         return None;
     };
     let pass = make_both(rt, alloc, &gate, pass, left, right)?;
-    gate.close(pass)
+    let closed = gate.close(pass)?;
+    Some((closed.station, closed.history))
 }
 
 // Has two threads make their acts. Gives the pass of all these calls.

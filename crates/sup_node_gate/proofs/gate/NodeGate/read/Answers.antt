@@ -14,7 +14,7 @@ give_back-requires g c = let t = c.requires.1 in let same = c.copied-copied.ensu
 pub returns-in_err-letters-clause-idle : goal.returns-in_err-letters-clause-idle
 returns-in_err-letters-clause-idle g c = let t = c.requires.1 in let v = c.args.seat.now.me.0 in let h = holding_of g.K.Keeper.kept g.K.Keeper.failures g.K.Keeper.sound t.0 in
     let all = all_read _ _ _ _ h (c.copied-copied.ensures.same.1) c.look-entries.ensures.1 t.1 c.give_back.ensures.1 in
-    idle_after _ v (looking v h.history) all refl t.5.2 refl refl refl refl t.8
+    idle_after _ v (looking v h.history) all refl t.5.2 refl refl refl refl refl t.8
 
 pub returns-in_err-letters-clause-turn : goal.returns-in_err-letters-clause-turn
 returns-in_err-letters-clause-turn g c = let t = c.requires.1 in let v = c.args.seat.now.me.0 in let h = holding_of g.K.Keeper.kept g.K.Keeper.failures g.K.Keeper.sound t.0 in
@@ -39,7 +39,7 @@ returns-in_err-letters-clause-saves g c = let t = c.requires.1 in let v = c.args
 pub returns-clause-idle : goal.returns-clause-idle
 returns-clause-idle g c = let t = c.requires.1 in let v = c.args.seat.now.me.0 in let h = holding_of g.K.Keeper.kept g.K.Keeper.failures g.K.Keeper.sound t.0 in
     let all = all_read _ _ _ _ h (c.copied-copied.ensures.same.1) c.look-entries.ensures.1 t.1 c.give_back.ensures.1 in
-    idle_after _ v (looking v h.history) all refl t.5.2 refl refl refl refl t.8
+    idle_after _ v (looking v h.history) all refl t.5.2 refl refl refl refl refl t.8
 
 pub returns-clause-turn : goal.returns-clause-turn
 returns-clause-turn g c = let t = c.requires.1 in let v = c.args.seat.now.me.0 in let h = holding_of g.K.Keeper.kept g.K.Keeper.failures g.K.Keeper.sound t.0 in
