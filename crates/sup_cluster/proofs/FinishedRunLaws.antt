@@ -232,7 +232,7 @@ module _ {W : Type 0} {h : WeighGhosts W} (did : Bytes → Effect → Bool → T
         ran = all_at (HasRun g plan.config) all (λ i x e.
             let p = zip_right (IsHistoryOf g) posts all i x f.histories e in
             let n = zip_right (IsSharedNodeOf plan.config bound) plan.nodes.items posts i p.0 ps p.1 in
-            (opening_of kept_by failures_by sound_by p.0.gate, subst (λ name. OpensStation name plan.config (opening_of kept_by failures_by sound_by p.0.gate).kept_station) (sym (p.2.named ∙ n.2.named)) n.2.opens, p.2.replays));
+            (opening_of kept_by failures_by sound_by p.0.gate, subst (λ name. OpensStation name plan.config (opening_of kept_by failures_by sound_by p.0.gate).kept_station) (sym (p.2.named ∙ n.2.named)) n.2.opens, n.2.unfailed, p.2.replays));
         saved = all_at (λ (k : History). AllSaved k.entries.items) all (λ i x e.
             let p = zip_right (IsHistoryOf g) posts all i x f.histories e in
             let n = zip_right (IsSharedNodeOf plan.config bound) plan.nodes.items posts i p.0 ps p.1 in

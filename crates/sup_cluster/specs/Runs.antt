@@ -18,9 +18,9 @@ use Rattle.sup_plan.specs.declared.plan.Command.{Command}
 use Rattle.sup_plan.specs.declared.plan.Plan.{Plan}
 use Rattle.sup_posts.specs.Rounds.{IsRound, StoodByAll, delivery}
 
--- the history replays from a station that was just made
+-- the history replays from a station that was just made, whose keeper has not failed
 abbrev pub HasRun : Weigher → Config → History → Type 0
-HasRun g config h = (s : CountedStation) × OpensStation h.node config s.kept_station × IsHistory g s h.entries.items
+HasRun g config h = (s : CountedStation) × OpensStation h.node config s.kept_station × (s.failures ≡ 0) × IsHistory g s h.entries.items
 
 -- the history's front in which all of the node's commands stand, in order, each once with its moment
 pub record IsDrivenFront (plan : Plan) (h : History) (front : List Entry) : Type 0 where

@@ -33,11 +33,12 @@ abbrev pub others_of : ℕ → List ℕ → List ℕ
 others_of at = filter (λ j. not (j == at))
 
 module _ {W : Type 0} {h : WeighGhosts W} where
-  -- a node before the run, whose history may have so many entries at most, and whose keeper is sound
+  -- a node before the run, whose history may have so many entries at most, and whose keeper is sound and has not failed
   pub record IsSharedNodeOf (config : Config) (most : ℕ) (name : Bytes) (post : SharedNode W h) : Type 0 where
     pub named : post.name ≡ name
     pub opens : OpensStation name config (opening_of kept_by failures_by sound_by post.gate).kept_station
     pub sound : OpensSound sound_by post.gate
+    pub unfailed : (opening_of kept_by failures_by sound_by post.gate).failures ≡ 0
     pub bound : bound_of post.gate ≡ most
 
   -- a pass that has called nothing yet

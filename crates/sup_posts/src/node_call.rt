@@ -46,7 +46,7 @@ impl<W: Weigh> SharedNode<W> {
     /// - `HistoryFull` where the node's history has as many entries as it may.
     /// - `OutOfMemory`.
     ///
-    /// The call isn't entered in the history then.
+    /// The call isn't entered in the history then. In any case the pass has as much of the gate as before.
     pub fn call<R: Wait>(
         &self,
         rt: &R,
@@ -60,6 +60,7 @@ impl<W: Weigh> SharedNode<W> {
         ensures of { IsOf kept_by failures_by sound_by self.now.gate seat.new }
         ensures called { IfOk result (λ r. MadeCall (view_of seat.old) act now r.effects (view_of seat.new)) }
         ensures asks { IfOk result (λ r. r.node ≡ self.now.name) }
+        ensures shares { (view_of seat.new).shares ≡ (view_of seat.old).shares }
         ensures refused { IfErr result (NotEnteredAtGate kept_by failures_by sound_by W.weight_of self.now.gate seat.old seat.new) }
     {
         let answer = self.gate.call(rt, seat, act, now, weigher);

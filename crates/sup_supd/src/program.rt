@@ -32,8 +32,8 @@ pub struct Ran<L: Drop, S: Drop> {
 }
 
 /// Runs the node that the words after the program's name set, as [`run_arguments`] does, until its host, who speaks by the reader and
-/// hears by the writer, says no more. Where memory for a buffer is refused, nobody is heard or told anything: the writer is given back as it
-/// was, and the images.
+/// hears by the writer, says no more. Where memory for a buffer is refused, nobody is told anything: the writer is given back as it was, and
+/// the images.
 pub fn run_started<I: Images, R: Read + Drop, W: Write + Drop, E: Write>(
     alloc: Global,
     arguments: io::Result<Args>,
