@@ -1,5 +1,7 @@
 //! A lock beside a file, of which contracts claim nothing.
 
+ghost use Rattle.std.specs.Prelude.{◌≡◌};
+
 use std::alloc::{AllocError, Global};
 use std::fs::{File, TryLockError};
 use std::io;
@@ -21,12 +23,20 @@ pub enum LockFault {
 }
 
 impl From<AllocError> for LockFault {
+    ghost use Rattle.sup_disk.specs.declared.lock.LockFault.TheVariants.{OutOfMemory};
+
+    ghost from_gives = { λ _ f. f ≡ OutOfMemory };
+
     fn from(_error: AllocError) -> LockFault {
         LockFault::OutOfMemory
     }
 }
 
 impl From<io::Error> for LockFault {
+    ghost use Rattle.sup_disk.specs.declared.lock.LockFault.TheVariants.{Device};
+
+    ghost from_gives = { λ _ f. f ≡ Device };
+
     fn from(_error: io::Error) -> LockFault {
         LockFault::Device
     }

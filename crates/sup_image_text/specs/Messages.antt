@@ -28,6 +28,12 @@ pub record IsBare (context : Context) (from to : Bytes) (n : ℕ) (text : Bytes)
   pub compact : text ≡ compact_text (value_of (delta from to n parts))
   pub formed : IsFormed Two (delta from to n parts)
 
+-- the state is whole, has this context, and these are the texts of its rows
+pub record IsStateOfTexts (texts : List Bytes) (context : Context) (s : State) : Type 0 where
+  pub rows : AreRows s.rows texts
+  pub known : s.context ≡ context
+  pub is_whole : IsWhole s
+
 -- it holds of the state with this context and the rows with these texts, where it is whole
 abbrev pub ForState : List Bytes → Context → (State → Type 0) → Type 0
 ForState texts context holds = (s : State) → AreRows s.rows texts → s.context ≡ context → IsWhole s → holds s

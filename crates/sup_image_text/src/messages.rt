@@ -1,10 +1,11 @@
 //! The text of a message with all rows, put together from the texts of an image's rows.
 ghost use Rattle.std.specs.Prelude.{◌≡◌, ◌≢◌, ◌-◌, length, take, IfOk};
+ghost use Rattle.sup_tables.specs.States.{State};
 ghost use Rattle.sup_wire.specs.declared.message.Message.TheVariants.{Delta};
 ghost use Rattle.sup_wire.specs.Drafts.{IsDraftOf};
 ghost use Rattle.sup_wire.specs.Faults.{TextSays, IsTextOf, IsInRange};
 ghost use Rattle.sup_wire.specs.Forms.{IsCount};
-ghost use Rattle.sup_image_text.specs.Messages.{IsBare, ForState, delta_back};
+ghost use Rattle.sup_image_text.specs.Messages.{IsBare, IsStateOfTexts, ForState, delta_back};
 
 use json::Writer;
 use std::alloc::{AllocError, Global};
@@ -30,6 +31,7 @@ pub fn delta_text(
 ) -> Result<Vec<u8>, AllocError>
     requires differ { from.now ≢ to.now }
     requires number { IsCount n }
+    requires fits { (s : State) × IsStateOfTexts texts.now.items context.now s }
     ensures text { IfOk result (λ t. ForState texts.now.items context.now (λ s. IsTextOf IsDraftOf IsInRange t.items (Delta from.now to.now n s))) }
     ensures says { IfOk result (λ t. ForState texts.now.items context.now (λ s. TextSays IsDraftOf t.items (Delta from.now to.now n s))) }
 {

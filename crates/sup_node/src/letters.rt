@@ -5,6 +5,7 @@ ghost use Rattle.sup_wire.specs.Drafts.{IsWhole};
 ghost use Rattle.sup_wire.specs.Faults.{IsInRange};
 ghost use Rattle.sup_wire.specs.Forms.{IsCount};
 ghost use Rattle.sup_wire.specs.RowTexts.{AreRows};
+ghost use Rattle.sup_image_text.specs.Messages.{IsStateOfTexts};
 ghost use Rattle.sup_replica.specs.Stations.{a_delta, a_push, an_ack};
 ghost use Rattle.sup_node.specs.Texts.{IsLetter, IsWholeLetter, IsMessageText};
 
@@ -51,6 +52,7 @@ pub(crate) fn whole_letter(
 ) -> Result<Letter, AllocError>
     requires differ { from ≢ to }
     requires number { IsCount n }
+    requires fits { (s : State) × IsStateOfTexts texts.now.items context.now s }
     ensures { IfOk result (IsWholeLetter from to n texts.now.items context.now) }
 {
     let text = delta_text(alloc, texts, &from, &to, n, context)?;

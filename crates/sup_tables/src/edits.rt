@@ -28,6 +28,7 @@ impl Tables {
         alloc: Global,
         plan: &'a PlannedTables,
     ) -> Result<Vec<Edit<LentRow<'a>>>, AllocError>
+        requires { (new : State) × IsPlanFor plan.now self.now new }
         ensures rows { IfOk result (λ edits. (new : State) → IsPlanFor plan.now self.now new → new.rows ≡ rows_edited edits.items self.now.rows) }
         ensures in_order { IfOk result (λ edits. (new : State) → IsPlanFor plan.now self.now new → AreInOrder new.rows) }
         ensures covered { IfOk result (λ edits. (new : State) → IsPlanFor plan.now self.now new → HasDotsOf new.context new.rows) }

@@ -94,6 +94,7 @@ impl Tables {
 
     /// What a plan touches. An `Err` is want of memory.
     pub fn touched_by(&self, alloc: Global, plan: &PlannedTables) -> Result<Touched, AllocError>
+        requires { (new : State) × IsPlanFor plan.now self.now new }
         ensures rise { IfOk result (λ t. IsStrictlySortedBy text_cmp t.children.items) }
         ensures children { IfOk result (λ t. (new : State) → IsPlanFor plan.now self.now new → AreTouched t.children.items self.now new) }
         ensures members { IfOk result (λ t. (new : State) → IsPlanFor plan.now self.now new → (IsTrue t.members ↔ MembersDiffer self.now new)) }
@@ -149,6 +150,7 @@ impl Tables {
         plan: &'a PlannedTables,
         id: &ChildId,
     ) -> Option<(Dot, &'a ChildSpec)>
+        requires { (new : State) × IsPlanFor plan.now self.now new }
         ensures winner { IsWinnerPlanned plan.now self.now id.now (option_map (λ r. child_row id.now r.0 r.1.now) result) }
         ensures counted { (new : State) → IsPlanFor plan.now self.now new → IfSome result (λ r. IsCounted r.0) }
     {

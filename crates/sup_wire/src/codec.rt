@@ -8,15 +8,13 @@ ghost use Rattle.sup_wire.specs.Drafts.{IsDraftOf, IsDraftOfImage, SaysMessage, 
 ghost use Rattle.sup_wire.specs.DraftReads.{NoJson};
 ghost use Rattle.sup_wire.specs.Faults.{IsJson, TextSays, IsTextOf, IsTextAfter, IsFault, IsOrMemory, IsInRange, IsImageInRange};
 ghost use Rattle.sup_wire.specs.ImageTexts.{IsTextFor};
-ghost use Rattle.sup_wire.specs.Lent.{ForLent};
 
 use crate::fault::WireFault;
 use crate::image::Image;
-use crate::lent_image::LentImage;
 use crate::message::Message;
 use crate::reading::images::image_of;
 use crate::reading::messages::message_of;
-use crate::writing::images::{image_text_after, lent_text_after};
+use crate::writing::images::image_text_after;
 use crate::writing::messages::write_message;
 use json::Writer;
 use serde_json::{Category, Value};
@@ -116,18 +114,6 @@ pub fn encode_image_after(front: Vec<u8>, image: &Image) -> Result<Vec<u8>, Allo
     ensures whole { IfOk result (λ _. IsWholeImage image.now) }
 {
     let text = image_text_after(front, image)?;
-    Ok(text.into_text())
-}
-
-/// The text of an image that is lent, the same that [`encode_image`] writes of the image. An `Err` where a growth was
-/// refused.
-pub fn encode_lent_image(alloc: Global, image: &LentImage<'_>) -> Result<Vec<u8>, AllocError>
-    // Of each image that this is lent of, if its context has the dots of its rows.
-    ensures text { IfOk result (λ text. ForLent image.now (λ i. IsTextOf IsDraftOfImage IsImageInRange text.items i)) }
-    // What is written is what `decode_image` reads.
-    ensures says { IfOk result (λ text. ForLent image.now (λ i. IsImageInRange i → TextSays IsDraftOfImage text.items i)) }
-{
-    let text = lent_text_after(Vec::new(alloc), image)?;
     Ok(text.into_text())
 }
 

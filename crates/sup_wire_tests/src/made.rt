@@ -2,8 +2,9 @@
 use crate::given::{node, try_id, try_unlabelled, try_worker};
 use std::process::Abort;
 use sup_causal::Lattice;
+use sup_image_text::{NextImage, RowChange};
 use sup_tables::Tables;
-use sup_wire::{Image, LentImage, Message};
+use sup_wire::{Heading, Image, Message};
 
 pub(crate) fn ack(rt: &impl Abort, from: &str, n: u64, to: &str) -> Message {
     Message::Ack {
@@ -112,12 +113,15 @@ pub(crate) fn joined_kept(rt: &(impl Abort + AllocGlobal)) -> Option<Image> {
     })
 }
 
-pub(crate) fn lent(image: &Image) -> Option<LentImage<'_>> {
-    Some(LentImage {
-        node: image.node,
-        boot: image.boot,
-        count: image.count,
-        context: image.state.context(),
-        rows: image.state.lent_rows().ok()?,
+// The image, as one of which all rows are written anew.
+pub(crate) fn lent(image: &Image) -> Option<NextImage<'_>> {
+    Some(NextImage {
+        heading: Heading {
+            node: image.node,
+            boot: image.boot,
+            count: image.count,
+            context: image.state.context(),
+        },
+        rows: RowChange::All(image.state.lent_rows().ok()?),
     })
 }

@@ -9,9 +9,9 @@ use crate::made::{
     replaced_sent, second_sent,
 };
 use std::process::Abort;
-use sup_wire::{
-    Image, Message, WireFault, decode, decode_image, encode, encode_image, encode_lent_image,
-};
+use sup_array_text::Room;
+use sup_image_text::text_after;
+use sup_wire::{Image, Message, WireFault, decode, decode_image, encode, encode_image, text_of};
 
 fn sure_text(rt: &(impl Abort + AllocGlobal), message: &Message) -> Vec<u8> {
     match encode(rt.alloc(), message) {
@@ -37,14 +37,17 @@ fn sure_image_text(rt: &(impl Abort + AllocGlobal), image: &Image) -> Vec<u8> {
     }
 }
 
-fn try_lent_text(rt: &impl AllocGlobal, image: &Image) -> Option<Vec<u8>> {
-    encode_lent_image(rt.alloc(), &lent(image)?).ok()
+fn try_next_text(rt: &(impl Abort + AllocGlobal), image: &Image) -> Option<Vec<u8>> {
+    let last = text_of(rt.alloc(), &opening(rt)).ok()?;
+    let room = Room::new(rt.alloc());
+    let text = text_after(rt.alloc(), &last, &lent(image)?, room).ok()?;
+    Some(text.into_text())
 }
 
-fn sure_lent_text(rt: &(impl Abort + AllocGlobal), image: &Image) -> Vec<u8> {
-    match try_lent_text(rt, image) {
+fn sure_next_text(rt: &(impl Abort + AllocGlobal), image: &Image) -> Vec<u8> {
+    match try_next_text(rt, image) {
         Some(text) => text,
-        None => try_lent_text(rt, image).expect(rt, "a text"),
+        None => try_next_text(rt, image).expect(rt, "a text"),
     }
 }
 
@@ -76,8 +79,8 @@ fn expect_way(rt: &(impl Abort + AllocGlobal), message: &Message, wanted: &str) 
 fn expect_image_way(rt: &(impl Abort + AllocGlobal), image: &Image, wanted: &str) {
     let text = sure_image_text(rt, image);
     assert!(rt; text.as_slice() == wanted.as_bytes(), "{wanted}");
-    let lent_text = sure_lent_text(rt, image);
-    assert!(rt; lent_text.as_slice() == wanted.as_bytes(), "{wanted}");
+    let next_text = sure_next_text(rt, image);
+    assert!(rt; next_text.as_slice() == wanted.as_bytes(), "{wanted}");
     let again = sure_image_text(rt, &sure_image(rt, wanted));
     assert!(rt; again.as_slice() == wanted.as_bytes(), "{wanted}");
 }

@@ -1,4 +1,7 @@
 //! Walks through many changes, in which the next image's text is put together of the last one's.
+ghost use Rattle.sup_tables.specs.States.{State};
+ghost use Rattle.sup_tables.specs.Planned.{IsPlanFor};
+
 use crate::walked_acts::{delta, node};
 use std::process::Abort;
 use std::test::Fail;
@@ -25,7 +28,9 @@ fn next(
     state: &Tables,
     plan: &PlannedTables,
     count: u64,
-) -> ArrayText {
+) -> ArrayText
+    requires { (new : State) × IsPlanFor plan.now state.now new }
+{
     let edits = state.lent_edits_after(rt.alloc(), plan).expect(rt, "room");
     let next = NextImage {
         heading: Heading {

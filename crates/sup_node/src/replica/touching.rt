@@ -4,6 +4,8 @@ ghost use Rattle.std.specs.Option.{option_copied};
 ghost use Rattle.sup_specs.specs.Values.{text_cmp};
 ghost use Rattle.sup_specs.specs.Rising.{among};
 ghost use Rattle.sup_causal.specs.Dots.{IsCounted};
+ghost use Rattle.sup_tables.specs.States.{State};
+ghost use Rattle.sup_tables.specs.Planned.{IsPlanFor};
 ghost use Rattle.sup_local_sup.specs.Keeping.{AreCounted};
 ghost use Rattle.sup_local_sup.specs.Changing.{news};
 ghost use Rattle.sup_node.specs.Changes.{ForPlanned, AreChangesThen};
@@ -26,6 +28,7 @@ impl Replica {
         plan: &PlannedTables,
         ids: &[ChildId],
     ) -> Result<Vec<Change>, AllocError>
+        requires { (new : State) × IsPlanFor plan.now self.now.known new }
         ensures changes { IfOk result (λ changes. AreChangesThen W.weight_of self.now hosts.now ids.now plan.now changes.items) }
         ensures counted { IfOk result (λ changes. ForPlanned plan.now self.now.known (λ _. AreCounted (news changes.items))) }
     {
@@ -46,6 +49,7 @@ impl Replica {
         plan: &PlannedTables,
         id: &ChildId,
     ) -> Result<Option<Wanted>, AllocError>
+        requires { (new : State) × IsPlanFor plan.now self.now.known new }
         ensures wanted { IfOk result (λ w. ForPlanned plan.now self.now.known (λ new. w ≡ wanted_then W.weight_of self.now hosts.now id.now new)) }
         ensures counted { IfOk result (λ w. ForPlanned plan.now self.now.known (λ _. IfSome w (λ v. IsCounted v.dot))) }
     {

@@ -2,9 +2,10 @@
 ghost use Rattle.std.specs.Prelude.{◌≡◌, ◌+◌, ◌<◌, IfOk};
 ghost use Rattle.sup_specs.specs.declared.limits.TheConstants.{MAX as MOST};
 ghost use Rattle.sup_tables.specs.Rows.{AreInOrder};
-ghost use Rattle.sup_tables.specs.States.{HasDotsOf};
+ghost use Rattle.sup_tables.specs.States.{State, HasDotsOf};
+ghost use Rattle.sup_tables.specs.Planned.{IsPlanFor};
 ghost use Rattle.sup_image_text.specs.Next.{IsChanged, IsNext};
-ghost use Rattle.sup_node.specs.Changes.{ForChanged, ForPlanned, image_with};
+ghost use Rattle.sup_node.specs.Changes.{ChangesTables, ForChanged, ForPlanned, image_with};
 
 use crate::change::Intake;
 use crate::replica::Replica;
@@ -17,7 +18,8 @@ use sup_wire::Heading;
 impl Replica {
     // Its image once a delta is taken in.
     pub(crate) fn next_image<'a>(&'a self, intake: &'a Intake) -> Result<NextImage<'a>, AllocError>
-        requires { self.now.count < MOST }
+        requires counted { self.now.count < MOST }
+        requires fits { (new : State) × ChangesTables intake.now self.now.known new }
         ensures { IfOk result (λ next. ForChanged intake.now self.now.known (λ new. IsNext self.now.known.rows (image_with self.now new) next)) }
     {
         match intake {
@@ -43,7 +45,8 @@ impl Replica {
 
     // With the tables that a plan makes.
     fn with_plan<'a>(&'a self, plan: &'a PlannedTables) -> Result<NextImage<'a>, AllocError>
-        requires { self.now.count < MOST }
+        requires counted { self.now.count < MOST }
+        requires fits { (new : State) × IsPlanFor plan.now self.now.known new }
         ensures { IfOk result (λ next. ForPlanned plan.now self.now.known (λ new. IsNext self.now.known.rows (image_with self.now new) next)) }
     {
         let context = self.tables.context_after(plan);
@@ -56,6 +59,7 @@ impl Replica {
 
     // The rows that a plan makes: by its edits, where that takes less time.
     fn rows_after<'a>(&'a self, plan: &'a PlannedTables) -> Result<RowChange<'a>, AllocError>
+        requires { (new : State) × IsPlanFor plan.now self.now.known new }
         ensures changed { IfOk result (λ rows. ForPlanned plan.now self.now.known (λ new. IsChanged self.now.known.rows new.rows rows)) }
         ensures in_order { IfOk result (λ rows. ForPlanned plan.now self.now.known (λ new. AreInOrder new.rows)) }
         ensures covered { IfOk result (λ rows. ForPlanned plan.now self.now.known (λ new. HasDotsOf new.context new.rows)) }
