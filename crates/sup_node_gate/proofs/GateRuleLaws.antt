@@ -18,11 +18,11 @@ use Rattle.sup_node_gate.specs.declared.view.Parts.{Parts}
 use Rattle.sup_node_gate.specs.declared.view.View.{View}
 use Rattle.sup_node_gate.specs.Parts.{counted_in, counted_at, IsLike}
 use Rattle.sup_node_gate.specs.Views.{IsAmongPlaces, PlacesRise, newcomer, taking, losing, raising, freeing, looking}
-use Rattle.sup_node_gate.specs.Rule.{OpensAt, SavesAll, FitsView, HasTurn, IsHeldBy, AllApart, AllOwned, all_shares, RuleHolds, IsSeenAt, took, raised, gave_back, looked, HasUncountedEntry}
+use Rattle.sup_node_gate.specs.Rule.{OpensAt, SavesAll, FitsView, HasTurn, IsHeldBy, AllApart, AllOwned, all_shares, RuleHolds, IsSeenAt, TriedAt, took, raised, gave_back, looked, HasUncountedEntry}
 use Rattle.sup_node_gate.specs.Shares.{IsWhole, is_shared}
 use Rattle.sup_node_gate.proofs.ShareLaws.{first_whole, true_false}
 use Rattle.sup_node_gate.proofs.ViewShareLaws.{whole_stays, taken_apart, sole_calls}
-use Rattle.sup_node_gate.proofs.HistoryListLaws.{prefix_refl, prefix_longer, replays_one, saved_one, rises_more, rises_one, stands_below, stands_append, set_at, views_stay, apart_stays, held_stays, owned_stays, owned_one}
+use Rattle.sup_node_gate.proofs.HistoryListLaws.{prefix_refl, prefix_longer, tried_longer, replays_one, saved_one, rises_more, rises_one, stands_below, stands_append, set_at, views_stay, apart_stays, held_stays, owned_stays, owned_one}
 
 opens_at : (o : P.Option Parts) (most : ℕ) (start : Parts) (bound : ℕ) (x : Parts) → OpensAt o most start bound → o ≡ Some x → (x ≡ start) × (most ≡ bound)
 opens_at (Some y) most start bound x h e = let same : y ≡ x = cc in (sym same ∙ h.0, h.1)
@@ -111,6 +111,7 @@ module _ {H : Type 0} where
       λ o e. subst (λ (x : Parts). SavesAll x r.held) (sym (opens_at v.opening v.bound start bound o f.0 e).0) r.saves,
       λ o e. subst (λ (most : ℕ). length r.held.history ≤ most) (sym (opens_at v.opening v.bound start bound o f.0 e).1) r.within,
       λ whole placed. sole_calls s.views me v r.held.history at r.owned (λ j d there. (r.each_view j d there).4) r.whole whole f.1 f.3 placed,
+      f.5,
     )
 
     seen_like : (v : View) (h k : Holding) → IsLike h k → IsSeenAt g v k → IsSeenAt g v h
@@ -122,6 +123,7 @@ module _ {H : Type 0} where
       λ o e. saves_like o h k like (seen.4 o e),
       λ o e. subst (λ (l : List Entry). length l ≤ v.bound) (sym like.0) (seen.5 o e),
       λ whole placed. seen.6 whole placed ∙ ap (map some) (sym like.0),
+      subst (TriedAt v) (sym like.0) seen.7,
     )
 
     of_turn : (s : State (P.Option H) View) (r : RuleHolds sight g start bound s) (me : ℕ) (v : View) (h : Holding) → get_elem? s.views me ≡ some v → v.turn ≡ Some h → HasTurn r.held (get_or s.words 1 0) r.holder me (Some h)
@@ -132,7 +134,7 @@ module _ {H : Type 0} where
       w,
       keeps,
       tt,
-      unmoved s r 0 id me.1 me.0 w at refl refl refl (f.0, prefix_refl r.held.history, (r.held.history, refl), f.3, f.4),
+      unmoved s r 0 id me.1 me.0 w at refl refl refl (f.0, prefix_refl r.held.history, (r.held.history, refl), f.3, f.4, f.5),
       (r.held, refl, sym r.counted, seen_at s r id me.0 at, λ h e. sym (of_turn s r id me.0 h at e).2),
     )
 
@@ -156,7 +158,7 @@ module _ {H : Type 0} where
             counted = get_or-set_other s.words 1 0 1 0 (λ e. omega arith) ∙ (r.counted ∙ ap length (sym like.0));
             free = λ e. absurd (omega arith);
             taken = λ _. (w, held, set_at s.views id me.0 w at, refl);
-            each_view = views_stay (λ _ d. FitsView start bound held.history d) s.views id w (mine.0, mine.1, mine.2, mine.3, λ bare. absurd (true_false (sym shared ∙ bare))) (λ j d _. fits j d);
+            each_view = views_stay (λ _ d. FitsView start bound held.history d) s.views id w (mine.0, mine.1, mine.2, mine.3, (λ bare. absurd (true_false (sym shared ∙ bare))), (prefix_refl held.history, tt)) (λ j d _. fits j d);
             each_turn = views_stay (λ j d. HasTurn held (get_or (set s.words 1 1) 1 0) id j d.turn) s.views id w (now, refl, refl)
                 (λ j d _ there. turns_none r.held held (get_or s.words 1 0) _ r.holder id j d.turn z (r.each_turn j d there));
             apart = apart_stays s.views id me.0 w at refl r.apart;
@@ -165,11 +167,11 @@ module _ {H : Type 0} where
           },
           (held, seen_like me.0 held r.held like (seen_at s r id me.0 at), (λ _. (h, refl, refl)), (λ n. absurd (n z))),
         ))
-        (λ (n : get_or s.words 1 0 ≢ 0). let w = losing me.0 r.held in (
+        (λ (n : get_or s.words 1 0 ≢ 0). let w = losing me.0 r.held in let f = r.each_view id me.0 at in (
           w,
           keeps,
           tt,
-          unmoved s r 1 id me.1 me.0 w at refl refl refl (r.each_view id me.0 at),
+          unmoved s r 1 id me.1 me.0 w at refl refl refl (f.0, f.1, f.2, f.3, f.4, (tt, prefix_refl r.held.history)),
           (r.held, seen_at s r id me.0 at, (λ z. absurd (n z)), (λ _. (refl, taken_apart s.views id r.holder me.0 at idle (r.taken n) (λ j d there. (r.each_view j d there).4) r.whole))),
         ))
 
@@ -194,7 +196,7 @@ module _ {H : Type 0} where
               subst (IsLike (sight h)) t.2 like,
             );
             taken = λ n. absurd (n now);
-            each_view = views_stay (λ _ d. FitsView start bound r.held.history d) s.views id w (f.0, f.1, f.2, f.3, λ bare. ((f.4 bare).0, refl)) (λ j d _. r.each_view j d);
+            each_view = views_stay (λ _ d. FitsView start bound r.held.history d) s.views id w (f.0, f.1, f.2, f.3, (λ bare. ((f.4 bare).0, refl)), f.5) (λ j d _. r.each_view j d);
             each_turn = views_stay (λ j d. HasTurn r.held (get_or (set s.words 1 0) 1 0) id j d.turn) s.views id w tt
                 (λ j d other there. turns_other r.held r.held (get_or s.words 1 0) _ r.holder id j d.turn (λ e. other (e ∙ sym t.1)) (r.each_turn j d there));
             apart = apart_stays s.views id me.0 w at refl r.apart;
@@ -231,8 +233,8 @@ module _ {H : Type 0} where
             free = λ e. absurd (omega arith);
             taken = λ _. (w, held, set_at s.views id me.0 w at, refl);
             each_view = views_stay (λ _ d. FitsView start bound held.history d) s.views id w
-                (mine.0, prefix_refl held.history, (held.history, refl), subst (PlacesRise 0 (me.0.own ++ n ∷ [])) (omega arith) (rises_one 0 me.0.own n mine.3), λ bare. absurd (true_false (sym shared ∙ bare)))
-                (λ j d _ there. let f = fits j d there in (f.0, subst (IsPrefix d.seen) (sym longer) (prefix_longer d.seen _ _ f.1), subst (IsPrefix d.told) (sym longer) (prefix_longer d.told _ _ f.2), rises_more 0 d.own _ _ f.3 (omega arith), f.4));
+                (mine.0, prefix_refl held.history, (held.history, refl), subst (PlacesRise 0 (me.0.own ++ n ∷ [])) (omega arith) (rises_one 0 me.0.own n mine.3), (λ bare. absurd (true_false (sym shared ∙ bare))), subst (TriedAt me.0) (sym longer) (tried_longer me.0 _ _ mine.5))
+                (λ j d _ there. let f = fits j d there in (f.0, subst (IsPrefix d.seen) (sym longer) (prefix_longer d.seen _ _ f.1), subst (IsPrefix d.told) (sym longer) (prefix_longer d.told _ _ f.2), rises_more 0 d.own _ _ f.3 (omega arith), f.4, subst (TriedAt d) (sym longer) (tried_longer d _ _ f.5)));
             each_turn = views_stay (λ j d. HasTurn held (get_or (set s.words 0 z) 1 0) id j d.turn) s.views id w (turn_word, refl, refl)
                 (λ j d other there. turns_other r.held _ (get_or s.words 1 0) _ r.holder id j d.turn (λ e. other (e ∙ sym t.1)) (r.each_turn j d there));
             apart = apart_longer s.views id n me.0 w at refl (λ j d there. (fits j d there).3) r.apart;
@@ -258,7 +260,7 @@ module _ {H : Type 0} where
       counted = refl;
       free = λ _. (h, refl, like);
       taken = λ n. absurd (n refl);
-      each_view = λ j v there. subst (λ (d : View). FitsView start bound [] d) (only opening j v there) ((starts, refl), ([], refl), ([], refl), zero-le, λ _. (refl, refl));
+      each_view = λ j v there. subst (λ (d : View). FitsView start bound [] d) (only opening j v there) ((starts, refl), ([], refl), ([], refl), zero-le, (λ _. (refl, refl)), (tt, tt));
       each_turn = λ j v there. subst (λ (d : View). HasTurn record { history = []; parts = opening } 0 0 j d.turn) (only opening j v there) tt;
       apart = λ i j p v u at_i at_j in_v in_u. absurd (subst (λ (d : View). IsAmongPlaces p d.own) (sym (only opening i v at_i)) in_v);
       owned = λ p lt. absurd (omega (arith, lt));

@@ -1,17 +1,19 @@
 -- Histories, prefixes, places and views.
-use Rattle.std.proofs.Common.{◌≡◌, true, ℕ, zero, suc, ◌<◌, ◌≤◌, ◌≢◌, ◌⊎◌, List, [], ◌∷◌, ◌++◌, map, length, set, sym, refl, ap, ◌∙◌, subst, inl, inr, ⊎_elim, append_assoc, append-nil, arith}
+use Rattle.std.proofs.Common.{◌≡◌, None, Some, true, ℕ, zero, suc, ◌<◌, ◌≤◌, ◌≢◌, ◌⊎◌, List, [], ◌∷◌, ◌++◌, map, length, set, sym, refl, ap, ◌∙◌, subst, inl, inr, ⊎_elim, append_assoc, append-nil, arith}
 use mathlib.Core.Logic.{dite}
 use mathlib.Core.Option.{some, some-injective, some-ne-none}
 use native.Mathlib.Decide.{ℕ_discrete}
 use lib.ListN.{get_elem?}
+use Rattle.std.specs.declared.option.Option as P
 use Rattle.sup_placement.specs.Place.{Weigher}
 use Rattle.sup_replica.specs.declared.event.Act.{Act}
 use Rattle.sup_node_gate.specs.Histories.{CountedStation, StationAnswer, RespondsToAct}
 use Rattle.sup_node_gate.specs.declared.entry.Entry.{Entry}
 use Rattle.sup_node_gate.specs.Histories.{AllSaved, ReplaysEntries, IsPrefix, entry}
+use Rattle.sup_node_gate.specs.declared.view.Holding.{Holding}
 use Rattle.sup_node_gate.specs.declared.view.View.{View}
 use Rattle.sup_node_gate.specs.Views.{IsAmongPlaces, PlacesRise}
-use Rattle.sup_node_gate.specs.Rule.{AllApart, AllOwned, IsHeldBy}
+use Rattle.sup_node_gate.specs.Rule.{FoundFront, TriedAt, AllApart, AllOwned, IsHeldBy}
 use Rattle.atomic_table.proofs.Lists.{at_set, at_longer, set_else}
 
 pub prefix_refl : (xs : List Entry) → IsPrefix xs xs
@@ -22,6 +24,13 @@ prefix_longer xs ys zs p = (p.0 ++ zs, ap (λ l. l ++ zs) p.1 ∙ append_assoc x
 
 pub prefix_trans : (xs ys zs : List Entry) → IsPrefix xs ys → IsPrefix ys zs → IsPrefix xs zs
 prefix_trans xs ys zs p q = subst (IsPrefix xs) (sym q.1) (prefix_longer xs ys q.0 p)
+
+found_longer : (found : P.Option Holding) (xs ys : List Entry) → FoundFront found xs → FoundFront found (xs ++ ys)
+found_longer (Some h) xs ys p = prefix_longer h.history xs ys p
+found_longer None xs ys p = tt
+
+pub tried_longer : (v : View) (xs ys : List Entry) → TriedAt v xs → TriedAt v (xs ++ ys)
+tried_longer v xs ys t = (found_longer v.taken xs ys t.0, found_longer v.lost xs ys t.1)
 
 pub replays_one : (g : Weigher) (t u : CountedStation) (a : Act) (now : ℕ) (r : StationAnswer) → RespondsToAct g t a now r u → (es : List Entry) (s : CountedStation) → ReplaysEntries g s es t → ReplaysEntries g s (es ++ entry a now r ∷ []) u
 replays_one g t u a now r goes [] s here = (u, subst (λ (x : CountedStation). RespondsToAct g x a now r u) (sym here) goes, refl, refl)

@@ -20,10 +20,10 @@ use Rattle.sup_node_gate.specs.Views.{PlacesRise, calls_of, merged, taking, rais
 use Rattle.sup_node_gate.specs.Holdings.{AddsEntry}
 use Rattle.sup_node_gate.specs.Rule.{IsSeenAt, IsTurnTaken, looks}
 use Rattle.sup_node_gate.specs.Calls.{EntersCall, KeepsOwn, IsFull, HasNoMemory, RefusesCall, ActsInTurn, JoinedViews, MayAct, IsIdle, KeepsStanding}
-use Rattle.sup_node_gate.specs.Shares.{is_shared}
+use Rattle.sup_node_gate.specs.Shares.{IsWhole, is_shared}
 use Rattle.sup_node_gate.specs.Shuffles.{IsShuffle}
 use Rattle.sup_node_gate.proofs.GateRuleLaws.{slot_or}
-use Rattle.sup_node_gate.proofs.HistoryListLaws.{replays_one, rises_one, rises_more, entries_more}
+use Rattle.sup_node_gate.proofs.HistoryListLaws.{prefix_refl, replays_one, rises_one, rises_more, entries_more}
 use Rattle.sup_node_gate.proofs.PlaceListLaws.{merged_apart}
 use Rattle.sup_node_gate.proofs.ShuffleLaws.{merged_shuffles, map_shuffles}
 
@@ -53,9 +53,17 @@ made_enters g start v h h' a now r opens seen placed made = let n : ℕ = length
 pub is_full : (g : Weigher) (start : Parts) (bound : ℕ) (v : View) (h : Holding) → v.opening ≡ Some start → IsSeenAt g v h → length h.history ≡ bound → IsFull g (counted_in start) bound v (freeing (looking v h.history))
 is_full g start bound v h opens seen len = (len, record { begins = seen.0; replays = (counted_at h, seen.3 start opens); places = refl; rises = seen.2 })
 
-pub has_no_memory : (g : Weigher) (start : Parts) (bound : ℕ) (v : View) (h : Holding) → v.opening ≡ Some start → v.taken ≡ Some h → IsSeenAt g v h → length h.history ≢ bound
+pub has_no_memory : (g : Weigher) (start : Parts) (bound : ℕ) (v : View) (h : Holding) → v.opening ≡ Some start → v.bound ≡ bound → v.taken ≡ Some h → IsSeenAt g v h → PlacesRise 0 v.own (length v.seen) → length h.history ≢ bound
     → HasNoMemory g (counted_in start) bound v (freeing v)
-has_no_memory g start bound v h opens taken seen not_full = record { held = h; taken = taken; begins = seen.0; replays = seen.3 start opens; not_full = not_full; same = (refl, refl) }
+has_no_memory g start bound v h opens most taken seen placed not_full = let within = seen.5 start opens in record {
+  held = h;
+  taken = taken;
+  begins = seen.0;
+  replays = seen.3 start opens;
+  not_full = omega (arith, within, most, not_full);
+  sole = λ whole. seen.6 whole placed;
+  same = (refl, refl);
+}
 
 pub looked_keeps : (g : Weigher) (start : Parts) (v : View) (h : Holding) → v.opening ≡ Some start → IsSeenAt g v h → KeepsOwn g (counted_in start) v (looking v h.history)
 looked_keeps g start v h opens seen = record { begins = seen.0; replays = (counted_at h, seen.3 start opens); places = refl; rises = seen.2 }
@@ -78,6 +86,7 @@ looked_joins g start v u h opens seen placed others = let xs = h.history in reco
   tries = refl;
   splits = refl;
   shares = refl;
+  last_try = (refl, refl, seen.7);
   calls = subst (λ (p : List (M.Option Entry) × List (M.Option Entry)). IsShuffle p.0 p.1 (map (get_elem? xs) (merged v.own u.own)))
       (λ i. (calls_in v xs seen.0 placed i, calls_in u xs seen.1 others i))
       (map_shuffles (get_elem? xs) (merged v.own u.own) v.own u.own
@@ -92,9 +101,11 @@ module _ {H : Type 0} where
       let taken = subst (λ (x : Holding). IsSeenAt g m.0 x × (m' ≡ (taking m.0 x, (0, Some h) ∷ []))) (sym same) (seen, all) in (h, taken.0, taken.1)
 
   -- a pass that took the turn may act
-  pub may_act : (sight : H → Holding) (g : Weigher) (opening : Parts) (m m' : Me (P.Option H) View) → IsTurnTaken sight g m m' → m.0.told ≡ [] → m.0.opening ≡ Some opening → PlacesRise 0 m.0.own (length m.0.seen) → is_shared m.0.shares ≡ true
-      → MayAct sight g opening m'
-  may_act sight g opening m m' t told opens placed shared = subst (λ (x : Me (P.Option H) View). MayAct sight g opening x) (sym t.2) (t.0, refl, refl, told, opens, t.1, placed, refl, shared)
+  pub may_act : (sight : H → Holding) (g : Weigher) (opening : Parts) (bound : ℕ) (m m' : Me (P.Option H) View) → IsTurnTaken sight g m m' → m.0.told ≡ [] → m.0.opening ≡ Some opening → m.0.bound ≡ bound → PlacesRise 0 m.0.own (length m.0.seen) → is_shared m.0.shares ≡ true
+      → MayAct sight g opening bound m'
+  may_act sight g opening bound m m' t told opens most placed shared = let held = sight t.0 in let s = t.1 in
+      let seen : IsSeenAt g (taking m.0 held) held = (s.0, s.1, s.2, s.3, s.4, s.5, s.6, (prefix_refl held.history, tt)) in
+      subst (λ (x : Me (P.Option H) View). MayAct sight g opening bound x) (sym t.2) (t.0, refl, refl, told, opens, seen, placed, refl, shared, most)
 
   -- what is lent of a slot is what the seat has there
   pub lent_slot : (m : Me (P.Option H) View) (h : H) (lent : P.Option H) (held : H) → m.1 ≡ (0, Some h) ∷ [] → m.1 ≡ (0, lent) ∷ rest m.1 → lent ≡ Some held → held ≡ h
@@ -125,24 +136,28 @@ keeps_same g s v u v' seen own x = record {
   rises = x.rises;
 }
 
-no_memory_same : (g : Weigher) (s : CountedStation) (bound : ℕ) (v u v' : View) → v.seen ≡ u.seen → v.own ≡ u.own → HasNoMemory g s bound v v' → HasNoMemory g s bound u v'
-no_memory_same g s bound v u v' seen own x = record {
+pub own_same : (v u : View) → v.seen ≡ u.seen → v.own ≡ u.own → calls_of v ≡ calls_of u
+own_same v u seen own i = map (get_elem? (seen i)) (own i)
+
+no_memory_same : (g : Weigher) (s : CountedStation) (bound : ℕ) (v u v' : View) → v.seen ≡ u.seen → v.own ≡ u.own → v.shares ≡ u.shares → HasNoMemory g s bound v v' → HasNoMemory g s bound u v'
+no_memory_same g s bound v u v' seen own shares x = record {
   held = x.held;
   taken = x.taken;
   begins = subst (λ (l : List Entry). IsPrefix l x.held.history) seen x.begins;
   replays = x.replays;
   not_full = x.not_full;
+  sole = λ whole. sym (own_same v u seen own) ∙ x.sole (subst IsWhole (sym shares) whole);
   same = (x.same.0 ∙ seen, x.same.1 ∙ own);
 }
 
-refuses_same : (k : RefusalStanding) (g : Weigher) (s : CountedStation) (bound : ℕ) (v u : View) (e : Entry) (v' : View) → v.seen ≡ u.seen → v.own ≡ u.own → RefusesCall k g s bound v e v' → RefusesCall k g s bound u e v'
-refuses_same full g s bound v u e v' seen own x = (x.0, keeps_same g s v u v' seen own x.1)
-refuses_same no_room g s bound v u e v' seen own x = no_memory_same g s bound v u v' seen own x
-refuses_same entered g s bound v u e v' seen own x = enters_same g s v u e v' seen own x
+refuses_same : (k : RefusalStanding) (g : Weigher) (s : CountedStation) (bound : ℕ) (v u : View) (e : Entry) (v' : View) → v.seen ≡ u.seen → v.own ≡ u.own → v.shares ≡ u.shares → RefusesCall k g s bound v e v' → RefusesCall k g s bound u e v'
+refuses_same full g s bound v u e v' seen own shares x = (x.0, keeps_same g s v u v' seen own x.1)
+refuses_same no_room g s bound v u e v' seen own shares x = no_memory_same g s bound v u v' seen own shares x
+refuses_same entered g s bound v u e v' seen own shares x = enters_same g s v u e v' seen own x
 
-pub acts_same : (g : Weigher) (s : CountedStation) (bound : ℕ) (v u : View) (a : Act) (now : ℕ) (r : StationAnswer) (v' : View) → v.seen ≡ u.seen → v.own ≡ u.own → ActsInTurn g s bound v a now r v' → ActsInTurn g s bound u a now r v'
-acts_same g s bound v u a now (Ok d) v' seen own x = enters_same g s v u (entry a now (Ok d)) v' seen own x
-acts_same g s bound v u a now (Err r) v' seen own x = refuses_same (standing_of r) g s bound v u (entry a now (Err r)) v' seen own x
+pub acts_same : (g : Weigher) (s : CountedStation) (bound : ℕ) (v u : View) (a : Act) (now : ℕ) (r : StationAnswer) (v' : View) → v.seen ≡ u.seen → v.own ≡ u.own → v.shares ≡ u.shares → ActsInTurn g s bound v a now r v' → ActsInTurn g s bound u a now r v'
+acts_same g s bound v u a now (Ok d) v' seen own shares x = enters_same g s v u (entry a now (Ok d)) v' seen own x
+acts_same g s bound v u a now (Err r) v' seen own shares x = refuses_same (standing_of r) g s bound v u (entry a now (Err r)) v' seen own shares x
 
 -- what the steps of a reading come to: the seat is as it was, but has seen what lies in the slot, and has given the turn back
 pub all_read : {H : Type 0} (g : Weigher) (m k w : Me (P.Option H) View) {last : Me (P.Option H) View} {found : ℕ} (h : Holding) → k ≡ m → looks g k found w → m.0.turn ≡ Some h → last ≡ (freeing w.0, []) → last ≡ (freeing (looking m.0 h.history), [])
@@ -155,6 +170,3 @@ read_keeps g start v h opens seen = record { begins = seen.0; replays = (counted
 
 pub read_own : {H : Type 0} (v : View) (h : Holding) (m : Me (P.Option H) View) → m ≡ (freeing (looking v h.history), []) → IsPrefix v.seen h.history → PlacesRise 0 v.own (length v.seen) → calls_of m.0 ≡ calls_of v
 read_own {H = H} v h m is begins placed = ap (λ (x : Me (P.Option H) View). calls_of x.0) is ∙ calls_in v h.history begins placed
-
-pub own_same : (v u : View) → v.seen ≡ u.seen → v.own ≡ u.own → calls_of v ≡ calls_of u
-own_same v u seen own i = map (get_elem? (seen i)) (own i)

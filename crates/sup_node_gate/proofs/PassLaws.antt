@@ -66,13 +66,13 @@ held_without vs other u w holder there idle b = dite (ℕ_discrete holder other)
 
 module _ {H : Type 0} (sight : H → Holding) (g : Weigher) (start : Parts) (bound : ℕ) where
   pub splits : (id : ℕ) (v : View) → Splits (RuleHolds sight g start bound) id v (first v) (second v)
-  splits id v s r at = let f = r.each_view id v at in let left : FitsView start bound r.held.history (first v) = (f.0, f.1, f.2, f.3, λ bare. f.4 (sym (shared_halved v.shares) ∙ bare)) in let vs = set s.views id (first v) in
+  splits id v s r at = let f = r.each_view id v at in let left : FitsView start bound r.held.history (first v) = (f.0, f.1, f.2, f.3, (λ bare. f.4 (sym (shared_halved v.shares) ∙ bare)), f.5) in let vs = set s.views id (first v) in
       let views : (j : ℕ) (d : View) → get_elem? vs j ≡ some d → FitsView start bound r.held.history d = views_stay (λ _ d. FitsView start bound r.held.history d) s.views id (first v) left (λ j d _. r.each_view j d) in
       let turns : (j : ℕ) (d : View) → get_elem? vs j ≡ some d → HasTurn r.held (get_or s.words 1 0) r.holder j d.turn =
       views_stay (λ j d. HasTurn r.held (get_or s.words 1 0) r.holder j d.turn) s.views id (first v) (r.each_turn id v at) (λ j d _. r.each_turn j d) in
       let apart = apart_stays s.views id v (first v) at refl r.apart in with_views sight g start bound s r (vs ++ second v ∷ [])
       (λ n. let b = held_stays s.views id v (first v) r.holder at refl (r.taken n) in (b.0, b.1, at_longer vs (second v ∷ []) r.holder b.0 b.2, b.3))
-      (λ j d there. ⊎_elim (views j d) (λ (t : second v ≡ d). subst (λ (x : View). FitsView start bound r.held.history x) t (f.0, f.1, (r.held.history, refl), zero-le, λ _. (refl, refl))) (at_snoc vs (second v) d j there))
+      (λ j d there. ⊎_elim (views j d) (λ (t : second v ≡ d). subst (λ (x : View). FitsView start bound r.held.history x) t (f.0, f.1, (r.held.history, refl), zero-le, (λ _. (refl, refl)), (tt, tt))) (at_snoc vs (second v) d j there))
       (λ j d there. ⊎_elim (turns j d) (λ (t : second v ≡ d). subst (λ (x : View). HasTurn r.held (get_or s.words 1 0) r.holder j x.turn) t tt) (at_snoc vs (second v) d j there))
       (λ i j p a b at_i at_j in_a in_b. ⊎_elim
       (λ (x : get_elem? vs i ≡ some a). ⊎_elim (λ (y : get_elem? vs j ≡ some b). apart i j p a b x y in_a in_b) (λ (y : second v ≡ b). absurd (subst (λ (z : View). IsAmongPlaces p z.own) (sym y) in_b)) (at_snoc vs (second v) b j at_j))
@@ -85,8 +85,8 @@ module _ {H : Type 0} (sight : H → Holding) (g : Weigher) (start : Parts) (bou
       let f = r.each_view id v at in let k = r.each_view other u there in
       let rises = rises_merged u.own v.own 0 (length r.held.history) f.3 k.3 (λ q a b. not (sym (r.apart id other q v u at there a b))) in with_views sight g start bound s r (set (set s.views id both) other spent)
       (λ n. held_without (set s.views id both) other u spent r.holder there' idle (held_stays s.views id v both r.holder at refl (r.taken n)))
-      (views_stay (λ _ d. FitsView start bound r.held.history d) (set s.views id both) other spent (tt, (r.held.history, refl), (r.held.history, refl), zero-le, λ _. (refl, refl))
-      (λ j d _. views_stay (λ _ d. FitsView start bound r.held.history d) s.views id both (f.0, f.1, k.1, rises, joined_none v u f.4 k.4) (λ j d _. r.each_view j d) j d))
+      (views_stay (λ _ d. FitsView start bound r.held.history d) (set s.views id both) other spent (tt, (r.held.history, refl), (r.held.history, refl), zero-le, (λ _. (refl, refl)), (tt, tt))
+      (λ j d _. views_stay (λ _ d. FitsView start bound r.held.history d) s.views id both (f.0, f.1, k.1, rises, joined_none v u f.4 k.4, f.5) (λ j d _. r.each_view j d) j d))
       (views_stay (λ j d. HasTurn r.held (get_or s.words 1 0) r.holder j d.turn) (set s.views id both) other spent tt
       (λ j d _. views_stay (λ j d. HasTurn r.held (get_or s.words 1 0) r.holder j d.turn) s.views id both (r.each_turn id v at) (λ j d _. r.each_turn j d) j d))
       (joined_apart s.views id other v u at there r.apart not)

@@ -1,5 +1,5 @@
 use Rattle.std.proofs.Common.{ap, ◌∙◌}
-use Rattle.sup_node_gate.specs.Gates.{view_of, opening_parts, opening_of}
+use Rattle.sup_node_gate.specs.Gates.{view_of, opening_parts, opening_of, bound_of}
 use Rattle.sup_node_gate.specs.Holdings.{holding_of}
 use Rattle.sup_node_gate.proofs.OutcomeLaws.{keeps_same, may_act, own_same}
 use Rattle.sup_node_gate.proofs.gate.NodeGate.letters.Goals as goal
@@ -7,8 +7,8 @@ use Rattle.sup_node_gate.proofs.gate.NodeGate.letters.Goals as goal
 pub read-requires : goal.read-requires
 read-requires g c = let of = c.loop.invariant.2 in let pass = c.loop.pass in (
   c.take_turn.ensures.same ∙ of.0,
-  may_act (holding_of {K = g.row.K.Denot} {W = g.row.W.Denot} {g = g.K.Keeper} {h = g.W.Weigh} g.K.Keeper.kept g.K.Keeper.failures g.K.Keeper.sound) g.W.Weigh.weight_of (opening_parts g.K.Keeper.kept g.K.Keeper.failures g.K.Keeper.sound c.args.self.now) pass.seat.me c.take_turn.new.seat.me
-      (c.take_turn.ensures.taken c.if-take_turn.true) pass.idle.1 of.1 pass.placed pass.sharing,
+  may_act (holding_of {K = g.row.K.Denot} {W = g.row.W.Denot} {g = g.K.Keeper} {h = g.W.Weigh} g.K.Keeper.kept g.K.Keeper.failures g.K.Keeper.sound) g.W.Weigh.weight_of (opening_parts g.K.Keeper.kept g.K.Keeper.failures g.K.Keeper.sound c.args.self.now) (bound_of c.args.self.now) pass.seat.me c.take_turn.new.seat.me
+      (c.take_turn.ensures.taken c.if-take_turn.true) pass.idle.1 of.1 of.2 pass.placed pass.sharing,
 )
 
 pub returns-then-take_turn-clause-seen : goal.returns-then-take_turn-clause-seen
