@@ -5,9 +5,10 @@
 //! sends goes through links that lose, double and hold messages as the plan's scripts say.
 #![tactic(auto)]
 
+mod run_histories;
 mod running;
 
+pub use run_histories::RunHistories;
 pub use running::run;
 pub use sup_driving::{Checkpoint, PlannedRun, Quiet, Runner};
 pub use sup_posts::{Request, Requests};
-pub use sup_run_ends::RunHistories;

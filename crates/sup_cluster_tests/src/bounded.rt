@@ -11,10 +11,10 @@ use std::process::Abort;
 use std::sync::Wait;
 use std::sync::atomic::{AtomicBool, Ordering};
 use std::thread::Threads;
-use sup_cluster::{Checkpoint, PlannedRun, Quiet, Requests, RunHistories, run};
+use sup_cluster::{Checkpoint, PlannedRun, Quiet, Requests, run};
 use sup_links::Verdict;
 use sup_placement::FlatWeigh;
-use sup_plan::{Command, Plan};
+use sup_plan::{Command, Histories, Plan};
 use sup_posts::RunFault;
 use sup_specs::NodeName;
 
@@ -24,14 +24,15 @@ fn run_within<R: Threads + Wait + Sync + AllocGlobal, C: Checkpoint + Sync>(
     plan: &Plan,
     bound: u64,
     checkpoint: &C,
-) -> Result<RunHistories, RunFault>
+) -> Result<Histories, RunFault>
     requires { IsBound bound }
     ensures bad { ¬ (IsPlan plan.now) → result ≡ Err BadPlan }
     ensures good { IsPlan plan.now → result ≢ Err BadPlan }
     ensures run { IfOk result (λ histories. IsRunOf flat_weight (λ node effect answer. answer ≡ true) plan.now histories) }
 {
     let planned = PlannedRun::new(plan, bound, &Quiet, checkpoint)?;
-    run(rt, rt.alloc(), planned, &FlatWeigh)
+    let ran = run(rt, rt.alloc(), planned, &FlatWeigh)?;
+    Ok(ran.into_histories())
 }
 
 // Node a has two commands, and b none.

@@ -9,11 +9,11 @@ use std::process::Abort;
 use std::sync::Wait;
 use std::sync::atomic::{AtomicBool, Ordering};
 use std::thread::{Threads, yield_now};
-use sup_cluster::{Checkpoint, PlannedRun, RunHistories, Runner, run};
+use sup_cluster::{Checkpoint, PlannedRun, Runner, run};
 use sup_links::{LinkScript, Verdict};
 use sup_node_gate::MAX_BOUND;
 use sup_placement::FlatWeigh;
-use sup_plan::{Command, Plan, Route};
+use sup_plan::{Command, Histories, Plan, Route};
 use sup_posts::RunFault;
 use sup_replica::{Act, Config, Event, MessageText, Refusal, Reply};
 use sup_specs::{ChildId, ChildSpec, Kind, NodeName, Restart, Shutdown, Text};
@@ -136,7 +136,7 @@ fn is_it(reply: &Reply, counted: Counted) -> bool {
 }
 
 /// How often this reply stands in the history of the node at a place.
-pub(crate) fn count(histories: &RunHistories, at: usize, counted: Counted) -> usize {
+pub(crate) fn count(histories: &Histories, at: usize, counted: Counted) -> usize {
     let Some(history) = histories.as_slice().get(at) else {
         return 0;
     };
@@ -151,7 +151,7 @@ pub(crate) fn count(histories: &RunHistories, at: usize, counted: Counted) -> us
 }
 
 /// How many of a node's entries are refused since it is stopped.
-pub(crate) fn refused_down(histories: &RunHistories, at: usize) -> usize {
+pub(crate) fn refused_down(histories: &Histories, at: usize) -> usize {
     let Some(history) = histories.as_slice().get(at) else {
         return 0;
     };
@@ -163,7 +163,7 @@ pub(crate) fn refused_down(histories: &RunHistories, at: usize) -> usize {
 }
 
 /// How many of a node's entries are deliveries.
-pub(crate) fn deliveries(histories: &RunHistories, at: usize) -> usize {
+pub(crate) fn deliveries(histories: &Histories, at: usize) -> usize {
     let Some(history) = histories.as_slice().get(at) else {
         return 0;
     };
@@ -179,16 +179,17 @@ pub(crate) fn run_flat<
     R: Threads + Wait + Sync + AllocGlobal,
     N: Runner + Sync,
     C: Checkpoint + Sync,
->(rt: &R, plan: &Plan, runner: &N, checkpoint: &C) -> Result<RunHistories, RunFault>
+>(rt: &R, plan: &Plan, runner: &N, checkpoint: &C) -> Result<Histories, RunFault>
     ensures bad { ¬ (IsPlan plan.now) → result ≡ Err BadPlan }
     ensures good { IsPlan plan.now → result ≢ Err BadPlan }
     ensures run { IfOk result (λ histories. IsRunOf flat_weight (N.did runner.now) plan.now histories) }
 {
     let planned = PlannedRun::new(plan, MAX_BOUND, runner, checkpoint)?;
-    run(rt, rt.alloc(), planned, &FlatWeigh)
+    let ran = run(rt, rt.alloc(), planned, &FlatWeigh)?;
+    Ok(ran.into_histories())
 }
 
 /// Whether the histories are judged to be a run.
-pub(crate) fn is_certified(rt: &impl AllocGlobal, plan: &Plan, histories: &RunHistories) -> bool {
-    sup_certify::certify(rt.alloc(), plan, histories.histories(), FlatWeigh).is_ok()
+pub(crate) fn is_certified(rt: &impl AllocGlobal, plan: &Plan, histories: &Histories) -> bool {
+    sup_certify::certify(rt.alloc(), plan, histories, FlatWeigh).is_ok()
 }

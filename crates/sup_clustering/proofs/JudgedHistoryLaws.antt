@@ -26,8 +26,8 @@ use Rattle.sup_posts.specs.declared.fault.RunFault.TheVariants as run
 use Rattle.sup_cluster_texts.specs.Faults.{of_certify, of_run}
 use Rattle.sup_cluster_texts.specs.declared.fault.ClusterFault.{ClusterFault}
 use Rattle.sup_cluster_texts.specs.declared.fault.ClusterFault.TheVariants.{Job, HistoryFull, LinkClosed, Stuck, Differs}
-use Rattle.sup_clustering.specs.CertifiedPlans.{IsGiven, IsRefused, PrintsCluster}
-use Rattle.sup_clustering.specs.Verdicts.{IsNoRun, PrintsRun, RefusesHistories}
+use Rattle.sup_clustering.specs.CertifiedPlans.{IsGiven, IsRefused}
+use Rattle.sup_clustering.specs.Verdicts.{IsNoRun, RefusesHistories}
 
 -- ---- the judgement
 -- a fault of a replay, where memory was not wanted
@@ -100,16 +100,24 @@ module _ (g : Weigher) (did : Bytes → Effect → Bool → Type 0) (bound : ℕ
   refused_run run.LinkClosed = tt
   refused_run run.OutOfMemory = refl
 
-  -- what is printed where they ended so
-  pub printed_ended : {S : Type 0} (bytes : S → List ℕ) (ended : Result (List History) RunFault) (told : Result S ClusterFault) → IfOk ended (IsRunOf g did plan) → IfOk ended (All (λ (h : History). length h.entries.items ≤ bound))
-      → IfOk ended (λ hs. IfOk told (λ s. PrintsRun g plan hs (bytes s))) → IfErr ended (λ fault. told ≡ Err (of_run fault)) → IfOk told (λ s. PrintsCluster g did bound plan (bytes s))
-  printed_ended bytes (Ok hs) (Ok s) ran bounded prints faulted = record { histories = hs; given = record { ran = ran; bounded = bounded }; prints = prints }
-  printed_ended bytes (Ok hs) (Err fault) ran bounded prints faulted = tt
-  printed_ended {S = S} bytes (Err fault) told ran bounded prints faulted = subst (λ (t : Result S ClusterFault). IfOk t (λ s. PrintsCluster g did bound plan (bytes s))) (sym faulted) tt
+  -- what they gave, where something is told of it
+  pub given_ended : {R S E : Type 0} (histories : R → List History) (of : S → R) (ended : Result R RunFault) (told : Result S E) → IfOk ended (λ r. IsRunOf g did plan (histories r))
+      → IfOk ended (λ r. All (λ (h : History). length h.entries.items ≤ bound) (histories r)) → IfOk told (λ s. ended ≡ Ok (of s)) → IfOk told (λ s. IsGiven g did bound plan (histories (of s)))
+  given_ended {R = R} histories of ended (Ok s) ran bounded these = record {
+    ran = subst (λ (e : Result R RunFault). IfOk e (λ r. IsRunOf g did plan (histories r))) these ran;
+    bounded = subst (λ (e : Result R RunFault). IfOk e (λ r. All (λ (h : History). length h.entries.items ≤ bound) (histories r))) these bounded;
+  }
+  given_ended histories of ended (Err fault) ran bounded these = tt
 
   -- why there is nothing to print where they ended so
-  pub refused_ended : {S : Type 0} (ended : Result (List History) RunFault) (told : Result S ClusterFault) → IsPlan plan → IfOk ended (IsRunOf g did plan) → IfOk ended (All (λ (h : History). length h.entries.items ≤ bound))
-      → IfOk ended (λ hs. IfErr told (RefusesHistories g plan hs)) → IfErr ended (λ fault. told ≡ Err (of_run fault)) → IfErr told (IsRefused g did bound plan)
-  refused_ended (Ok hs) (Ok s) p ran bounded refused faulted = tt
-  refused_ended (Ok hs) (Err fault) p ran bounded refused faulted = refused_given hs fault p (record { ran = ran; bounded = bounded }) refused
-  refused_ended {S = S} (Err fault) told p ran bounded refused faulted = subst (λ (t : Result S ClusterFault). IfErr t (IsRefused g did bound plan)) (sym faulted) (refused_run fault)
+  pub refused_ended : {R S : Type 0} (histories : R → List History) (ended : Result R RunFault) (told : Result S ClusterFault) → IsPlan plan → IfOk ended (λ r. IsRunOf g did plan (histories r))
+      → IfOk ended (λ r. All (λ (h : History). length h.entries.items ≤ bound) (histories r))
+      → IfOk ended (λ r. IfErr told (RefusesHistories g plan (histories r))) → IfErr ended (λ fault. told ≡ Err (of_run fault)) → IfErr told (IsRefused g did bound plan)
+  refused_ended histories (Ok r) (Ok s) p ran bounded refused faulted = tt
+  refused_ended histories (Ok r) (Err fault) p ran bounded refused faulted = refused_given (histories r) fault p (record { ran = ran; bounded = bounded }) refused
+  refused_ended {S = S} histories (Err fault) told p ran bounded refused faulted = subst (λ (t : Result S ClusterFault). IfErr t (IsRefused g did bound plan)) (sym faulted) (refused_run fault)
+
+-- what is so of how they ended is so of what is told of just that
+pub so_told : {R S E F : Type 0} (P : R → Type 0) (of : S → R) (ended : Result R F) (told : Result S E) → IfOk ended P → IfOk told (λ s. ended ≡ Ok (of s)) → IfOk told (λ s. P (of s))
+so_told {R = R} {F = F} P of ended (Ok s) so these = subst (λ (e : Result R F). IfOk e P) these so
+so_told P of ended (Err fault) so these = tt

@@ -6,7 +6,7 @@ ghost use Rattle.sup_plan.specs.Plans.{IsPlan};
 ghost use Rattle.sup_clustering.specs.CertifiedPlans.{IsRefused, PrintsCluster};
 ghost use Rattle.sup_clustering.specs.ClusterRuns.{RunsCluster, ClustersTo, PrintsShort, TakesFor, all_start};
 
-use crate::certified::plan_text;
+use crate::certified::{Told, plan_text};
 use std::alloc::Global;
 use std::io::{Read, Write};
 use std::sync::Wait;
@@ -112,5 +112,6 @@ fn certified_text<T: Threads + Wait + Sync, G: Weigh + Copy + Drop + Send + Sync
     let Ok(planned) = PlannedRun::new(plan, MAX_BOUND, &Quiet, &Quiet) else {
         unreachable!()
     };
-    plan_text(rt, alloc, weigher, planned)
+    let Told { text, histories: _ } = plan_text(rt, alloc, weigher, planned)?;
+    Ok(text)
 }

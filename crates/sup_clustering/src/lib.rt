@@ -9,6 +9,6 @@ mod cluster;
 pub mod laws;
 mod verdict;
 
-pub use certified::plan_text;
+pub use certified::{Told, plan_text};
 pub use cluster::run_cluster;
 pub use verdict::judged_text;

@@ -1,12 +1,15 @@
 //! The threads of a run, all at once.
-ghost use Rattle.std.specs.Prelude.{IfOk, map};
+ghost use Rattle.std.specs.Prelude.{◌≡◌, IfOk, map};
 ghost use Rattle.std.specs.List.{AllZip};
 ghost use Rattle.sup_posts.specs.Drives.{IsDriveOf, IsSharedNodeOf, HaveWhole, dealt_by};
 ghost use Rattle.sup_posts.specs.Jobs.{GivesDriven};
 ghost use Rattle.sup_driving.specs.Called.{stood_by};
+ghost use Rattle.sup_driving.specs.Launches.{launched_by, results_of};
+ghost use Rattle.sup_driving.specs.PlannedRuns.{planned_by};
 
 use crate::field::Field;
 use crate::gathering::gather_all;
+use crate::launched::{Launched, RunBy};
 use crate::planned_run::PlannedRun;
 use crate::runner::{Checkpoint, Runner};
 use crate::teams::split_all;
@@ -15,7 +18,7 @@ use std::sync::Wait;
 use std::thread::Threads;
 use sup_crew::run_teams;
 use sup_placement::Weigh;
-use sup_posts::{Drive, Driven, SharedNode, ThreadFault};
+use sup_posts::{Drive, SharedNode};
 
 /// Makes a run: does the jobs of the drivers of its plan's nodes, which nobody called yet, each in a thread of its own, with one more for
 /// each of their links, and gives what each driver hands back, in their order: its commands stand in its node's history, each once with its
@@ -26,7 +29,7 @@ use sup_posts::{Drive, Driven, SharedNode, ThreadFault};
 /// and what its answer asks for.
 /// Of the faults of a driver and of the receivers behind its links the gravest is told: want of memory before a full history, and that
 /// before a closed link. Such a driver still ends its links, and a receiver at a full history still takes what comes, and throws it away: so
-/// the others come to their ends.
+/// the others come to their ends. With this it gives by whom the run was made, the planned run's runner and checkpoint.
 ///
 /// # Errors
 ///
@@ -44,11 +47,12 @@ pub fn launch<
     planned: PlannedRun<'a, N, C>,
     posts: &[SharedNode<W>],
     drives: Vec<Drive<W>>,
-) -> Result<Vec<Result<Driven<W>, ThreadFault>>, AllocError>
+) -> Result<Launched<'a, W, N, C>, AllocError>
     requires nodes { AllZip (IsSharedNodeOf planned.plan.config planned.bound) planned.plan.nodes.items posts.now }
     requires drives { AllZip (IsDriveOf planned.plan posts.now) posts.now drives.items }
     requires whole { HaveWhole (map (λ d. d.seat) drives.items) (dealt_by drives.items) }
-    ensures { IfOk result (λ results. AllZip (GivesDriven (N.did planned.entry.runner) (stood_by C.was_before C.was_answered planned.entry.checkpoint) posts.now) drives.items results.items) }
+    ensures driven { IfOk result (λ launched. AllZip (GivesDriven (N.did planned.entry.runner) (stood_by C.was_before C.was_answered planned.entry.checkpoint) posts.now) drives.items (results_of launched)) }
+    ensures ran_by { IfOk result (λ launched. launched_by launched ≡ planned_by planned.entry) }
 {
     let teams = split_all(alloc, posts, drives)?;
     let field = Field {
@@ -60,5 +64,12 @@ pub fn launch<
         checkpoint: planned.checkpoint,
     };
     let done = run_teams(rt, alloc, teams, &field)?;
-    gather_all(alloc, done)
+    let results = gather_all(alloc, done)?;
+    Ok(Launched {
+        results,
+        by: RunBy {
+            runner: planned.runner,
+            checkpoint: planned.checkpoint,
+        },
+    })
 }

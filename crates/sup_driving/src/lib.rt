@@ -12,6 +12,7 @@ mod acting;
 mod driving;
 mod field;
 mod gathering;
+mod launched;
 mod launching;
 mod planned_run;
 mod receiving;
@@ -21,6 +22,7 @@ mod teams;
 mod wires;
 mod work;
 
+pub use launched::{Launched, RunBy};
 pub use launching::launch;
 pub use planned_run::PlannedRun;
 pub use runner::{Checkpoint, Quiet, Runner};

@@ -11,10 +11,9 @@ ghost use Rattle.sup_run_ends.specs.Passes.{IsMadeBy, AreMadeBy, of_arrived};
 ghost use Rattle.sup_run_ends.specs.Steps.{IsSeatOf, IsArrived, IsHistoryOf, BeginsWithSeen, EndsHistory, ReturnsDriven, AreFinished, IsFaultOf};
 
 use crate::joining::{join_all, separate, take_apart};
-use crate::run_histories::RunHistories;
 use std::alloc::Global;
 use sup_placement::Weigh;
-use sup_plan::History;
+use sup_plan::{Histories, History};
 use sup_posts::{Arrived, Driven, Seat, SharedNode, ThreadFault};
 
 // The history of a node.
@@ -100,12 +99,12 @@ pub fn finish<W: Weigh>(
     alloc: Global,
     posts: Vec<SharedNode<W>>,
     results: Vec<Result<Driven<W>, ThreadFault>>,
-) -> Result<RunHistories, ThreadFault>
+) -> Result<Histories, ThreadFault>
     requires { AllZip (ReturnsDriven posts.items) posts.items results.items }
     ensures histories { IfOk result (λ hs. AreFinished W.weight_of posts.items results.items hs) }
     ensures fault { IfErr result (IsFaultOf results.items) }
 {
     let (seats, arrived) = take_apart(alloc, results)?;
     let histories = close_all(alloc, posts, seats, arrived)?;
-    Ok(RunHistories::of(histories))
+    Ok(Histories::new(histories))
 }

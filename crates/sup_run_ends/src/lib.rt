@@ -9,9 +9,7 @@ mod dealing;
 pub mod drives;
 mod joining;
 pub mod opening;
-pub mod run_histories;
 
 pub use closing::finish;
 pub use drives::make_drives;
 pub use opening::open_posts;
-pub use run_histories::RunHistories;

@@ -9,11 +9,11 @@ use std::alloc::Global;
 use std::sync::Wait;
 use std::sync::atomic::{AtomicU64, Ordering};
 use std::thread::Threads;
-use sup_cluster::{PlannedRun, Quiet, Request, RunHistories, Runner, run};
+use sup_cluster::{PlannedRun, Quiet, Request, Runner, run};
 use sup_local_sup::Effect;
 use sup_node_gate::MAX_BOUND;
 use sup_placement::FlatWeigh;
-use sup_plan::Plan;
+use sup_plan::{Histories, Plan};
 use sup_posts::RunFault;
 
 /// Counts the starts that it is told, in place of making them. No clause speaks of the count.
@@ -42,7 +42,7 @@ pub fn run_counted<R: Threads + Wait + Sync>(
     rt: &R,
     alloc: Global,
     plan: &Plan,
-) -> Result<(RunHistories, u64), RunFault>
+) -> Result<(Histories, u64), RunFault>
     ensures run { IfOk result (λ r. IsRunOf flat_weight (λ node effect answer. answer ≡ true) plan.now r.0) }
     ensures bad { ¬ (IsPlan plan.now) → result ≡ Err BadPlan }
     ensures good { IsPlan plan.now → result ≢ Err BadPlan }
@@ -51,6 +51,6 @@ pub fn run_counted<R: Threads + Wait + Sync>(
         count: AtomicU64::new(0),
     };
     let planned = PlannedRun::new(plan, MAX_BOUND, &runner, &Quiet)?;
-    let histories = run(rt, alloc, planned, &FlatWeigh)?;
-    Ok((histories, runner.count.load(Ordering::SeqCst)))
+    let ran = run(rt, alloc, planned, &FlatWeigh)?;
+    Ok((ran.into_histories(), runner.count.load(Ordering::SeqCst)))
 }

@@ -19,7 +19,7 @@ close_all-requires-clause-arrived g c = arrived_taken c.args.posts.items c.args.
 pub returns-clause-histories : goal.returns-clause-histories
 returns-clause-histories g c =
     let t = c.in_ok-seats.ensures.parts in
-    subst (AreFinished g.W.Weigh.weight_of c.args.posts.items c.args.results.items) (sym c.of.ensures) (record {
+    subst (AreFinished g.W.Weigh.weight_of c.args.posts.items c.args.results.items) (sym c.new.ensures) (record {
       driven = t.driven;
       given = t.all;
       histories = c.in_ok-histories.ensures.histories;
