@@ -1,4 +1,4 @@
--- Why a node doesn't begin, and what is kept after it.
+-- Why a node doesn't begin, and what it leaves.
 use Rattle.std.proofs.Common.{◌≡◌, ◌≢◌, ◌<◌, ◌≤◌, ◌+◌, ◌∙◌, Bool, true, false, List, ℕ, Option, Some, None, Result, Ok, Err, IfOk, IfErr, ap, sym, subst, refl, inl, inr}
 use Rattle.sup_specs.specs.Values.{Bytes}
 use Rattle.sup_tables.specs.States.{State}
@@ -19,7 +19,7 @@ use Rattle.sup_node.specs.NodeSteps.{restart_of, stopped_by}
 use Rattle.sup_node.specs.Texts.{IsImageReadAs}
 use Rattle.sup_station.specs.KeptStations.{KeptStation, FailsToSave, IsForeign, IsOthers, RefusesAct, RefusesRestart}
 use Rattle.sup_answering.specs.AnsweringNodes.{RisesWhere}
-use Rattle.sup_answering.specs.BegunNodes.{BeginsNode, IsImageFault, IsNoBegin, IsOthersImage, IsUnkept, LeavesKept, Standing, stopped}
+use Rattle.sup_answering.specs.BegunNodes.{BeginsNode, IsImageFault, IsNoBegin, IsOthersImage, IsUnkept, LeavesStation, Standing, stopped, stopped_over}
 use Rattle.sup_answering.specs.declared.begin.BeginFault.{BeginFault}
 use Rattle.sup_answering.specs.declared.begin.BeginFault.TheVariants.{BadImage, OthersImage, Refused, NoMemory}
 use Rattle.sup_answering.proofs.CountLaws.{rises_where}
@@ -83,16 +83,16 @@ no_refusal fault r e = λ f. cc
 kept_none : (fault : BeginFault) (refusal : Refusal) → (refusal ≢ BadMessage → fault ≡ Refused refusal) → refusal ≡ KeepFailed → IsUnkept fault
 kept_none fault refusal refused e = let other : refusal ≢ BadMessage = λ f. cc in refused other ∙ ap (λ (r : Refusal). Refused r) e
 
-pub standing_same : (old new : Standing) → old.kept ≡ new.kept → old.found ≡ new.found → old ≡ new
-standing_same old new kept found = λ i. record { kept = kept i; found = found i }
+pub standing_same : (old new : Standing) → old.station ≡ new.station → old.found ≡ new.found → old ≡ new
+standing_same old new station found = λ i. record { station = station i; found = found i }
 
 module _ (g : Weigher) (is_new : Bool) (name : Bytes) (config : Config) (kept : Bytes) where
-  abbrev standing : Option Bytes → Standing
-  standing found = record { kept = kept; found = found }
+  abbrev old : Option Bytes → Standing
+  old found = stopped_over name config kept found
 
-  -- what stands is the old
-  pub leaves_old : (found : Option Bytes) (fault : BeginFault) (left : Standing) → left ≡ standing found → (fault ≡ NoMemory → (is_new ≡ false) × RefusesAct g (stopped name config kept) None Restart 0 BadMessage)
-      → LeavesKept g is_new name config (standing found) fault left
+  -- what is left is the old
+  pub leaves_old : (found : Option Bytes) (fault : BeginFault) (left : Standing) → left ≡ old found → (fault ≡ NoMemory → (is_new ≡ false) × RefusesAct g (stopped name config kept) None Restart 0 BadMessage)
+      → LeavesStation g is_new (old found) fault left
   leaves_old found (BadImage fault) left e why = e
   leaves_old found OthersImage left e why = e
   leaves_old found (Refused refusal) left e why = e
@@ -116,15 +116,15 @@ module _ (g : Weigher) (is_new : Bool) (name : Bytes) (config : Config) (kept : 
       subst (λ (t : List ℕ). BeginsNode g is_new name config kept (shown (station_of b)) t) (sym told)
       (subst (λ (s : KeptStation). BeginsNode g is_new name config kept s text) (ap shown (sym same)) begins)
 
-  -- and what is kept is that of the node that had begun
+  -- and its station is that of the node that had begun
   pub leaves_begun : {B U S : Type 0} (found : Option Bytes) (fault_of : U → BeginFault) (station_of : U → S) (shown : S → KeptStation) (found_of : S → Option Bytes) (station : S) (text : List ℕ)
       (result : Result B U)
       → BeginsNode g is_new name config kept (shown station) text → IfErr result (λ u. fault_of u ≡ NoMemory) → IfErr result (λ u. station_of u ≡ station)
-      → IfErr result (λ u. LeavesKept g is_new name config (standing found) (fault_of u) (record { kept = (shown (station_of u)).kept; found = found_of (station_of u) }))
+      → IfErr result (λ u. LeavesStation g is_new (old found) (fault_of u) (record { station = shown (station_of u); found = found_of (station_of u) }))
   leaves_begun found fault_of station_of shown found_of station text (Ok b) begins e same = tt
   leaves_begun found fault_of station_of shown found_of station text (Err u) begins e same =
-      subst (λ (f : BeginFault). LeavesKept g is_new name config (standing found) f (record { kept = (shown (station_of u)).kept; found = found_of (station_of u) })) (sym e)
-      (inr (shown station, text, begins, ap (λ s. (shown s).kept) same))
+      subst (λ (f : BeginFault). LeavesStation g is_new (old found) f (record { station = shown (station_of u); found = found_of (station_of u) })) (sym e)
+      (inr (text, subst (λ (s : KeptStation). BeginsNode g is_new name config kept s text) (ap shown (sym same)) begins))
 
 -- nor is it counted
 pub uncounted : {B U S : Type 0} (fault_of : U → BeginFault) (station_of : U → S) (count_of : S → ℕ) (before : ℕ) (station : S) (result : Result B U)
@@ -139,12 +139,7 @@ pub counted : (fault : BeginFault) (refusal : Refusal) (before after : ℕ) → 
 counted fault refusal before after same refused rose told never_falls by_one =
     rises_where (IsUnkept fault) before after (λ is. rose (sym (same KeepFailed is))) (λ more. kept_none fault refusal refused (told more)) never_falls by_one
 
--- and its station is asked for nothing
-pub unstopped : {B U : Type 0} (P : U → Type 0) (fault_of : U → BeginFault) (result : Result B U) → IfErr result (λ u. fault_of u ≡ NoMemory) → IfErr result (λ u. fault_of u ≢ NoMemory → P u)
-unstopped P fault_of (Ok b) e = tt
-unstopped P fault_of (Err u) e = λ other. absurd (other e)
-
--- nor does it come to a save
+-- nor did it come to a save
 pub unsaved : {B U : Type 0} (P R : Type 0) (fault_of : U → BeginFault) (result : Result B U) → IfErr result (λ u. fault_of u ≡ NoMemory) → IfErr result (λ u. R → IsUnkept (fault_of u) → P)
 unsaved P R fault_of (Ok b) e = tt
 unsaved P R fault_of (Err u) e = λ r f. absurd (no_refusal (fault_of u) KeepFailed e f)

@@ -13,7 +13,7 @@ use Rattle.sup_replica.specs.declared.done.Reply.TheVariants.{Boot}
 use Rattle.sup_replica.specs.declared.refusal.Refusal.TheVariants.{BadMessage, KeepFailed}
 use Rattle.sup_node.specs.Texts.{IsImageReadAs}
 use Rattle.sup_station.specs.declared.station.Station.{Station as Code}
-use Rattle.sup_station.specs.KeptStations.{KeptStation, kept_station_of, AnswersAct, FailsToSave, RefusesAct}
+use Rattle.sup_station.specs.KeptStations.{KeptStation, keeper_of, kept_station_of, AnswersAct, FailsToSave, RefusesAct}
 use Rattle.sup_station.specs.OpenedStations.{OpensStation, IsKeepRefusal}
 use Rattle.sup_told.specs.Told.{told_text}
 use Rattle.sup_answering.specs.declared.begin.BeginFault.{BeginFault}
@@ -52,27 +52,32 @@ IsNoBegin weigher false name config kept OthersImage = IsOthersImage name kept
 IsNoBegin weigher false name config kept (Refused refusal) = (refusal ≢ BadMessage) × RefusesAct weigher (stopped name config kept) None Restart 0 refusal
 IsNoBegin weigher false name config kept NoMemory = Unit {0}
 
--- what a keeper keeps, and what stands where it does
+-- a station, and what stands where its keeper keeps its image
 pub record Standing : Type 0 where
-  pub kept : Bytes
+  pub station : KeptStation
   pub found : Option Bytes
 
-abbrev pub standing_of : {K : Type 0} → (K → Bytes) → (K → Option Bytes) → K → Standing
-standing_of kept found keeper = record { kept = kept keeper; found = found keeper }
+-- the station of a node that was stopped, over what was given for its keeper
+abbrev pub stopped_over : Bytes → Config → Bytes → Option Bytes → Standing
+stopped_over name config kept found = record { station = stopped name config kept; found = found }
+
+-- a station, where this is what its keeper keeps, and what stands where it does
+abbrev pub standing_of : {K W : Type 0} {g : _} {h : _} → (K → Bytes) → (K → Option Bytes) → Code K W g h → Standing
+standing_of kept found station = record { station = kept_station_of kept station; found = found (keeper_of station) }
 
 -- Memory was refused, and this is left: to find out why what is kept is no image of the node, which leaves all; or to the first answer of
--- a node that had begun, which leaves what that kept.
-abbrev pub LacksFirst : Weigher → Bool → Bytes → Config → Standing → Standing → Type 0
-LacksFirst weigher is_new name config old left =
-    ((is_new ≡ false) × RefusesAct weigher (stopped name config old.kept) None Restart 0 BadMessage × (left ≡ old))
-    ⊎ ((begun : KeptStation) × (text : List ℕ) × BeginsNode weigher is_new name config old.kept begun text × (left.kept ≡ begun.kept))
+-- a node that had begun, which leaves its station.
+abbrev pub LacksFirst : Weigher → Bool → Standing → Standing → Type 0
+LacksFirst weigher is_new old left =
+    ((is_new ≡ false) × RefusesAct weigher old.station None Restart 0 BadMessage × (left ≡ old))
+    ⊎ ((text : List ℕ) × BeginsNode weigher is_new old.station.name old.station.config old.station.kept left.station text)
 
--- What stands after it: the old, but where memory was refused.
-abbrev pub LeavesKept : Weigher → Bool → Bytes → Config → Standing → BeginFault → Standing → Type 0
-LeavesKept weigher is_new name config old (BadImage fault) left = left ≡ old
-LeavesKept weigher is_new name config old OthersImage left = left ≡ old
-LeavesKept weigher is_new name config old (Refused refusal) left = left ≡ old
-LeavesKept weigher is_new name config old NoMemory left = LacksFirst weigher is_new name config old left
+-- What is left where a node doesn't begin: the station that was stopped, over what was kept, but where memory was refused.
+abbrev pub LeavesStation : Weigher → Bool → Standing → BeginFault → Standing → Type 0
+LeavesStation weigher is_new old (BadImage fault) left = left ≡ old
+LeavesStation weigher is_new old OthersImage left = left ≡ old
+LeavesStation weigher is_new old (Refused refusal) left = left ≡ old
+LeavesStation weigher is_new old NoMemory left = LacksFirst weigher is_new old left
 
 -- the image could not be kept or read
 abbrev pub IsUnkept : BeginFault → Type 0

@@ -5,7 +5,7 @@ ghost use Rattle.sup_replica.specs.declared.refusal.Refusal.TheVariants.{BadMess
 ghost use Rattle.sup_station.specs.KeptStations.{RefusesRestart, keeper_of, kept_station_of};
 ghost use Rattle.sup_told.specs.Told.{told_text};
 ghost use Rattle.sup_answering.specs.AnsweringNodes.{RisesWhere};
-ghost use Rattle.sup_answering.specs.BegunNodes.{BeginsStation, FailsAtSave, IsImageFault, IsNoBegin, IsUnkept, LeavesKept, standing_of, stopped};
+ghost use Rattle.sup_answering.specs.BegunNodes.{BeginsStation, FailsAtSave, IsImageFault, IsNoBegin, IsUnkept, LeavesStation, standing_of, stopped, stopped_over};
 
 use crate::filter::Filter;
 use std::alloc::{AllocError, Global};
@@ -67,9 +67,9 @@ pub struct Unbegun<K: ImageKeeper, W: Weigh + Drop> {
 ///
 /// # Errors
 ///
-/// As [`BeginFault`] tells. The keeper keeps what it kept then, unless memory was refused to the first answer of a node that had begun.
-/// Its count of failures has risen, by one, where the refusal is `KeepFailed`, and only there. Over a keeper that can be read, that is told
-/// of a next boot only where its save fails. Unless memory was refused, the station is one of this name and settings that was stopped.
+/// As [`BeginFault`] tells. The station is one of this name and settings that was stopped then, and keeps what was kept; or, where memory was
+/// refused to the first answer of a node that had begun, it is that node's. The keeper's count of failures has risen, by one, where the
+/// refusal is `KeepFailed`, and only there. Over a keeper that can be read, that is told of a next boot only where its save fails.
 pub fn begin<K: ImageKeeper, W: Weigh + Drop>(
     alloc: Global,
     name: NodeName,
@@ -83,9 +83,8 @@ pub fn begin<K: ImageKeeper, W: Weigh + Drop>(
     ensures peers { IfOk result (λ b. b.filter.peers.items ≡ []) }
     ensures uncounted { IfOk result (λ b. K.failures (keeper_of b.filter.station) ≡ K.failures keeper) }
     ensures fault { IfErr result (λ u. IsNoBegin W.weight_of is_new name config (K.kept keeper) u.fault) }
-    ensures leaves { IfErr result (λ u. LeavesKept W.weight_of is_new name config (standing_of K.kept K.found keeper) u.fault (standing_of K.kept K.found (keeper_of u.station))) }
+    ensures leaves { IfErr result (λ u. LeavesStation W.weight_of is_new (stopped_over name config (K.kept keeper) (K.found keeper)) u.fault (standing_of K.kept K.found u.station)) }
     ensures counted { IfErr result (λ u. RisesWhere (IsUnkept u.fault) (K.failures keeper) (K.failures (keeper_of u.station))) }
-    ensures station { IfErr result (λ u. u.fault ≢ BeginFault.NoMemory → kept_station_of K.kept u.station ≡ stopped name config (K.kept keeper)) }
     ensures order { IfErr result (λ u. is_new ≡ false → K.readable keeper ≡ true → IsUnkept u.fault → FailsAtSave W.weight_of name config (K.kept keeper)) }
 {
     if is_new {
@@ -108,9 +107,8 @@ fn open<K: ImageKeeper, W: Weigh + Drop>(
     ensures peers { IfOk result (λ b. b.filter.peers.items ≡ []) }
     ensures uncounted { IfOk result (λ b. K.failures (keeper_of b.filter.station) ≡ K.failures keeper) }
     ensures fault { IfErr result (λ u. IsNoBegin W.weight_of true name config (K.kept keeper) u.fault) }
-    ensures leaves { IfErr result (λ u. LeavesKept W.weight_of true name config (standing_of K.kept K.found keeper) u.fault (standing_of K.kept K.found (keeper_of u.station))) }
+    ensures leaves { IfErr result (λ u. LeavesStation W.weight_of true (stopped_over name config (K.kept keeper) (K.found keeper)) u.fault (standing_of K.kept K.found u.station)) }
     ensures counted { IfErr result (λ u. RisesWhere (IsUnkept u.fault) (K.failures keeper) (K.failures (keeper_of u.station))) }
-    ensures station { IfErr result (λ u. u.fault ≢ BeginFault.NoMemory → kept_station_of K.kept u.station ≡ stopped name config (K.kept keeper)) }
 {
     let station = match Station::new(alloc, name, config, keeper) {
         Ok(station) => station,
@@ -155,9 +153,8 @@ fn go_on<K: ImageKeeper, W: Weigh + Drop>(
     ensures peers { IfOk result (λ b. b.filter.peers.items ≡ []) }
     ensures uncounted { IfOk result (λ b. K.failures (keeper_of b.filter.station) ≡ K.failures keeper) }
     ensures fault { IfErr result (λ u. IsNoBegin W.weight_of false name config (K.kept keeper) u.fault) }
-    ensures leaves { IfErr result (λ u. LeavesKept W.weight_of false name config (standing_of K.kept K.found keeper) u.fault (standing_of K.kept K.found (keeper_of u.station))) }
+    ensures leaves { IfErr result (λ u. LeavesStation W.weight_of false (stopped_over name config (K.kept keeper) (K.found keeper)) u.fault (standing_of K.kept K.found u.station)) }
     ensures counted { IfErr result (λ u. RisesWhere (IsUnkept u.fault) (K.failures keeper) (K.failures (keeper_of u.station))) }
-    ensures station { IfErr result (λ u. u.fault ≢ BeginFault.NoMemory → kept_station_of K.kept u.station ≡ stopped name config (K.kept keeper)) }
     ensures order { IfErr result (λ u. K.readable keeper ≡ true → IsUnkept u.fault → FailsAtSave W.weight_of name config (K.kept keeper)) }
 {
     let mut station = Station::stopped(alloc, name, config, keeper);

@@ -1,3 +1,4 @@
 pub mod Crashes
 pub mod Copies
 pub mod Faults
+pub mod Paths

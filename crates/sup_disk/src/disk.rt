@@ -1,6 +1,7 @@
 //! A file and another beside it, as a disk has them.
 
-ghost use Rattle.std.specs.Prelude.{OnOk, IfOk};
+ghost use Rattle.std.specs.Prelude.{OnOk, IfOk, IfErr};
+ghost use Rattle.std.specs.declared.io.Error.{Error};
 ghost use Rattle.sup_specs.specs.Values.{Bytes};
 ghost use Rattle.sup_disk.specs.Crashes.{What, NoMore, OrThese, OnlyThese, OnlyThis};
 ghost use Rattle.sup_disk.specs.Copies.{copied};
@@ -21,6 +22,9 @@ pub trait Disk: Drop {
 
     // The file has these bytes, as long as the system runs.
     ghost named: { Self → Bytes → Type 0 };
+
+    // By which error it may refuse to be read.
+    ghost may_refuse: { Self → Error → Type 0 };
 
     /// Writes the file beside. However it ends, nothing is possible for the file that was not before.
     ///
@@ -67,8 +71,9 @@ pub trait Disk: Drop {
     ///
     /// # Errors
     ///
-    /// Where the file could not be read or flushed, or memory was refused.
+    /// Where the file could not be read or flushed, or memory was refused: an error by which it may refuse.
     fn read(&mut self, alloc: Global) -> io::Result<Option<Vec<u8>>>
         ensures file { NoMore (may_have self.old) (may_have self.new) }
-        ensures only { IfOk result (λ bytes. OnlyThis (may_have self.new) (copied bytes)) };
+        ensures only { IfOk result (λ bytes. OnlyThis (may_have self.new) (copied bytes)) }
+        ensures why { IfErr result (λ error. may_refuse self.old error) };
 }

@@ -61,7 +61,8 @@ impl<D: Disk> DiskKeeper<D> {
     ///
     /// # Errors
     ///
-    /// The disk, where the file can't be read or flushed, or memory is refused. Nothing is possible for the file then that was not before.
+    /// The disk, and by which error it refused, where the file can't be read or flushed, or memory is refused. Nothing is possible for the
+    /// file then that was not before.
     pub fn open(alloc: Global, disk: D) -> Result<DiskKeeper<D>, Unopened<D>>
         ensures sound { IfOk result (λ k. k.lost ≡ false) }
         ensures failures { IfOk result (λ k. k.failures ≡ 0) }
@@ -69,6 +70,7 @@ impl<D: Disk> DiskKeeper<D> {
         ensures file { IfOk result (λ k. NoMore (D.may_have disk) (D.may_have k.disk)) }
         ensures only { IfOk result (λ k. OnlyThis (D.may_have k.disk) k.copy) }
         ensures left { IfErr result (λ u. NoMore (D.may_have disk) (D.may_have u.disk)) }
+        ensures why { IfErr result (λ u. D.may_refuse disk u.error) }
     {
         let mut disk = disk;
         match disk.read(alloc) {

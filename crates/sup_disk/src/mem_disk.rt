@@ -104,6 +104,7 @@ fn copy_of(alloc: Global, bytes: &Option<Vec<u8>>) -> io::Result<Option<Vec<u8>>
 impl Disk for MemDisk {
     ghost use Rattle.std.specs.Prelude.{◌≡◌, ◌⊎◌, true, Some};
     ghost use Rattle.sup_disk.specs.Copies.{copied};
+    ghost use Rattle.sup_disk.specs.Faults.{WantsMemory};
 
     ghost may_have = { λ d what. (what ≡ copied d.safe) ⊎ (what ≡ copied d.shown) };
 
@@ -112,6 +113,8 @@ impl Disk for MemDisk {
     ghost flushed = { λ d bytes. (copied d.beside ≡ Some bytes) × (d.is_flushed ≡ true) };
 
     ghost named = { λ d bytes. copied d.shown ≡ Some bytes };
+
+    ghost may_refuse = { λ _ error. WantsMemory error };
 
     fn write_beside(&mut self, bytes: &[u8]) -> io::Result<()>
         ensures beside { OnOk result (copied self.new.beside ≡ Some bytes.now) }

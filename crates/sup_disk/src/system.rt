@@ -1,4 +1,7 @@
-//! A file of the file system, of which contracts claim nothing.
+//! A file of the file system, of which contracts claim only where it is.
+
+ghost use Rattle.std.specs.Prelude.{◌≡◌, ◌++◌, IfOk, codes};
+ghost use Rattle.sup_disk.specs.Paths.{beside_of, path_of};
 
 use crate::disk::Disk;
 use std::alloc::{AllocError, Global};
@@ -24,7 +27,10 @@ impl<R: Files + Drop> SystemDisk<R> {
     /// # Errors
     ///
     /// Refused only for memory.
-    pub fn at(alloc: Global, rt: R, path: &str) -> Result<SystemDisk<R>, AllocError> {
+    pub fn at(alloc: Global, rt: R, path: &str) -> Result<SystemDisk<R>, AllocError>
+        ensures path { IfOk result (λ disk. path_of disk ≡ path.now) }
+        ensures beside { IfOk result (λ disk. beside_of disk ≡ path.now ++ codes ".new") }
+    {
         let mut beside = String::from_str(alloc, path)?;
         beside.push_str(".new")?;
         let folder = match path.rfind('/') {
@@ -58,6 +64,8 @@ impl<R: Files + Drop> Disk for SystemDisk<R> {
     ghost flushed = { λ _ _. Unit {0} };
 
     ghost named = { λ _ _. Unit {0} };
+
+    ghost may_refuse = { λ _ _. Unit {0} };
 
     fn write_beside(&mut self, bytes: &[u8]) -> io::Result<()> {
         let mut file = File::create(&self.rt, self.beside.as_str())?;

@@ -6,19 +6,21 @@ use Rattle.sup_jobs.specs.Faults.{image_fault_name, fault_text}
 use Rattle.sup_jobs.specs.declared.fault.Fault.TheVariants.{Device, OutOfMemory}
 use Rattle.sup_jobs.specs.declared.fault.Ended.{Ended}
 use Rattle.sup_jobs.specs.Tells.{Tells}
+use Rattle.sup_command_line.specs.declared.request.Weighing.{Weighing}
+use Rattle.sup_command_line.specs.declared.request.Weighing.TheVariants as weighing
 use Rattle.sup_replica.specs.Configs.{Config}
 use Rattle.sup_replica.specs.declared.refusal.Refusal.{Refusal}
 use Rattle.sup_replica.specs.declared.refusal.Refusal.TheVariants.{CountSpent, OutOfMemory as NoRoom}
 use Rattle.sup_disk.specs.Crashes.{What}
 use Rattle.sup_disk.specs.Copies.{Filed, kept_of}
-use Rattle.sup_station.specs.KeptStations.{keeper_of}
+use Rattle.sup_station.specs.KeptStations.{KeptStation, keeper_of, kept_station_of}
 use Rattle.sup_talk.specs.Hosts.{Seen}
 use Rattle.sup_talk.specs.declared.talking.TalkEnd.{TalkEnd}
 use Rattle.sup_talk.specs.declared.talking.TalkEnd.TheVariants.{Ended as HeardOut, Over, Spent}
 use Rattle.sup_talk.specs.declared.talking.TalkFault.{TalkFault}
 use Rattle.sup_talk.specs.declared.talking.TalkFault.TheVariants.{Device as Broken, OutOfMemory as Wanting}
 use Rattle.sup_answering.specs.AnsweringNodes.{AnsweringNode, RisesWhere}
-use Rattle.sup_answering.specs.BegunNodes.{BeginsNode, FailsAtSave, IsNoBegin, IsUnkept, LeavesKept, Standing, standing_of}
+use Rattle.sup_answering.specs.BegunNodes.{BeginsNode, FailsAtSave, IsNoBegin, IsUnkept, LeavesStation, stopped_over}
 use Rattle.sup_answering.specs.ServedHosts.{ServesHost, StandsBehind}
 use Rattle.sup_answering.specs.declared.begin.BeginFault.{BeginFault}
 use Rattle.sup_answering.specs.declared.begin.BeginFault.TheVariants.{BadImage, OthersImage, Refused, NoMemory}
@@ -57,52 +59,68 @@ IsToldAs told before written ended = (ended.status ≡ told.status) × Tells end
 
 -- what a contract sees of a keeper of images
 pub record KeeperSeen : Type 0 where
-  pub stands : Standing  -- the bytes that it keeps, and what stands where it does
+  pub kept : Bytes
+  pub found : Option Bytes  -- what stands where it keeps them
   pub failures : ℕ  -- how often it has failed
   pub lost : Bool  -- what outlives it may be other bytes
 
 -- the keeper, where this is what it keeps, what stands where it does, how often it has failed and whether it is lost
 abbrev pub seen_of : {K : Type 0} → (K → Bytes) → (K → Option Bytes) → (K → ℕ) → (K → Bool) → K → KeeperSeen
-seen_of kept found failures lost keeper = record { stands = standing_of kept found keeper; failures = failures keeper; lost = lost keeper }
+seen_of kept found failures lost keeper = record { kept = kept keeper; found = found keeper; failures = failures keeper; lost = lost keeper }
 
--- a keeper over a disk
+-- a keeper over a disk: the bytes that it keeps, and all that a contract sees of it
+abbrev pub file_kept : {D : Type 0} → Filed D → Bytes
+file_kept keeper = kept_of keeper.copy
+
 abbrev pub file_seen : {D : Type 0} → Filed D → KeeperSeen
-file_seen keeper = record { stands = record { kept = kept_of keeper.copy; found = keeper.copy }; failures = keeper.failures; lost = keeper.lost }
+file_seen keeper = record { kept = file_kept keeper; found = keeper.copy; failures = keeper.failures; lost = keeper.lost }
 
--- the keeper that a run leaves
+-- what a run leaves: its station, how that weighs children, and the keeper that it has
+pub record LeftNode (K : Type 0) : Type 0 where
+  pub weighing : Weighing
+  pub station : KeptStation
+  pub keeper : K
+
+-- the same of a station, where this is what its keeper keeps
+abbrev pub left_node : {K : Type 0} {g : _} → (K → Bytes) → Left K g → LeftNode K
+left_node kept (Sha256 station) = record { weighing = weighing.Sha256; station = kept_station_of kept station; keeper = keeper_of station }
+left_node kept (Flat station) = record { weighing = weighing.Flat; station = kept_station_of kept station; keeper = keeper_of station }
+
 abbrev pub left_keeper : {K : Type 0} {g : _} → Left K g → K
 left_keeper (Sha256 station) = keeper_of station
 left_keeper (Flat station) = keeper_of station
 
--- the node didn't begin, and its keeper, which can be read or may not be, is left so
-pub record StaysUnbegun (weigher : Weigher) (is_new readable : Bool) (name : Bytes) (config : Config) (keeper left : KeeperSeen) (fault : BeginFault) : Type 0 where
-  pub why : IsNoBegin weigher is_new name config keeper.stands.kept fault
-  pub leaves : LeavesKept weigher is_new name config keeper.stands fault left.stands
+-- the node didn't begin, and its station and the keeper of that, which can be read or may not be, are left so
+pub record StaysUnbegun (weigher : Weigher) (is_new readable : Bool) (name : Bytes) (config : Config) (keeper : KeeperSeen) (station : KeptStation) (left : KeeperSeen) (fault : BeginFault) : Type 0 where
+  pub why : IsNoBegin weigher is_new name config keeper.kept fault
+  pub leaves : LeavesStation weigher is_new (stopped_over name config keeper.kept keeper.found) fault (record { station = station; found = left.found })
+  pub keeps : left.kept ≡ station.kept
   pub counted : RisesWhere (IsUnkept fault) keeper.failures left.failures
-  pub order : is_new ≡ false → readable ≡ true → IsUnkept fault → FailsAtSave weigher name config keeper.stands.kept
+  pub order : is_new ≡ false → readable ≡ true → IsUnkept fault → FailsAtSave weigher name config keeper.kept
 
 -- the keeper, where this is what a contract sees of it, stands behind the node
 abbrev pub Backs : {K : Type 0} → (K → KeeperSeen) → AnsweringNode → K → Type 0
-Backs seen node keeper = StandsBehind (λ k. (seen k).stands.kept) (λ k. (seen k).failures) (λ k. (seen k).lost) node keeper
+Backs seen node keeper = StandsBehind (λ k. (seen k).kept) (λ k. (seen k).failures) (λ k. (seen k).lost) node keeper
 
 -- The node began, and served its host until this end. With each text that the host was told, the first too, it was shown the keeper, which
--- stood behind the node as the text left it; and the keeper that is left stands behind the node at its end.
-pub record ServedUntil {K : Type 0} (weigher : Weigher) (seen : K → KeeperSeen) (most : ℕ) (is_new : Bool) (name : Bytes) (config : Config) (keeper left : K) (before after : Seen K) (end : Result TalkEnd TalkFault) : Type 0 where
+-- stood behind the node as the text left it; and the station that is left is the node's at its end, with the keeper behind that.
+pub record ServedUntil {K : Type 0} (weigher : Weigher) (seen : K → KeeperSeen) (most : ℕ) (is_new : Bool) (name : Bytes) (config : Config) (keeper : K) (station : KeptStation) (left : K) (before after : Seen K) (end : Result TalkEnd TalkFault) : Type 0 where
   pub first : List ℕ
   pub begun : AnsweringNode
   pub last : AnsweringNode
   pub named : begun.name ≡ name
   pub alone : begun.peers ≡ []
-  pub begins : BeginsNode weigher is_new name config (seen keeper).stands.kept begun.kept_station first
+  pub begins : BeginsNode weigher is_new name config (seen keeper).kept begun.kept_station first
   pub uncounted : begun.failures ≡ (seen keeper).failures
   pub serves : ServesHost weigher (Backs seen) most begun last first before after end
+  pub stays : station ≡ last.kept_station
   pub leaves : Backs seen last left
 
 -- How a node's run ends, over a keeper that can be read or may not be: it didn't begin, and its host was told nothing; or it served.
-abbrev pub RunsTo : {K : Type 0} → Weigher → (K → KeeperSeen) → ℕ → Bool → Bool → Bytes → Config → K → K → Seen K → Seen K → Option (List ℕ) → Option (List ℕ) → Ended → Type 0
-RunsTo weigher seen most is_new readable name config keeper left before after errors_before errors_written ended =
-    ((fault : BeginFault) × StaysUnbegun weigher is_new readable name config (seen keeper) (seen left) fault × (after ≡ before) × IsToldAs (fault_told fault) errors_before errors_written ended)
-    ⊎ ((end : Result TalkEnd TalkFault) × ServedUntil weigher seen most is_new name config keeper left before after end × IsToldAs (end_told end) errors_before errors_written ended)
+abbrev pub RunsTo : {K : Type 0} → Weigher → (K → KeeperSeen) → ℕ → Bool → Bool → Bytes → Config → K → KeptStation → K → Seen K → Seen K → Option (List ℕ) → Option (List ℕ) → Ended → Type 0
+RunsTo weigher seen most is_new readable name config keeper station left before after errors_before errors_written ended =
+    ((fault : BeginFault) × StaysUnbegun weigher is_new readable name config (seen keeper) station (seen left) fault × (after ≡ before) × IsToldAs (fault_told fault) errors_before errors_written ended)
+    ⊎ ((end : Result TalkEnd TalkFault) × ServedUntil weigher seen most is_new name config keeper station left before after end × IsToldAs (end_told end) errors_before errors_written ended)
 
 -- there is no file yet
 abbrev pub is_unfiled : What → Bool

@@ -11,7 +11,7 @@ use Rattle.sup_disk.specs.declared.lock.LockFault.{LockFault}
 use Rattle.sup_jobs.specs.declared.fault.Ended.{Ended}
 use Rattle.sup_lines.specs.Words.{Word}
 use Rattle.sup_talk.specs.Hosts.{Flow, Seen}
-use Rattle.sup_supd.specs.Ends.{IsToldAs, RunsTo, file_seen, is_unfiled, left_keeper}
+use Rattle.sup_supd.specs.Ends.{IsToldAs, LeftNode, RunsTo, file_kept, file_seen, is_unfiled, left_node}
 use Rattle.sup_supd.specs.Reasons.{IsWhyFor, of_lock, why_told}
 use Rattle.sup_supd.specs.Words.{Setting, settings_of}
 use Rattle.sup_supd.specs.declared.leaves.Leaves.{Leaves}
@@ -32,14 +32,14 @@ words_in arguments = map string_bytes (drop 1 (into_iter_items arguments))
 abbrev pub new_host : KnownBytes → KnownBytes → Flow
 new_host unread written = record { unread = unread; written = written; is_broken = false }
 
--- what a run left, with the keeper in place of the station that has it
-abbrev pub left_of : {I D : Type 0} {g : _} → Leaves I D (Left (Filed D) g) → Leaves I D (Filed D)
+-- what a run left, of a station what a contract sees of it
+abbrev pub left_of : {I D : Type 0} {g : _} → Leaves I D (Left (Filed D) g) → Leaves I D (LeftNode (Filed D))
 left_of (Images images) = Images images
 left_of Nothing = Nothing
 left_of (Image disk) = Image disk
-left_of (Station left) = Station (left_keeper left)
+left_of (Station left) = Station (left_node file_kept left)
 
-module _ {I D : Type 0} (may_have : D → What → Type 0) (takes : I → Word → Result D LockFault → Type 0) (images : I) where
+module _ {I D : Type 0} (may_have : D → What → Type 0) (may_refuse : D → Error → Type 0) (takes : I → Word → Result D LockFault → Type 0) (images : I) where
   -- The keeper was opened over an image that was taken at this path: it is sound, and a loss of power leaves what it keeps, and nothing that
   -- the image could not have had before.
   pub record OpensAt (path : Word) (keeper : Filed D) : Type 0 where
@@ -50,34 +50,35 @@ module _ {I D : Type 0} (may_have : D → What → Type 0) (takes : I → Word �
     pub sound : keeper.lost ≡ false
     pub fresh : keeper.failures ≡ 0
 
-  -- The node that is set ran over a keeper of its image, and left it so: this is how it ended.
-  pub record RunsImage (setting : Setting) (left : Filed D) (before after : Seen (Filed D)) (errors_before errors_written : KnownBytes) (ended : Ended) : Type 0 where
+  -- The node that is set ran over a keeper of its image, and left it so, and its station: this is how it ended.
+  pub record RunsImage (setting : Setting) (left : LeftNode (Filed D)) (before after : Seen (Filed D)) (errors_before errors_written : KnownBytes) (ended : Ended) : Type 0 where
     pub keeper : Filed D
     pub opens : OpensAt setting.image keeper
-    pub runs : RunsTo (weight_of setting.weighing) file_seen 67108864 (is_unfiled keeper.copy) true setting.name setting.config keeper left before after errors_before errors_written ended
+    pub weighs : left.weighing ≡ setting.weighing
+    pub runs : RunsTo (weight_of setting.weighing) file_seen 67108864 (is_unfiled keeper.copy) true setting.name setting.config keeper left.station left.keeper before after errors_before errors_written ended
 
   -- Why no node runs, by what is set, and what is left then: the images, where the words are refused, or memory was; nothing, where the image
-  -- can't be taken; and one that was taken and can't be read, of which no more is possible than before.
-  abbrev pub IsWhyNot : Option Setting → Unserved → Leaves I D (Filed D) → Type 0
+  -- can't be taken; and one that was taken and refuses to be read, of which no more is possible than before.
+  abbrev pub IsWhyNot : Option Setting → Unserved → Leaves I D (LeftNode (Filed D)) → Type 0
   IsWhyNot set why (Images left) = (left ≡ images) × ((why ≡ OutOfMemory) ⊎ ((set ≡ None) × (why ≡ Words)))
   IsWhyNot set why Nothing = (setting : Setting) × (set ≡ Some setting) × (fault : LockFault) × takes images setting.image (Err fault) × (why ≡ of_lock fault)
   IsWhyNot set why (Image left) =
       (setting : Setting) × (set ≡ Some setting) × (disk : D) × takes images setting.image (Ok disk) × NoMore (may_have disk) (may_have left)
-      × (error : Error) × IsWhyFor error Device why
-  IsWhyNot set why (Station keeper) = ⊥
+      × (error : Error) × may_refuse disk error × IsWhyFor error Device why
+  IsWhyNot set why (Station left) = ⊥
 
   -- The node that is set ran; or none did, its host was told nothing, and the error writer why.
-  abbrev pub RunsSet : Option Setting → Seen (Filed D) → Seen (Filed D) → KnownBytes → KnownBytes → Leaves I D (Filed D) → Ended → Type 0
+  abbrev pub RunsSet : Option Setting → Seen (Filed D) → Seen (Filed D) → KnownBytes → KnownBytes → Leaves I D (LeftNode (Filed D)) → Ended → Type 0
   RunsSet set before after errors_before errors_written left ended =
-      ((setting : Setting) × (set ≡ Some setting) × (keeper : Filed D) × (left ≡ Station keeper) × RunsImage setting keeper before after errors_before errors_written ended)
+      ((setting : Setting) × (set ≡ Some setting) × (node : LeftNode (Filed D)) × (left ≡ Station node) × RunsImage setting node before after errors_before errors_written ended)
       ⊎ ((why : Unserved) × IsWhyNot set why left × (after ≡ before) × IsToldAs (why_told why) errors_before errors_written ended)
 
   -- It goes by the words behind the program's name, the first argument; or tells why the arguments can't be had.
-  abbrev pub RunsArguments : {Y Z : Type 0} → Result (IntoIter (String Y) Z) Error → Seen (Filed D) → Seen (Filed D) → KnownBytes → KnownBytes → Leaves I D (Filed D) → Ended → Type 0
+  abbrev pub RunsArguments : {Y Z : Type 0} → Result (IntoIter (String Y) Z) Error → Seen (Filed D) → Seen (Filed D) → KnownBytes → KnownBytes → Leaves I D (LeftNode (Filed D)) → Ended → Type 0
   RunsArguments (Ok arguments) before after errors_before errors_written left ended = RunsSet (settings_of (words_in arguments)) before after errors_before errors_written left ended
   RunsArguments (Err error) before after errors_before errors_written left ended =
       (why : Unserved) × IsWhyFor error Words why × (left ≡ Images images) × (after ≡ before) × IsToldAs (why_told why) errors_before errors_written ended
 
 -- no node ran, for this reason, and the images are left
-abbrev pub EndsUnserved : {I D : Type 0} → I → Unserved → KnownBytes → KnownBytes → Leaves I D (Filed D) → Ended → Type 0
+abbrev pub EndsUnserved : {I D : Type 0} → I → Unserved → KnownBytes → KnownBytes → Leaves I D (LeftNode (Filed D)) → Ended → Type 0
 EndsUnserved images why errors_before errors_written left ended = (left ≡ Images images) × IsToldAs (why_told why) errors_before errors_written ended

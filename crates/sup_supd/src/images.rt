@@ -1,7 +1,8 @@
 //! Where images are.
 
-ghost use Rattle.std.specs.Prelude.{ℕ, List, Result};
+ghost use Rattle.std.specs.Prelude.{ℕ, List, Result, IfOk};
 ghost use Rattle.sup_disk.specs.declared.lock.LockFault.{LockFault};
+ghost use Rattle.sup_supd.specs.LockedFiles.{IsLockedAt};
 
 use crate::locked::LockedFile;
 use std::alloc::Global;
@@ -33,8 +34,8 @@ pub struct SystemImages<'a> {
 impl Images for SystemImages<'_> {
     type Disk = LockedFile;
 
-    // What files there are is trusted: anything may come.
-    ghost takes = { λ _ _ _. Unit {0} };
+    // What files there are is trusted, and which of them are locked.
+    ghost takes = { λ _ path result. IfOk result (λ locked. IsLockedAt path locked) };
 
     fn take(self, alloc: Global, path: &str) -> Result<LockedFile, LockFault> {
         LockedFile::at(alloc, self.rt, path)

@@ -2,6 +2,7 @@
 #![tactic(auto)]
 
 pub mod images;
+pub mod late;
 pub mod leaves;
 pub mod left;
 pub mod locked;
@@ -11,6 +12,7 @@ pub mod settings;
 pub mod unserved;
 
 pub use images::{Images, SystemImages};
+pub use late::LateReader;
 pub use leaves::Leaves;
 pub use left::Left;
 pub use node::{run_filed, run_node};

@@ -1,5 +1,8 @@
 //! A file under its lock.
 
+ghost use Rattle.std.specs.Prelude.{IfOk};
+ghost use Rattle.sup_supd.specs.LockedFiles.{IsLockedAt};
+
 use std::alloc::Global;
 use std::io;
 use sup_disk::{Disk, FileLock, LockFault, SystemDisk};
@@ -17,7 +20,9 @@ impl LockedFile {
     /// # Errors
     ///
     /// As [`LockFault`] tells. It never waits.
-    pub fn at(alloc: Global, rt: &HostRuntime, path: &str) -> Result<LockedFile, LockFault> {
+    pub fn at(alloc: Global, rt: &HostRuntime, path: &str) -> Result<LockedFile, LockFault>
+        ensures { IfOk result (λ locked. IsLockedAt path.now locked) }
+    {
         let lock = FileLock::beside(alloc, rt, path)?;
         let disk = SystemDisk::at(alloc, rt.clone()?, path)?;
         Ok(LockedFile { disk, _lock: lock })
@@ -33,6 +38,8 @@ impl Disk for LockedFile {
     ghost flushed = { λ _ _. Unit {0} };
 
     ghost named = { λ _ _. Unit {0} };
+
+    ghost may_refuse = { λ _ _. Unit {0} };
 
     fn write_beside(&mut self, bytes: &[u8]) -> io::Result<()> {
         self.disk.write_beside(bytes)

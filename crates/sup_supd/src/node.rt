@@ -3,8 +3,8 @@
 ghost use Rattle.std.specs.Prelude.{◌≡◌, true};
 ghost use Rattle.sup_command_line.specs.Weighings.{weight_of};
 ghost use Rattle.sup_jobs.specs.Tells.{Tells};
-ghost use Rattle.sup_station.specs.KeptStations.{keeper_of};
-ghost use Rattle.sup_supd.specs.Ends.{IsToldAs, RunsTo, end_told, fault_told, file_seen, is_unfiled, left_keeper, refusal_told, seen_of};
+ghost use Rattle.sup_station.specs.KeptStations.{keeper_of, kept_station_of};
+ghost use Rattle.sup_supd.specs.Ends.{IsToldAs, RunsTo, end_told, fault_told, file_kept, file_seen, is_unfiled, left_node, refusal_told, seen_of};
 
 use crate::left::Left;
 use std::alloc::Global;
@@ -23,9 +23,9 @@ use sup_talk::{Host, LINE_LIMIT, TalkEnd, TalkFault};
 /// Runs a node of this name until its host says no more or a fault ends it: if `is_new` one that was just made, whatever its keeper
 /// keeps, or else its next boot from that. Tells the error writer why, and answers that with the exit status: 0, or 1 where what is kept
 /// is no image for this node, or one without a next boot, and 3 where the device, the keeper or memory ended it, or `u64::MAX` lines
-/// were answered. With each answer the host is shown this keeper, by which what the answer tells is kept already; it is left as the node
-/// had it at its end. Where the node didn't begin, it keeps what it kept, or, if memory was refused to the first answer, what was saved by
-/// then.
+/// were answered. With each answer the host is shown this keeper, by which what the answer tells is kept already; the station is left as the
+/// node had it at its end. Where the node didn't begin, it is a stopped one, over what was kept, or, if memory was refused to the first
+/// answer, that of the node which had begun.
 pub fn run_node<K: ImageKeeper, H: Host<K>, E: Write>(
     alloc: Global,
     name: NodeName,
@@ -36,8 +36,10 @@ pub fn run_node<K: ImageKeeper, H: Host<K>, E: Write>(
     host: &mut H,
     errors: &mut E,
 ) -> (Ended, Left<K>)
-    ensures { RunsTo (weight_of weighing) (seen_of K.kept K.found K.failures K.lost) LINE_LIMIT is_new (K.readable keeper) name config
-        keeper (left_keeper result.1) (H.seen host.old) (H.seen host.new) (E.contents errors.old) (E.contents errors.new) result.0 }
+    ensures runs { let left = left_node K.kept result.1 in
+        RunsTo (weight_of weighing) (seen_of K.kept K.found K.failures K.lost) LINE_LIMIT is_new (K.readable keeper) name config
+        keeper left.station left.keeper (H.seen host.old) (H.seen host.new) (E.contents errors.old) (E.contents errors.new) result.0 }
+    ensures weighs { (left_node K.kept result.1).weighing ≡ weighing }
 {
     match weighing {
         Weighing::Sha256 => {
@@ -72,8 +74,10 @@ pub fn run_filed<D: Disk, H: Host<DiskKeeper<D>>, E: Write>(
     host: &mut H,
     errors: &mut E,
 ) -> (Ended, Left<DiskKeeper<D>>)
-    ensures { RunsTo (weight_of weighing) file_seen LINE_LIMIT (is_unfiled keeper.copy) true name config
-        keeper (left_keeper result.1) (H.seen host.old) (H.seen host.new) (E.contents errors.old) (E.contents errors.new) result.0 }
+    ensures runs { let left = left_node file_kept result.1 in
+        RunsTo (weight_of weighing) file_seen LINE_LIMIT (is_unfiled keeper.copy) true name config
+        keeper left.station left.keeper (H.seen host.old) (H.seen host.new) (E.contents errors.old) (E.contents errors.new) result.0 }
+    ensures weighs { (left_node file_kept result.1).weighing ≡ weighing }
 {
     let is_new = keeper.is_new();
     run_node(alloc, name, config, weighing, keeper, is_new, host, errors)
@@ -90,7 +94,7 @@ fn run_by<K: ImageKeeper, W: Weigh + Drop, H: Host<K>, E: Write>(
     errors: &mut E,
 ) -> (Ended, Station<K, W>)
     ensures { RunsTo W.weight_of (seen_of K.kept K.found K.failures K.lost) LINE_LIMIT is_new (K.readable keeper) name config
-        keeper (keeper_of result.1) (H.seen host.old) (H.seen host.new) (E.contents errors.old) (E.contents errors.new) result.0 }
+        keeper (kept_station_of K.kept result.1) (keeper_of result.1) (H.seen host.old) (H.seen host.new) (E.contents errors.old) (E.contents errors.new) result.0 }
 {
     match begin(alloc, name, config, keeper, is_new, weigher) {
         Ok(begun) => {

@@ -8,6 +8,7 @@ ghost use Rattle.sup_supd.specs.Started.{EndsUnserved, RunsArguments, RunsSet, l
 ghost use Rattle.sup_supd.specs.Words.{set_of, settings_of};
 
 use crate::images::Images;
+use crate::late::{LateReader, buffered};
 use crate::leaves::Leaves;
 use crate::left::Left;
 use crate::node::run_filed;
@@ -32,8 +33,8 @@ pub struct Ran<L: Drop, S: Drop> {
 }
 
 /// Runs the node that the words after the program's name set, as [`run_arguments`] does, until its host, who speaks by the reader and
-/// hears by the writer, says no more. Where memory for a buffer is refused, nobody is told anything: the writer is given back as it was, and
-/// the images.
+/// hears by the writer, says no more. Where memory for a buffer is refused, nobody is heard or told anything: the reader and the writer are
+/// given back as they were, and the images.
 pub fn run_started<I: Images, R: Read + Drop, W: Write + Drop, E: Write>(
     alloc: Global,
     arguments: io::Result<Args>,
@@ -41,13 +42,17 @@ pub fn run_started<I: Images, R: Read + Drop, W: Write + Drop, E: Write>(
     reader: R,
     writer: W,
     errors: &mut E,
-) -> Ran<Leaves<I, I::Disk, Left<DiskKeeper<I::Disk>>>, Result<Streams<BufReader<R>, W>, W>>
-    ensures runs { IfOk result.streams (λ host. RunsArguments I.Disk.may_have I.takes images arguments
+) -> Ran<
+    Leaves<I, I::Disk, Left<DiskKeeper<I::Disk>>>,
+    Result<Streams<BufReader<LateReader<R>>, W>, (R, W)>,
+>
+    ensures runs { IfOk result.streams (λ host. RunsArguments I.Disk.may_have I.Disk.may_refuse I.takes images arguments
         (seen_of (new_host (R.remaining reader) (W.contents writer))) (seen_of host)
         (E.contents errors.old) (E.contents errors.new) (left_of result.left) result.ended) }
-    ensures memory { IfErr result.streams (λ w. EndsUnserved images Unserved.OutOfMemory
+    ensures memory { IfErr result.streams (λ both. EndsUnserved images Unserved.OutOfMemory
         (E.contents errors.old) (E.contents errors.new) (left_of result.left) result.ended) }
-    ensures unwritten { IfErr result.streams (λ w. W.contents w ≡ W.contents writer) }
+    ensures unheard { IfErr result.streams (λ both. both.0 ≡ reader) }
+    ensures unwritten { IfErr result.streams (λ both. both.1 ≡ writer) }
 {
     match streams_of(alloc, reader, writer) {
         Ok(mut host) => {
@@ -58,27 +63,27 @@ pub fn run_started<I: Images, R: Read + Drop, W: Write + Drop, E: Write>(
                 streams: Ok(host),
             }
         }
-        Err(writer) => Ran {
+        Err(both) => Ran {
             ended: refuse(errors, Unserved::OutOfMemory),
             left: Leaves::Images(images),
-            streams: Err(writer),
+            streams: Err(both),
         },
     }
 }
 
-// An `Err` is want of memory, and gives the writer back.
-#[tactic(auto, using(crate::proofs::NewHosts::unbuffered))]
+// An `Err` is want of memory, and gives both back.
 fn streams_of<R: Read + Drop, W: Write + Drop>(
     alloc: Global,
     reader: R,
     writer: W,
-) -> Result<Streams<BufReader<R>, W>, W>
+) -> Result<Streams<BufReader<LateReader<R>>, W>, (R, W)>
     ensures new { IfOk result (λ host. host ≡ new_host (R.remaining reader) (W.contents writer)) }
-    ensures back { IfErr result (λ w. W.contents w ≡ W.contents writer) }
+    ensures reader { IfErr result (λ both. both.0 ≡ reader) }
+    ensures writer { IfErr result (λ both. both.1 ≡ writer) }
 {
-    match BufReader::new(alloc, reader) {
-        Ok(reader) => Ok(Streams::new(reader, writer)),
-        Err(_) => Err(writer),
+    match buffered(alloc, reader) {
+        Ok(buffer) => Ok(Streams::new(buffer, writer)),
+        Err(reader) => Err((reader, writer)),
     }
 }
 
@@ -92,7 +97,7 @@ pub fn run_arguments<I: Images, H: Host<DiskKeeper<I::Disk>>, E: Write>(
     host: &mut H,
     errors: &mut E,
 ) -> (Ended, Leaves<I, I::Disk, Left<DiskKeeper<I::Disk>>>)
-    ensures { RunsArguments I.Disk.may_have I.takes images arguments (H.seen host.old) (H.seen host.new)
+    ensures { RunsArguments I.Disk.may_have I.Disk.may_refuse I.takes images arguments (H.seen host.old) (H.seen host.new)
         (E.contents errors.old) (E.contents errors.new) (left_of result.1) result.0 }
 {
     match arguments {
@@ -111,7 +116,7 @@ fn run_given<I: Images, H: Host<DiskKeeper<I::Disk>>, E: Write>(
     host: &mut H,
     errors: &mut E,
 ) -> (Ended, Leaves<I, I::Disk, Left<DiskKeeper<I::Disk>>>)
-    ensures { RunsSet I.Disk.may_have I.takes images (settings_of (words_in arguments)) (H.seen host.old) (H.seen host.new)
+    ensures { RunsSet I.Disk.may_have I.Disk.may_refuse I.takes images (settings_of (words_in arguments)) (H.seen host.old) (H.seen host.new)
         (E.contents errors.old) (E.contents errors.new) (left_of result.1) result.0 }
 {
     match words_of(alloc, arguments) {
@@ -138,7 +143,7 @@ fn run_words<I: Images, H: Host<DiskKeeper<I::Disk>>, E: Write>(
     host: &mut H,
     errors: &mut E,
 ) -> (Ended, Leaves<I, I::Disk, Left<DiskKeeper<I::Disk>>>)
-    ensures { RunsSet I.Disk.may_have I.takes images (settings_of (map string_bytes words.now)) (H.seen host.old) (H.seen host.new)
+    ensures { RunsSet I.Disk.may_have I.Disk.may_refuse I.takes images (settings_of (map string_bytes words.now)) (H.seen host.old) (H.seen host.new)
         (E.contents errors.old) (E.contents errors.new) (left_of result.1) result.0 }
 {
     match texts_of(alloc, words) {
@@ -167,7 +172,7 @@ fn run_texts<I: Images, H: Host<DiskKeeper<I::Disk>>, E: Write>(
     host: &mut H,
     errors: &mut E,
 ) -> (Ended, Leaves<I, I::Disk, Left<DiskKeeper<I::Disk>>>)
-    ensures { RunsSet I.Disk.may_have I.takes images (settings_of (texts words.now)) (H.seen host.old) (H.seen host.new)
+    ensures { RunsSet I.Disk.may_have I.Disk.may_refuse I.takes images (settings_of (texts words.now)) (H.seen host.old) (H.seen host.new)
         (E.contents errors.old) (E.contents errors.new) (left_of result.1) result.0 }
 {
     match read_settings(words) {
@@ -183,7 +188,7 @@ fn run_set<I: Images, H: Host<DiskKeeper<I::Disk>>, E: Write>(
     host: &mut H,
     errors: &mut E,
 ) -> (Ended, Leaves<I, I::Disk, Left<DiskKeeper<I::Disk>>>)
-    ensures { RunsSet I.Disk.may_have I.takes images (Some (set_of settings.entry)) (H.seen host.old) (H.seen host.new)
+    ensures { RunsSet I.Disk.may_have I.Disk.may_refuse I.takes images (Some (set_of settings.entry)) (H.seen host.old) (H.seen host.new)
         (E.contents errors.old) (E.contents errors.new) (left_of result.1) result.0 }
 {
     let disk = match images.take(alloc, settings.image) {

@@ -1,5 +1,8 @@
 //! Stories of the program, from its arguments and its images to its status.
 
+ghost use Rattle.std.specs.Prelude.{◌≡◌, Some};
+ghost use Rattle.std.specs.IoError.{error_kind};
+
 use std::alloc::{AllocError, Global};
 use std::env::Args;
 use std::io::{self, ErrorKind};
@@ -21,6 +24,8 @@ impl Disk for Held {
     ghost flushed = { λ _ _. Unit {0} };
 
     ghost named = { λ _ _. Unit {0} };
+
+    ghost may_refuse = { λ held error. held.unread ≡ Some (error_kind error) };
 
     fn write_beside(&mut self, _bytes: &[u8]) -> io::Result<()> {
         Ok(())

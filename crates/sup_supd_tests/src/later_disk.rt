@@ -21,6 +21,8 @@ impl Disk for LaterDisk {
 
     ghost named = { λ _ _. Unit {0} };
 
+    ghost may_refuse = { λ _ _. ⊥ };
+
     fn write_beside(&mut self, _bytes: &[u8]) -> io::Result<()> {
         if self.holds == 0 && !self.fails_late {
             return Err(io::Error::from(ErrorKind::Other));

@@ -3,8 +3,8 @@ use Rattle.sup_replica.specs.declared.event.Act.TheVariants.{Restart}
 use Rattle.sup_replica.specs.declared.refusal.Refusal.TheVariants.{KeepFailed}
 use Rattle.sup_station.specs.KeptStations.{AnswersAct, KeptStation, RefusesAct, RefusesRestart, keeper_of, kept_station_of}
 use Rattle.sup_answering.specs.AnsweringNodes.{RisesWhere}
-use Rattle.sup_answering.specs.BegunNodes.{FailsAtSave, IsNoBegin, IsUnkept, stopped}
-use Rattle.sup_answering.proofs.UnbegunNodeLaws.{begins_with, counted, leaves_begun, leaves_old, refused_bad, standing_same, unanswered, uncounted, unsaved, unstopped, fails_given}
+use Rattle.sup_answering.specs.BegunNodes.{FailsAtSave, IsNoBegin, IsUnkept}
+use Rattle.sup_answering.proofs.UnbegunNodeLaws.{begins_with, counted, leaves_begun, leaves_old, refused_bad, standing_same, unanswered, uncounted, unsaved, fails_given}
 use Rattle.sup_answering.proofs.begin.go_on.Goals as goal
 
 pub restart_fault-fault-requires : goal.restart_fault-fault-requires
@@ -21,7 +21,7 @@ returns-in-Err-clause-fault g c =
 pub returns-in-Err-clause-leaves : goal.returns-in-Err-clause-leaves
 returns-in-Err-clause-leaves g c =
     leaves_old g.W.Weigh.weight_of false c.args.name c.args.config (g.K.Keeper.kept c.args.keeper) (g.K.Keeper.found c.args.keeper) c.restart_fault-fault.result _
-    (standing_same _ _ (ap (λ (s : KeptStation). s.kept) (c.in-Err.ensures.goes.0 ∙ c.stopped-station.ensures.still))
+    (standing_same _ _ (c.in-Err.ensures.goes.0 ∙ c.stopped-station.ensures.still)
     (c.in-Err.ensures.unput ∙ ap g.K.Keeper.found c.stopped-station.ensures.keeper))
     (λ e. (refl, refused_bad g.W.Weigh.weight_of _ _ c.in-Err.refusal c.stopped-station.ensures.still c.in-Err.ensures.goes.1 (c.restart_fault-fault.ensures.wants e)))
 
@@ -54,18 +54,11 @@ returns-in-Ok-clause-counted g c =
     uncounted (λ u. u.fault) (λ u. u.station) (λ x. g.K.Keeper.failures (keeper_of x)) (g.K.Keeper.failures c.args.keeper) c.step.new.self c.begun_with.result
     (c.in-Ok.ensures.uncounted ∙ ap g.K.Keeper.failures c.stopped-station.ensures.keeper) c.begun_with.ensures.fault c.begun_with.ensures.left
 
-pub returns-in-Err-clause-station : goal.returns-in-Err-clause-station
-returns-in-Err-clause-station g c = λ _. c.in-Err.ensures.goes.0 ∙ c.stopped-station.ensures.still
-
 pub returns-in-Err-clause-order : goal.returns-in-Err-clause-order
 returns-in-Err-clause-order g c = λ readable unkept.
     let e = c.restart_fault-fault.ensures.same KeepFailed unkept in
     fails_given g.W.Weigh.weight_of _ _ c.stopped-station.ensures.still
     (c.in-Err.ensures.order (subst (λ k. g.K.Keeper.readable k ≡ true) (sym c.stopped-station.ensures.keeper) readable) (cc))
-
-pub returns-in-Ok-clause-station : goal.returns-in-Ok-clause-station
-returns-in-Ok-clause-station g c =
-    unstopped (λ u. kept_station_of g.K.Keeper.kept u.station ≡ stopped c.args.name c.args.config (g.K.Keeper.kept c.args.keeper)) (λ u. u.fault) c.begun_with.result c.begun_with.ensures.fault
 
 pub returns-in-Ok-clause-order : goal.returns-in-Ok-clause-order
 returns-in-Ok-clause-order g c =

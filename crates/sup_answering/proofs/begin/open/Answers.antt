@@ -1,4 +1,4 @@
-use Rattle.std.proofs.Common.{◌≡◌, ◌∙◌, true, None, Ok, ap, sym, subst}
+use Rattle.std.proofs.Common.{◌∙◌, true, None, Ok, ap, sym, subst}
 use Rattle.sup_specs.specs.Values.{Bytes}
 use Rattle.sup_replica.specs.declared.done.Reply.TheVariants.{Boot}
 use Rattle.sup_station.specs.KeptStations.{keeper_of, kept_station_of}
@@ -6,7 +6,7 @@ use Rattle.sup_told.specs.Told.{told_text}
 use Rattle.sup_answering.specs.AnsweringNodes.{RisesWhere}
 use Rattle.sup_answering.specs.BegunNodes.{IsNoBegin, IsUnkept, stopped}
 use Rattle.sup_answering.specs.declared.begin.BeginFault.{BeginFault}
-use Rattle.sup_answering.proofs.UnbegunNodeLaws.{begins_with, counted, leaves_begun, leaves_old, standing_same, unanswered, uncounted, unlacking, unstopped}
+use Rattle.sup_answering.proofs.UnbegunNodeLaws.{begins_with, counted, leaves_begun, leaves_old, standing_same, unanswered, uncounted, unlacking}
 use Rattle.sup_answering.proofs.begin.open.Goals as goal
 
 pub returns-in-Err-clause-fault : goal.returns-in-Err-clause-fault
@@ -16,7 +16,7 @@ returns-in-Err-clause-fault g c =
 pub returns-in-Err-clause-leaves : goal.returns-in-Err-clause-leaves
 returns-in-Err-clause-leaves g c =
     leaves_old g.W.Weigh.weight_of true c.args.name c.args.config (g.K.Keeper.kept c.args.keeper) (g.K.Keeper.found c.args.keeper) c.unopened.result.fault _
-    (standing_same _ _ (ap g.K.Keeper.kept c.unopened.ensures.keeper ∙ c.in-Err.ensures.refused) (ap g.K.Keeper.found c.unopened.ensures.keeper ∙ c.in-Err.ensures.unput)) (λ e. absurd (unlacking _ _ c.unopened.ensures.fault e))
+    (standing_same _ _ (c.unopened.ensures.station ∙ ap (λ (kept : Bytes). stopped c.args.name c.args.config kept) c.in-Err.ensures.refused) (ap g.K.Keeper.found c.unopened.ensures.keeper ∙ c.in-Err.ensures.unput)) (λ e. absurd (unlacking _ _ c.unopened.ensures.fault e))
 
 pub returns-in-Err-clause-counted : goal.returns-in-Err-clause-counted
 returns-in-Err-clause-counted g c =
@@ -43,10 +43,3 @@ pub returns-clause-counted : goal.returns-clause-counted
 returns-clause-counted g c =
     uncounted (λ u. u.fault) (λ u. u.station) (λ x. g.K.Keeper.failures (keeper_of x)) (g.K.Keeper.failures c.args.keeper) c.in-Ok.station c.begun_with.result
     c.in-Ok.ensures.uncounted c.begun_with.ensures.fault c.begun_with.ensures.left
-
-pub returns-in-Err-clause-station : goal.returns-in-Err-clause-station
-returns-in-Err-clause-station g c = λ _. c.unopened.ensures.station ∙ ap (λ (kept : Bytes). stopped c.args.name c.args.config kept) c.in-Err.ensures.refused
-
-pub returns-clause-station : goal.returns-clause-station
-returns-clause-station g c =
-    unstopped (λ u. kept_station_of g.K.Keeper.kept u.station ≡ stopped c.args.name c.args.config (g.K.Keeper.kept c.args.keeper)) (λ u. u.fault) c.begun_with.result c.begun_with.ensures.fault

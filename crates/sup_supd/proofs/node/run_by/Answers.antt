@@ -17,6 +17,7 @@ returns-in-Ok g c =
         begins = c.in-Ok.ensures.begins;
         uncounted = c.in-Ok.ensures.uncounted;
         serves = rw c.as_slice.ensures.value at c.serve-end.ensures;
+        stays = refl;
         leaves = record { keeps = refl; failed = refl; is_lost = refl };
       },
       c.end_with-ended.ensures,
@@ -25,7 +26,7 @@ returns-in-Ok g c =
 pub returns-in-Err : goal.returns-in-Err
 returns-in-Err g c = inl (
   c.in-Err.unbegun.fault,
-  record { why = c.in-Err.ensures.fault; leaves = c.in-Err.ensures.leaves; counted = c.in-Err.ensures.counted; order = c.in-Err.ensures.order },
+  record { why = c.in-Err.ensures.fault; leaves = c.in-Err.ensures.leaves; keeps = refl; counted = c.in-Err.ensures.counted; order = c.in-Err.ensures.order },
   refl,
   c.refuse-ended.ensures,
 )

@@ -9,5 +9,5 @@ new_unfiled true (Some bytes) h = let e : Some bytes ≡ None = h.0 refl in cc
 new_unfiled false None h = let e : false ≡ true = h.1 refl in cc
 new_unfiled false (Some bytes) h = refl
 
-pub returns : goal.returns
-returns g c = rw (← new_unfiled c.is_new-is_new.result c.args.keeper.copy c.is_new-is_new.ensures) c.run_node.ensures
+pub returns-clause-runs : goal.returns-clause-runs
+returns-clause-runs g c = rw (← new_unfiled c.is_new-is_new.result c.args.keeper.copy c.is_new-is_new.ensures) c.run_node.ensures.runs

@@ -1,5 +1,5 @@
 use Rattle.std.proofs.Common.{inl, inr, refl}
-use Rattle.sup_supd.specs.Ends.{left_keeper}
+use Rattle.sup_supd.specs.Ends.{file_kept, left_node}
 use Rattle.sup_supd.specs.Words.{set_of}
 use Rattle.sup_supd.proofs.program.run_set.Goals as goal
 
@@ -9,7 +9,7 @@ returns-in-Err g c = inr (c.why_untaken.result, (set_of c.args.settings, refl, c
 pub returns-in-Err-open : goal.returns-in-Err-open
 returns-in-Err-open g c = inr (
   c.why_for-why.result,
-  (set_of c.args.settings, refl, c.in-Ok.disk, c.in-Ok.ensures, c.in-Err-open.ensures.left, c.in-Err-open.unopened.error, c.why_for-why.ensures),
+  (set_of c.args.settings, refl, c.in-Ok.disk, c.in-Ok.ensures, c.in-Err-open.ensures.left, c.in-Err-open.unopened.error, c.in-Err-open.ensures.why, c.why_for-why.ensures),
   refl,
   c.refuse-in-Err-open.ensures,
 )
@@ -18,7 +18,7 @@ pub returns : goal.returns
 returns g c = inl (
   set_of c.args.settings,
   refl,
-  left_keeper c.run_filed-left.result.1,
+  left_node file_kept c.run_filed-left.result.1,
   refl,
   record {
     keeper = c.in-Ok-open.keeper;
@@ -30,6 +30,7 @@ returns g c = inl (
       sound = c.in-Ok-open.ensures.sound;
       fresh = c.in-Ok-open.ensures.failures;
     };
-    runs = c.run_filed-left.ensures;
+    weighs = c.run_filed-left.ensures.weighs;
+    runs = c.run_filed-left.ensures.runs;
   },
 )
