@@ -3,7 +3,7 @@ use Rattle.std.specs.Prelude.{◌≡◌, ◌≢◌, ◌≤◌, ℕ, Bool, false,
 use Rattle.std.specs.List.{AllByRecursion, IsDistinct}
 use Rattle.std.specs.Str.{bytes_eq}
 use Rattle.std.specs.Cmp.Lexicographic.{nat_list_eq_equiv}
-use Rattle.std.proofs.Common.{sym, ◌∙◌, subst, arith}
+use Rattle.std.proofs.Common.{sym, ap, ◌∙◌, subst, arith}
 use Rattle.std.proofs.lemmas.Map.Text.{is_eq-slice_cmp}
 use mathlib.Core.Logic.{◌⊎◌, inl, inr}
 use Rattle.sup_specs.specs.Values.{Bytes}
@@ -15,6 +15,9 @@ use Rattle.sup_plan.specs.declared.histories.History.{History}
 use Rattle.sup_plan.specs.declared.plan.Plan.{Plan}
 use Rattle.sup_world.specs.WorldNames.{AreWorldNames}
 use Rattle.sup_world.specs.SeenNodes.{SeenNode}
+use Rattle.sup_driving.specs.PlannedRuns.{Planned}
+use Rattle.sup_driving.specs.declared.runner.Quiet.{Quiet}
+use Rattle.sup_cluster.specs.Ran.{IsRanBy, Ran}
 use Rattle.sup_cluster.specs.Runs.{IsRunOf}
 use Rattle.sup_certify.specs.Certified.{IsNewWorld}
 use Rattle.sup_certify.specs.Complete.{TellsNoRun}
@@ -26,7 +29,9 @@ use Rattle.sup_posts.specs.declared.fault.RunFault.TheVariants as run
 use Rattle.sup_cluster_texts.specs.Faults.{of_certify, of_run}
 use Rattle.sup_cluster_texts.specs.declared.fault.ClusterFault.{ClusterFault}
 use Rattle.sup_cluster_texts.specs.declared.fault.ClusterFault.TheVariants.{Job, HistoryFull, LinkClosed, Stuck, Differs}
-use Rattle.sup_clustering.specs.CertifiedPlans.{IsGiven, IsRefused}
+use Rattle.sup_clustering.specs.declared.told.Untold.{Untold}
+use Rattle.sup_clustering.specs.declared.told.Untold.TheVariants.{Stopped, Refused}
+use Rattle.sup_clustering.specs.CertifiedPlans.{IsGiven, IsRefused, IsUntold, IsUntoldOf, fault_of}
 use Rattle.sup_clustering.specs.Verdicts.{IsNoRun, RefusesHistories}
 
 -- ---- the judgement
@@ -109,13 +114,28 @@ module _ (g : Weigher) (did : Bytes → Effect → Bool → Type 0) (bound : ℕ
   }
   given_ended histories of ended (Err fault) ran bounded these = tt
 
-  -- why there is nothing to print where they ended so
-  pub refused_ended : {R S : Type 0} (histories : R → List History) (ended : Result R RunFault) (told : Result S ClusterFault) → IsPlan plan → IfOk ended (λ r. IsRunOf g did plan (histories r))
-      → IfOk ended (λ r. All (λ (h : History). length h.entries.items ≤ bound) (histories r))
-      → IfOk ended (λ r. IfErr told (RefusesHistories g plan (histories r))) → IfErr ended (λ fault. told ≡ Err (of_run fault)) → IfErr told (IsRefused g did bound plan)
-  refused_ended histories (Ok r) (Ok s) p ran bounded refused faulted = tt
-  refused_ended histories (Ok r) (Err fault) p ran bounded refused faulted = refused_given (histories r) fault p (record { ran = ran; bounded = bounded }) refused
-  refused_ended {S = S} histories (Err fault) told p ran bounded refused faulted = subst (λ (t : Result S ClusterFault). IfErr t (IsRefused g did bound plan)) (sym faulted) (refused_run fault)
+  -- why there is nothing to print where nothing is told of a planned run
+  pub refused_untold : {N : Type 0} (planned : Planned N Quiet) (untold : Untold N) → planned.bound ≡ bound → planned.plan ≡ plan → IsPlan plan → IsUntold g did planned untold → IsRefused g did bound plan (fault_of untold)
+  refused_untold planned (Stopped fault) most same p u = refused_run fault
+  refused_untold planned (Refused fault ran) most same p u = refused_given ran.histories fault p
+      (subst (λ (x : ℕ). IsGiven g did x plan ran.histories) most (subst (λ (x : Plan). IsGiven g did planned.bound x ran.histories) same u.1))
+      (subst (λ (x : Plan). RefusesHistories g x ran.histories fault) same u.2)
+
+  pub no_bad_plan : {N : Type 0} (planned : Planned N Quiet) (untold : Untold N) → IsUntold g did planned untold → untold ≢ Stopped run.BadPlan
+  no_bad_plan planned untold u is = (subst (IsUntold g did planned) is u) refl
+
+  -- why nothing is told of a planned run whose threads ended so
+  untold_of : {N : Type 0} (planned : Planned N Quiet) (ended : Result (Ran N Quiet) RunFault) (untold : Untold N) → ended ≢ Err run.BadPlan → IfOk ended (λ r. IsGiven g did planned.bound planned.plan r.histories)
+      → IfOk ended (IsRanBy planned) → IsUntoldOf g planned.plan ended untold → IsUntold g did planned untold
+  untold_of planned ended (Stopped fault) good given by u = λ is. good (u ∙ ap Err is)
+  untold_of {N = N} planned ended (Refused fault ran) good given by u =
+      (subst (λ (e : Result (Ran N Quiet) RunFault). IfOk e (IsRanBy planned)) u.0 by, subst (λ (e : Result (Ran N Quiet) RunFault). IfOk e (λ r. IsGiven g did planned.bound planned.plan r.histories)) u.0 given, u.1)
+
+  pub untold_ended : {N S : Type 0} (planned : Planned N Quiet) (ended : Result (Ran N Quiet) RunFault) (told : Result S (Untold N)) → ended ≢ Err run.BadPlan → IfOk ended (λ r. IsRunOf g did planned.plan r.histories)
+      → IfOk ended (λ r. All (λ (h : History). length h.entries.items ≤ planned.bound) r.histories) → IfOk ended (IsRanBy planned) → IfErr told (IsUntoldOf g planned.plan ended) → IfErr told (IsUntold g did planned)
+  untold_ended planned ended (Ok s) good ran bounded by u = tt
+  untold_ended planned (Ok r) (Err untold) good ran bounded by u = untold_of planned (Ok r) untold good (record { ran = ran; bounded = bounded }) by u
+  untold_ended planned (Err fault) (Err untold) good ran bounded by u = untold_of planned (Err fault) untold good tt by u
 
 -- what is so of how they ended is so of what is told of just that
 pub so_told : {R S E F : Type 0} (P : R → Type 0) (of : S → R) (ended : Result R F) (told : Result S E) → IfOk ended P → IfOk told (λ s. ended ≡ Ok (of s)) → IfOk told (λ s. P (of s))

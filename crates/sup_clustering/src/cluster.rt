@@ -6,7 +6,8 @@ ghost use Rattle.sup_plan.specs.Plans.{IsPlan};
 ghost use Rattle.sup_clustering.specs.CertifiedPlans.{IsRefused, PrintsCluster};
 ghost use Rattle.sup_clustering.specs.ClusterRuns.{RunsCluster, ClustersTo, PrintsShort, TakesFor, all_start};
 
-use crate::certified::{Told, plan_text};
+use crate::certified::plan_text;
+use crate::told::Told;
 use std::alloc::Global;
 use std::io::{Read, Write};
 use std::sync::Wait;
@@ -112,6 +113,8 @@ fn certified_text<T: Threads + Wait + Sync, G: Weigh + Copy + Drop + Send + Sync
     let Ok(planned) = PlannedRun::new(plan, MAX_BOUND, &Quiet, &Quiet) else {
         unreachable!()
     };
-    let Told { text, histories: _ } = plan_text(rt, alloc, weigher, planned)?;
-    Ok(text)
+    match plan_text(rt, alloc, weigher, planned) {
+        Ok(Told { text, histories: _ }) => Ok(text),
+        Err(untold) => Err(untold.fault()),
+    }
 }

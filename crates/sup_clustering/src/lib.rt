@@ -7,8 +7,10 @@
 pub mod certified;
 mod cluster;
 pub mod laws;
+mod told;
 mod verdict;
 
-pub use certified::{Told, plan_text};
+pub use certified::plan_text;
 pub use cluster::run_cluster;
+pub use told::{Told, Untold};
 pub use verdict::judged_text;
