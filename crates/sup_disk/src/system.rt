@@ -1,7 +1,7 @@
 //! A file of the file system, of which contracts claim only where it is.
 
-ghost use Rattle.std.specs.Prelude.{◌≡◌, ◌++◌, IfOk, codes};
-ghost use Rattle.sup_disk.specs.Paths.{beside_of, path_of};
+ghost use Rattle.std.specs.Prelude.{◌≡◌, ◌++◌, IfOk, codes, string_bytes};
+ghost use Rattle.sup_disk.specs.Paths.{IsFolderOf, beside_of, folder_of, path_of};
 
 use crate::disk::Disk;
 use std::alloc::{AllocError, Global};
@@ -30,14 +30,11 @@ impl<R: Files + Drop> SystemDisk<R> {
     pub fn at(alloc: Global, rt: R, path: &str) -> Result<SystemDisk<R>, AllocError>
         ensures path { IfOk result (λ disk. path_of disk ≡ path.now) }
         ensures beside { IfOk result (λ disk. beside_of disk ≡ path.now ++ codes ".new") }
+        ensures folder { IfOk result (λ disk. IsFolderOf path.now (folder_of disk)) }
     {
         let mut beside = String::from_str(alloc, path)?;
         beside.push_str(".new")?;
-        let folder = match path.rfind('/') {
-            None => String::from_str(alloc, ".")?,
-            Some(0) => String::from_str(alloc, "/")?,
-            Some(end) => String::from_str(alloc, &path[..end])?,
-        };
+        let folder = folder_in(alloc, path)?;
         let path = String::from_str(alloc, path)?;
         Ok(SystemDisk {
             rt,
@@ -52,6 +49,17 @@ impl<R: Files + Drop> SystemDisk<R> {
     fn flush_names(&self) -> io::Result<()> {
         let folder = File::open(&self.rt, self.folder.as_str())?;
         folder.sync_all()
+    }
+}
+
+// The folder in which the path's last name stands.
+fn folder_in(alloc: Global, path: &str) -> Result<String, AllocError>
+    ensures { IfOk result (λ folder. IsFolderOf path.now (string_bytes folder)) }
+{
+    match path.rfind('/') {
+        None => String::from_str(alloc, "."),
+        Some(0) => String::from_str(alloc, "/"),
+        Some(end) => String::from_str(alloc, &path[..end]),
     }
 }
 

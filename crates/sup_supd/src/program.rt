@@ -1,6 +1,7 @@
 //! The program's run, from its arguments, its streams and its images to its status.
 
 ghost use Rattle.std.specs.Prelude.{◌≡◌, drop, Some, IfErr, IfOk, map, string_bytes};
+ghost use Rattle.std.specs.Process.{exit_status};
 ghost use Rattle.std.specs.Vec.Iter.{into_iter_items};
 ghost use Rattle.sup_lines.specs.Words.{texts};
 ghost use Rattle.sup_talk.specs.Hosts.{seen_of};
@@ -17,6 +18,7 @@ use crate::unserved::{Unserved, refuse, why_for, why_untaken};
 use std::alloc::{AllocError, Global};
 use std::env::Args;
 use std::io::{self, BufReader, Read, Write};
+use std::process::ExitCode;
 use sup_disk::{DiskKeeper, Unopened};
 use sup_jobs::Ended;
 use sup_talk::{Host, Streams};
@@ -24,6 +26,8 @@ use sup_talk::{Host, Streams};
 /// What a run of the program leaves.
 #[derive(Drop)]
 pub struct Ran<L: Drop, S: Drop> {
+    /// What the program exits with: its status.
+    pub code: ExitCode,
     /// Its status, and whether all was told.
     pub ended: Ended,
     /// What is left of its images.
@@ -53,21 +57,27 @@ pub fn run_started<I: Images, R: Read + Drop, W: Write + Drop, E: Write>(
         (E.contents errors.old) (E.contents errors.new) (left_of result.left) result.ended) }
     ensures unheard { IfErr result.streams (λ both. both.0 ≡ reader) }
     ensures unwritten { IfErr result.streams (λ both. both.1 ≡ writer) }
+    ensures code { exit_status result.code ≡ result.ended.status }
 {
     match streams_of(alloc, reader, writer) {
         Ok(mut host) => {
             let (ended, left) = run_arguments(alloc, arguments, images, &mut host, errors);
             Ran {
+                code: ExitCode::from(ended.status),
                 ended,
                 left,
                 streams: Ok(host),
             }
         }
-        Err(both) => Ran {
-            ended: refuse(errors, Unserved::OutOfMemory),
-            left: Leaves::Images(images),
-            streams: Err(both),
-        },
+        Err(both) => {
+            let refused = refuse(errors, Unserved::OutOfMemory);
+            Ran {
+                code: ExitCode::from(refused.status),
+                ended: refused,
+                left: Leaves::Images(images),
+                streams: Err(both),
+            }
+        }
     }
 }
 

@@ -135,6 +135,7 @@ fn expect(
         &mut told,
     );
     let Ran {
+        code: _,
         ended,
         left,
         streams,

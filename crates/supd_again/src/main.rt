@@ -14,5 +14,5 @@ fn main(rt: HostRuntime) -> ExitCode {
         rt.stdout(),
         &mut rt.stderr(),
     );
-    ExitCode::from(ran.ended.status)
+    ran.code
 }
