@@ -22,3 +22,8 @@ cut_at acts i act item within same is =
 pub stopped_by : {T : Type 0} (P : Refusal → Type 0) (result : Result T Refusal) (e : Refusal) → IsErrAnd result (λ r. r ≡ e) → P e → IfErr result P
 stopped_by P (Ok done) e same p = tt
 stopped_by P (Err r) e same p = subst P (sym same) p
+
+-- it is the one that came
+pub handed_on : {T : Type 0} (result : Result T Refusal) (e r : Refusal) → IsErrAnd result (λ x. x ≡ e) → result ≡ Err r → e ≡ r
+handed_on (Ok done) e r same is = absurd same
+handed_on (Err x) e r same is = let told : x ≡ r = cc in sym same ∙ told

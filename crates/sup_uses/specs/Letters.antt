@@ -1,5 +1,5 @@
 -- Two stations that exchange letters.
-use Rattle.std.specs.Prelude.{◌≡◌, ◌≢◌, ◌≤◌, ◌⊎◌, ℕ, zero, suc, Bool, true, false, Option, Some, None, Ok, Err}
+use Rattle.std.specs.Prelude.{◌≡◌, ◌≢◌, ◌<◌, ◌≤◌, ◌⊎◌, ℕ, zero, suc, Bool, true, false, Option, Some, None, Ok, Err}
 use Rattle.sup_specs.specs.Values.{Bytes}
 use Rattle.sup_placement.specs.Place.{Weigher}
 use Rattle.sup_replica.specs.declared.done.Done.{Done}
@@ -86,3 +86,11 @@ pub record StopsExchange (weigher : Weigher) (left_name right_name : Bytes) (tim
   pub stops : StopsSending weigher right_name between_left between_right r left' right'
       ⊎ ((there : Bool) × (mid_left : KeptStation) × (mid_right : KeptStation)
       × SendsLetter weigher right_name between_left between_right there mid_left mid_right × StopsSending weigher left_name mid_right mid_left r right' left')
+
+-- of two keepers, where this is how often one has failed: one of them failed since
+abbrev pub CountsFailure : {K : Type 0} → (K → ℕ) → (left right left' right' : K) → Type 0
+CountsFailure failures left right left' right' = (failures left < failures left') ⊎ (failures right < failures right')
+
+-- neither did
+abbrev pub CountsNone : {K : Type 0} → (K → ℕ) → (left right left' right' : K) → Type 0
+CountsNone failures left right left' right' = (failures left' ≡ failures left) × (failures right' ≡ failures right)

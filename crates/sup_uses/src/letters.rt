@@ -1,7 +1,8 @@
 //! Two stations that exchange letters by hand.
-ghost use Rattle.std.specs.Prelude.{◌≡◌, true, IfErr, IfOk};
-ghost use Rattle.sup_station.specs.KeptStations.{kept_station_of};
-ghost use Rattle.sup_uses.specs.Letters.{BringsLetter, IsUpToDate, MakesExchange, SendsLetter, StopsExchange, StopsLetter, StopsSending};
+ghost use Rattle.std.specs.Prelude.{◌≡◌, ◌<◌, true, Err, IfErr, IfOk, OnOk};
+ghost use Rattle.sup_replica.specs.declared.refusal.Refusal.TheVariants.{KeepFailed};
+ghost use Rattle.sup_station.specs.KeptStations.{keeper_of, kept_station_of};
+ghost use Rattle.sup_uses.specs.Letters.{BringsLetter, CountsFailure, CountsNone, IsUpToDate, MakesExchange, SendsLetter, StopsExchange, StopsLetter, StopsSending};
 
 use sup_keeper::Keeper;
 use sup_placement::Weigh;
@@ -14,7 +15,8 @@ use sup_station::Station;
 ///
 /// # Errors
 ///
-/// As the first act that is refused, but for a ship that has nothing to bring. A part may be done then.
+/// As the first act that is refused, but for a ship that has nothing to bring. A part may be done then. `KeepFailed` comes only where one
+/// of the two keepers counted a failure, and none does where nothing is refused.
 pub fn exchange<K: Keeper, W: Weigh>(
     left: &mut Station<K, W>,
     left_name: NodeName,
@@ -29,6 +31,8 @@ pub fn exchange<K: Keeper, W: Weigh>(
         (kept_station_of K.kept left.old) (kept_station_of K.kept right.old) (kept_station_of K.kept left.new) (kept_station_of K.kept right.new)) }
     ensures stopped { IfErr result (λ r. StopsExchange W.weight_of left_name right_name times r
         (kept_station_of K.kept left.old) (kept_station_of K.kept right.old) (kept_station_of K.kept left.new) (kept_station_of K.kept right.new)) }
+    ensures rose { result ≡ Err KeepFailed → CountsFailure K.failures (keeper_of left.old) (keeper_of right.old) (keeper_of left.new) (keeper_of right.new) }
+    ensures uncounted { OnOk result (CountsNone K.failures (keeper_of left.old) (keeper_of right.old) (keeper_of left.new) (keeper_of right.new)) }
 {
     for _ in 0..times {
         let there = send(left, right, right_name, weigher)?;
@@ -51,6 +55,8 @@ fn send<K: Keeper, W: Weigh>(
         (kept_station_of K.kept from.new) (kept_station_of K.kept to.new)) }
     ensures stops { IfErr result (λ r. StopsSending W.weight_of receiver (kept_station_of K.kept from.old) (kept_station_of K.kept to.old) r
         (kept_station_of K.kept from.new) (kept_station_of K.kept to.new)) }
+    ensures rose { result ≡ Err KeepFailed → CountsFailure K.failures (keeper_of from.old) (keeper_of to.old) (keeper_of from.new) (keeper_of to.new) }
+    ensures uncounted { OnOk result (CountsNone K.failures (keeper_of from.old) (keeper_of to.old) (keeper_of from.new) (keeper_of to.new)) }
 {
     match from.step(Act::Event(Event::Ship(receiver)), 0, weigher) {
         Ok(done) => {
@@ -71,6 +77,8 @@ fn bring<K: Keeper, W: Weigh>(
 ) -> Result<Option<Letter>, Refusal>
     ensures brings { IfOk result (λ answer. BringsLetter W.weight_of letter (kept_station_of K.kept to.old) answer (kept_station_of K.kept to.new)) }
     ensures stops { IfErr result (λ r. StopsLetter W.weight_of letter (kept_station_of K.kept to.old) r (kept_station_of K.kept to.new)) }
+    ensures rose { result ≡ Err KeepFailed → K.failures (keeper_of to.old) < K.failures (keeper_of to.new) }
+    ensures uncounted { OnOk result (K.failures (keeper_of to.new) ≡ K.failures (keeper_of to.old)) }
 {
     let Some(letter) = letter else {
         return Ok(None);

@@ -1,4 +1,4 @@
-use Rattle.std.proofs.Common.{arith, refl, inl, inr}
+use Rattle.std.proofs.Common.{arith, refl, inl, inr, ◌∙◌}
 use native.Mathlib.Numerals.{unary_clauses}
 use Rattle.sup_station.specs.KeptStations.{kept_station_of}
 use Rattle.sup_uses.specs.Letters.{StopsExchange}
@@ -6,23 +6,28 @@ use Rattle.sup_uses.proofs.ActLaws.{stopped_by}
 use Rattle.sup_uses.proofs.letters.exchange.Goals as goal
 
 pub loop-init : goal.loop-init
-loop-init g c = (refl, refl)
+loop-init g c = ((refl, refl), (refl, refl))
 
 pub loop-preserved : goal.loop-preserved
 loop-preserved g c =
-    let kept = kept_station_of g.K.Keeper.kept in simp unary_clauses (
-      kept c.loop.left,
-      kept c.loop.right,
-      c.loop.invariant,
-      record {
-        between_left = kept c.send.new.from;
-        between_right = kept c.send.new.to;
-        there = c.in_ok-there.there;
-        back = c.in_ok-back.back;
-        left_sends = c.in_ok-there.ensures.sends;
-        right_sends = c.in_ok-back.ensures.sends;
-        some = elim c.else-not-there.either [ inl p ↦ inr p.1 | inr q ↦ inl q ];
-      },
+    let kept = kept_station_of g.K.Keeper.kept in
+    let there = c.in_ok-there.ensures.uncounted in
+    let back = c.in_ok-back.ensures.uncounted in (
+      simp unary_clauses (
+        kept c.loop.left,
+        kept c.loop.right,
+        c.loop.invariant.0,
+        record {
+          between_left = kept c.send.new.from;
+          between_right = kept c.send.new.to;
+          there = c.in_ok-there.there;
+          back = c.in_ok-back.back;
+          left_sends = c.in_ok-there.ensures.sends;
+          right_sends = c.in_ok-back.ensures.sends;
+          some = elim c.else-not-there.either [ inl p ↦ inr p.1 | inr q ↦ inl q ];
+        },
+      ),
+      (back.1 ∙ (there.0 ∙ c.loop.invariant.1.0), back.0 ∙ (there.1 ∙ c.loop.invariant.1.1)),
     )
 
 pub returns-in_err-there-clause-stopped : goal.returns-in_err-there-clause-stopped
@@ -35,7 +40,7 @@ returns-in_err-there-clause-stopped g c =
       fewer = omega arith;
       between_left = kept c.loop.left;
       between_right = kept c.loop.right;
-      made = c.loop.invariant;
+      made = c.loop.invariant.0;
       stops = inl c.in_err-there.ensures.stops;
     })
 
@@ -49,6 +54,6 @@ returns-in_err-back-clause-stopped g c =
       fewer = omega arith;
       between_left = kept c.loop.left;
       between_right = kept c.loop.right;
-      made = c.loop.invariant;
+      made = c.loop.invariant.0;
       stops = inr (c.in_ok-there.there, kept c.send.new.from, kept c.send.new.to, c.in_ok-there.ensures.sends, c.in_err-back.ensures.stops);
     })
