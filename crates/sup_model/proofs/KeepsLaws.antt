@@ -39,7 +39,8 @@ use Rattle.sup_model.specs.declared.step.Step.{Step}
 use Rattle.sup_model.specs.declared.step.Step.TheVariants.{Node as AtNode, Deliver as Delivery, Raw}
 use Rattle.sup_model.specs.Runs.{world_after, ModelAllows, ModelRun}
 use mathlib.Core.Logic.{inl, inr}
-use Rattle.sup_model.specs.Headline.{KeepsExactly}
+use Rattle.sup_model.specs.Headline.{KeepsAdded, KeepsExactly}
+use Rattle.sup_model.proofs.KeptRowLaws.{added_stays, kept_added, left_added, renewed_added, wants_added}
 use Rattle.sup_model.proofs.OnceLaws.{IsOnce, once_none, once_left, once_renewed}
 use Rattle.sup_replica.proofs.WantedLaws.{wanted_rises}
 use Rattle.sup_model.proofs.Afters.{After, after-refused_if, after-then_do, after-or_refused}
@@ -52,11 +53,12 @@ abbrev pub GoodOutcome : Weigher → ActOutcome Ops → Type 0
 GoodOutcome s o = Good s o.node
 
 -- a node that has just looked at its tables is good
-pub reconciled_good : (s : Weigher) (n : Node Ops) → (n.up ≡ true → IsOnce n.supervisor.kept) → Good s (reconciled by_operations s n)
-reconciled_good s n once up = record {
+pub reconciled_good : (s : Weigher) (n : Node Ops) → (n.up ≡ true → IsOnce n.supervisor.kept) → (n.up ≡ true → KeepsAdded n.known n.supervisor.kept) → Good s (reconciled by_operations s n)
+reconciled_good s n once added up = record {
   none_more = none_more n.supervisor.boot n.supervisor.given n.supervisor.kept (wanted by_operations s n);
   none_less = none_less n.supervisor.boot n.supervisor.given n.supervisor.kept (wanted by_operations s n);
   once = kept_once n.supervisor.boot n.supervisor.given n.supervisor.kept (wanted by_operations s n) (wanted_rises s n.name (live n.known)) (once up);
+  added = kept_added n.known n.supervisor.boot n.supervisor.given n.supervisor.kept (wanted by_operations s n) (added up) (wants_added s n.name n.known);
 }
 
 -- and so is one that has just issued
@@ -68,6 +70,7 @@ issues_good s n reply leaving own good up =
       none_more = none_more v.boot v.given v.kept ws;
       none_less = none_less v.boot v.given v.kept ws;
       once = kept_once v.boot v.given v.kept ws (wanted_rises s n.name (live (n.known ++ own))) (once_left n.supervisor.kept leaving (good up).once);
+      added = kept_added (n.known ++ own) v.boot v.given v.kept ws (added_stays n.known own v.kept (left_added n.known n.supervisor.kept leaving (good up).added)) (wants_added s n.name (n.known ++ own));
     }
 
 command_good : (s : Weigher) (n : Node Ops) (issued : Result Operation Refusal) (reply : Operation → Reply) → Good s n → After (GoodOutcome s) (command by_operations s n issued reply)
@@ -79,7 +82,7 @@ pub renewed_good : (s : Weigher) (n : Node Ops) (id : Bytes) (now : ℕ) → Goo
 renewed_good s n id now good up =
     let g = good up in
     let ws = wanted by_operations s n in
-    record { none_more = again_wanted n.supervisor id ws ∙ g.none_more; none_less = again_kept n.supervisor id ws ∙ g.none_less; once = once_renewed n.supervisor id g.once }
+    record { none_more = again_wanted n.supervisor id ws ∙ g.none_more; none_less = again_kept n.supervisor id ws ∙ g.none_less; once = once_renewed n.supervisor id g.once; added = renewed_added n.known n.supervisor id g.added }
 
 exit_good : (s : Weigher) (n : Node Ops) (id : Bytes) (now : ℕ) (r : Ruling) → Good s n → After (GoodOutcome s) (exit_step by_operations s n id now r)
 exit_good s n id now Stale good = tt
@@ -114,7 +117,7 @@ act_good s n Stop now good =
     after-refused_if (GoodOutcome s) (not n.up) Down ok (λ up. absurd (true≢false (sym up)))
 act_good s n Restart now good =
     let ok : Result (ActOutcome Ops) Refusal = Ok (keeps by_operations s (booted n) (Boot (n.supervisor.boot + 1)) None) in
-    after-refused_if (GoodOutcome s) n.up AlreadyUp ok (reconciled_good s (booted n) (λ _. once_none))
+    after-refused_if (GoodOutcome s) n.up AlreadyUp ok (reconciled_good s (booted n) (λ _. once_none) (λ _. tt))
 
 -- what is covered leaves what is wanted
 known_good : (s : Weigher) (n : Node Ops) (more : Ops) → covers n.known more ≡ true → Good s n → Good s (record n { known = n.known ++ more })
@@ -122,11 +125,12 @@ known_good s n more e good up =
     let g = good up in
     let P = λ (rows : List Row). (list_all (is_wanted (wanted_at s n.name rows)) n.supervisor.kept ≡ true) × (list_all (is_kept n.supervisor.kept) (wanted_at s n.name rows) ≡ true) in
     let h : P (live (n.known ++ more)) = subst P (sym (covers-live n.known more e)) (g.none_more, g.none_less) in
-    record { none_more = h.0; none_less = h.1; once = g.once }
+    record { none_more = h.0; none_less = h.1; once = g.once; added = added_stays n.known more n.supervisor.kept g.added }
 
 absorbs_good : (s : Weigher) (n : Node Ops) (more : Ops) (letter : Option (Message Ops)) (b : Bool) → covers n.known more ≡ b → Good s n → Good s (absorbs by_operations s n more letter b).node
 absorbs_good s n more letter true e good = known_good s n more e good
-absorbs_good s n more letter false e good = reconciled_good s (record n { known = n.known ++ more; count = n.count + 1 }) (λ up. (good up).once)
+absorbs_good s n more letter false e good =
+    reconciled_good s (record n { known = n.known ++ more; count = n.count + 1 }) (λ up. (good up).once) (λ up. added_stays n.known more n.supervisor.kept (good up).added)
 
 takes_good : (s : Weigher) (n : Node Ops) (from : Bytes) (kind : Kind) (more : Ops) → Good s n → Good s (takes by_operations s n from kind more).node
 takes_good s n from ack more good = good
@@ -219,7 +223,7 @@ run_good w (s ∷ steps) [] w' run good = absurd run
 
 pub new_good : (setting : WorldSetting) (is_message : Bytes → Bool) (names : List Bytes) → GoodWorld (new setting is_message names)
 new_good setting is_message [] = tt
-new_good setting is_message (name ∷ names) = (λ up. record { none_more = refl; none_less = refl; once = once_none }, new_good setting is_message names)
+new_good setting is_message (name ∷ names) = (λ up. record { none_more = refl; none_less = refl; once = once_none; added = tt }, new_good setting is_message names)
 
 pub each-of : {X : Type 0} (P : X → Type 0) (xs : List X) → AllByRecursion P xs → (x : X) → Contains xs x → P x
 each-of P xs h x c = subst P c.2 (each-Contains P xs h c.0 x c.1)

@@ -2,6 +2,7 @@ pub mod Afters
 pub mod HeadlineLaws
 pub mod TopLaws
 pub mod OnceLaws
+mod KeptRowLaws
 pub mod KeepsLaws
 pub mod EffectLaws
 pub mod StartLaws

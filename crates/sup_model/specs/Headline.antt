@@ -1,6 +1,6 @@
 -- The main theorem, said of the model world (this project).
 use Rattle.std.specs.Prelude.{◌≡◌, ◌≢◌, Bool, true, false, List, [], map, Contains, AllPairs, Result}
-use Rattle.std.specs.List.{list_all, IsDistinct}
+use Rattle.std.specs.List.{AllByRecursion, list_all, IsDistinct}
 use Rattle.std.specs.Map.{keys_of}
 use Rattle.std.specs.Str.{bytes_eq}
 use Rattle.sup_specs.specs.Values.{Bytes}
@@ -10,13 +10,15 @@ use Rattle.sup_tables.specs.Rows.{table_of, key_of}
 use Rattle.sup_tables.specs.States.{State}
 use Rattle.sup_tables.specs.Operations.{known, named, added, live, SameOperations}
 use Rattle.sup_tables.specs.Readers.{eligible, entries}
+use Rattle.sup_tables.specs.Stored.{child_row}
 use Rattle.sup_placement.specs.Place.{Weigher, place}
-use Rattle.sup_local_sup.specs.Keeping.{is_wanted, is_kept}
+use Rattle.sup_local_sup.specs.Keeping.{KeptChild, is_wanted, is_kept}
 use Rattle.sup_replica.specs.declared.refusal.Refusal.{Refusal}
 use Rattle.sup_replica.specs.ByTables.{by_tables}
 use Rattle.sup_replica.specs.Nodes.{Node, by_operations}
 use Rattle.sup_replica.specs.Steps.{wanted}
 use Rattle.sup_model.specs.declared.step.Step.{Step}
+use Rattle.sup_model.specs.Clean.{HasRow}
 use Rattle.sup_model.specs.Follows.{WorldStandsFor}
 use Rattle.sup_model.specs.Posts.{RealWorld}
 use Rattle.sup_model.specs.Refines.{WorldStands}
@@ -35,11 +37,20 @@ pub record NodesAgree (weigher : Weigher) (a b : Node Ops) : Type 0 where
 abbrev pub AddsStay : Node Ops → Type 0
 AddsStay n = (r : Row) → Contains (added n.known) r → named n.known r.dot ≡ false → Contains (entries (live n.known) (table_of r.entry) (key_of r.entry)) r
 
--- an up node keeps exactly the children placed on it, each once
+-- the row that adds a kept child
+abbrev pub kept_row : KeptChild → Row
+kept_row k = child_row k.0 k.1.dot k.1.spec
+
+-- each kept child has the specification that it was added with, under its dot
+abbrev pub KeepsAdded : Ops → List KeptChild → Type 0
+KeepsAdded ops = AllByRecursion (λ (k : KeptChild). HasRow ops (kept_row k))
+
+-- an up node keeps exactly the children placed on it, each once and as it was added
 pub record KeepsExactly (s : Weigher) (n : Node Ops) : Type 0 where
   pub none_more : list_all (is_wanted (wanted by_operations s n)) n.supervisor.kept ≡ true
   pub none_less : list_all (is_kept n.supervisor.kept) (wanted by_operations s n) ≡ true
   pub once : IsDistinct bytes_eq (keys_of n.supervisor.kept)
+  pub added : KeepsAdded n.known n.supervisor.kept
 
 -- what holds of the world that these steps, answered so, lead to from a new one; its nodes issued these operations
 pub record Headline (steps : List Step) (answers : List (Result ModelAnswer Refusal)) (w : ModelWorld) (issued : Ops) : Type 0 where
