@@ -39,6 +39,9 @@ module _ (g : Weigher) where
       record {
         order = r.order;
         keeps = r.keeps;
+        start = r.start;
+        is_new = r.is_new;
+        is_run = r.is_run;
         told = a.told;
         said = a.said;
         reached = leads_on g r.start sites steps a.told a.ran config names is_message [] [] (reached_new g config names is_message r.start (r.is_new.stands is_message) r.is_new.unfailed) (omega (arith, le)) k;
