@@ -22,7 +22,7 @@ module _ {S V K : Type 0} (seen : S → V) (answers : Answers V) (shows : Shows 
 
   follows : (s t : S) (turns : List (Turn K)) → Follows by beside ends s turns t → Follows answers shows over (seen s) turns (seen t)
   follows s t [] e = ap seen e
-  follows s t (turn ∷ turns) h = (h.0, seen h.1, h.2, h.3, follows h.1 t turns h.4)
+  follows s t (turn ∷ turns) h = (h.0, h.1, seen h.2, h.3, h.4, follows h.2 t turns h.5)
 
   cut : (s t : S) (a b : Seen K) (fault : TalkFault) → IsCut by beside without most s t a b fault → IsCut answers shows lacks most (seen s) (seen t) a b fault
   cut s t a b Device (inl h) = inl (ap seen h.0, h.1, h.2)

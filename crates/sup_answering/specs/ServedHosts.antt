@@ -16,7 +16,7 @@ pub record StandsBehind {K : Type 0} (kept : K → Bytes) (failures : K → ℕ)
   pub is_lost : lost keeper ≡ node.lost
 
 -- Lines are heard and answered one after another, each by the node's answer, as long as it knows what outlives it and has memory. With each
--- answer the host is shown a keeper that the node behind that answer may show.
+-- answer, and while its next line is awaited, the host is shown a keeper that the node behind the last answer may show.
 abbrev pub TalksWith : {K : Type 0} → Weigher → Shows AnsweringNode K → ℕ → AnsweringNode → AnsweringNode → Seen K → Seen K → Result TalkEnd TalkFault → Type 0
 TalksWith weigher shows most s t before after end =
     TalksFor {S = AnsweringNode} (λ a heard text b. AnswersLine weigher a heard text b) shows (λ a heard b. LacksLine weigher a heard b) (λ k. k.lost) most s t before after end

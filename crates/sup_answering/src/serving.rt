@@ -12,7 +12,7 @@ use sup_talk::{Answerer, Host, LINE_LIMIT, TalkEnd, TalkFault, talk};
 
 /// Tells the first answer unasked, and then answers each line of the host before the next is heard, until the host says no more, or the
 /// node doesn't know any more what outlives it. With each answer the host is shown the node's keeper, by which what the answer tells is kept
-/// already.
+/// already, and once more while its next line is awaited.
 ///
 /// # Errors
 ///

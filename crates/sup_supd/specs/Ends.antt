@@ -102,8 +102,8 @@ pub record StaysUnbegun (weigher : Weigher) (is_new readable : Bool) (name : Byt
 abbrev pub Backs : {K : Type 0} → (K → KeeperSeen) → AnsweringNode → K → Type 0
 Backs seen node keeper = StandsBehind (λ k. (seen k).kept) (λ k. (seen k).failures) (λ k. (seen k).lost) node keeper
 
--- The node began, and served its host until this end. With each text that the host was told, the first too, it was shown the keeper, which
--- stood behind the node as the text left it; and the station that is left is the node's at its end, with the keeper behind that.
+-- The node began, and served its host until this end. With each text that the host was told, the first too, and while its next line was
+-- awaited, it was shown the keeper, which stood behind the node as the last text left it; and the station that is left is the node's at its end, with the keeper behind that.
 pub record ServedUntil {K : Type 0} (weigher : Weigher) (seen : K → KeeperSeen) (most : ℕ) (is_new : Bool) (name : Bytes) (config : Config) (keeper : K) (station : KeptStation) (left : K) (before after : Seen K) (end : Result TalkEnd TalkFault) : Type 0 where
   pub first : List ℕ
   pub begun : AnsweringNode

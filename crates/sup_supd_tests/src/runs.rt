@@ -208,6 +208,7 @@ fn noted<'a, D: Disk>(rt: &(impl Abort + AllocGlobal), disk: D, lines: &'a [u8])
         lines,
         questions: Questions::at_most(u64::MAX),
         notes: Vec::new(alloc),
+        awaited: Vec::new(alloc),
         is_short: false,
     };
     let _ = run_filed(
@@ -249,6 +250,21 @@ fn what_a_host_is_told_is_kept_by_then(rt: HostRuntime) {
             expect_image(&rt, refused, at_refusal);
         }
         _ => rt.panic("six answers"),
+    }
+}
+
+#[test]
+fn what_was_told_is_kept_while_the_next_line_is_awaited(rt: HostRuntime) {
+    let disk = LaterDisk {
+        holds: 2,
+        fails_late: false,
+    };
+    let host = noted(&rt, disk, b"join\nstart web\nmembers\n");
+    assert!(rt; !host.is_short);
+    assert_eq!(rt; host.awaited.len(), 4);
+    assert_eq!(rt; host.notes.len(), 4);
+    for (awaited, note) in host.awaited.iter().zip(&host.notes) {
+        assert_eq!(rt; awaited.as_slice(), note.kept.as_slice());
     }
 }
 

@@ -9,6 +9,7 @@ use Rattle.sup_talk.specs.declared.line.LineFault.TheVariants.{Device, OutOfMemo
 
 -- what happens between an answerer and its host
 pub data Event (K : Type 0) : Type 0 where
+  Awaited : K → Event K  -- the host's next line was awaited, and the keeper as it was then
   Heard : Option (List ℕ) → Event K  -- a line of the host, or that there was one too long
   Silent : Event K  -- the host said no more
   Told : List ℕ → K → Event K  -- what the host was told, a text or a front of one, and the keeper as it was then
@@ -42,14 +43,14 @@ pub record Exchanges {K : Type 0} (before after : Seen K) (taken said : List ℕ
   pub appends : Appends before.written after.written said
   pub passes : Passes before.past after.past events
 
--- A line was heard, of so many bytes at most; or a longer one; or the host says no more, but for a line that it didn't end.
--- A fault took a front of a line.
-abbrev pub Hears : {K : Type 0} → ℕ → Result Taken LineFault → Seen K → Seen K → Type 0
-Hears most (Ok (Line line)) before after = (length line.items ≤ most) × IsUnbroken line.items × Exchanges before after (line.items ++ (10 ∷ [])) [] (Heard (Some line.items) ∷ [])
-Hears most (Ok TooLong) before after = (line : List ℕ) × (most < length line) × IsUnbroken line × Exchanges before after (line ++ (10 ∷ [])) [] (Heard None ∷ [])
-Hears most (Ok End) before after = (rest : List ℕ) × IsUnbroken rest × Exchanges before after rest [] (Silent ∷ []) × IsAtEnd after.unread
-Hears most (Err Device) before after = (front : List ℕ) × IsUnbroken front × Exchanges before after front [] [] × (after.is_broken ≡ true)
-Hears most (Err OutOfMemory) before after = (front : List ℕ) × IsUnbroken front × Exchanges before after front [] []
+-- The host was awaited, and was shown the keeper. A line was heard, of so many bytes at most; or a longer one; or the host says no more, but
+-- for a line that it didn't end. A fault took a front of a line.
+abbrev pub Hears : {K : Type 0} → ℕ → Result Taken LineFault → Seen K → Seen K → K → Type 0
+Hears most (Ok (Line line)) before after keeper = (length line.items ≤ most) × IsUnbroken line.items × Exchanges before after (line.items ++ (10 ∷ [])) [] (Awaited keeper ∷ Heard (Some line.items) ∷ [])
+Hears most (Ok TooLong) before after keeper = (line : List ℕ) × (most < length line) × IsUnbroken line × Exchanges before after (line ++ (10 ∷ [])) [] (Awaited keeper ∷ Heard None ∷ [])
+Hears most (Ok End) before after keeper = (rest : List ℕ) × IsUnbroken rest × Exchanges before after rest [] (Awaited keeper ∷ Silent ∷ []) × IsAtEnd after.unread
+Hears most (Err Device) before after keeper = (front : List ℕ) × IsUnbroken front × Exchanges before after front [] (Awaited keeper ∷ []) × (after.is_broken ≡ true)
+Hears most (Err OutOfMemory) before after keeper = (front : List ℕ) × IsUnbroken front × Exchanges before after front [] (Awaited keeper ∷ [])
 
 -- The host was told a front of the text, and not all of it, and was shown the keeper.
 abbrev pub IsToldShort : {K : Type 0} → Seen K → Seen K → List ℕ → K → Type 0

@@ -13,7 +13,7 @@ pub trait Host<K> {
     // What is known of it.
     ghost seen: { Self → Seen K };
 
-    /// Hears its next line.
+    /// Hears its next line, and shows it the keeper as it is while it's awaited.
     ///
     /// # Errors
     ///
@@ -21,8 +21,8 @@ pub trait Host<K> {
     /// - `LineFault::OutOfMemory`.
     ///
     /// A front of a line may be gone then.
-    fn hear(&mut self, alloc: Global) -> Result<Taken, LineFault>
-        ensures { Hears LINE_LIMIT result (seen self.old) (seen self.new) };
+    fn hear(&mut self, alloc: Global, keeper: &K) -> Result<Taken, LineFault>
+        ensures { Hears LINE_LIMIT result (seen self.old) (seen self.new) keeper.now };
 
     /// Tells it a text, and shows it the keeper as it is then.
     ///

@@ -57,8 +57,8 @@ impl<R: Read + Drop, W: Write + Drop> Streams<R, W> {
 impl<K, R: Read + Drop, W: Write + Drop> Host<K> for Streams<R, W> {
     ghost seen = { λ s. seen_of s };
 
-    fn hear(&mut self, alloc: Global) -> Result<Taken, LineFault>
-        ensures heard { Hears {K = K} LINE_LIMIT result (seen_of self.old) (seen_of self.new) }
+    fn hear(&mut self, alloc: Global, _keeper: &K) -> Result<Taken, LineFault>
+        ensures heard { Hears LINE_LIMIT result (seen_of self.old) (seen_of self.new) _keeper.now }
         ensures broken { self.old.is_broken ≡ true → self.new.is_broken ≡ true }
     {
         take_line(alloc, &mut self.reader, &mut self.questions)

@@ -64,7 +64,7 @@ pub trait Answerer<K> {
 }
 
 /// Answers each line of the host before the next is heard, until the host says no more, the answerer is over, or `u64::MAX` lines were
-/// answered. With each answer the host is shown the keeper as the answer left it. A line that no line feed ended is none.
+/// answered. With each answer, and while it's awaited, the host is shown the keeper as the last answer left it. A line that no line feed ended is none.
 ///
 /// # Errors
 ///
@@ -115,9 +115,9 @@ fn reply<K, T: Answerer<K>, H: Host<K>>(
     answerer: &mut T,
     host: &mut H,
 ) -> Result<Option<Vec<u8>>, TalkFault>
-    ensures { Replies T.answers T.lacks LINE_LIMIT answerer.old answerer.new (H.seen host.old) (H.seen host.new) result }
+    ensures { Replies T.answers T.shows T.lacks LINE_LIMIT answerer.old answerer.new (H.seen host.old) (H.seen host.new) result }
 {
-    match host.hear(alloc) {
+    match host.hear(alloc, answerer.keeper()) {
         Ok(Taken::Line(line)) => match answerer.answer(Some(line.as_slice())) {
             Ok(text) => Ok(Some(text)),
             Err(_) => Err(TalkFault::OutOfMemory),

@@ -12,12 +12,12 @@ abbrev unknown : {K : Type 0} → Seen K
 unknown = record { unread = None; written = None; past = None; is_broken = true }
 
 -- it has heard what was taken
-heard : (K : Type 0) (most : ℕ) (result : Result Taken LineFault) (before after : Option (List ℕ)) → TakesLine most result before after → Hears {K = K} most result unknown unknown
-heard K most (Ok (Line line)) before after taken = (taken.0, taken.1, record { consumes = tt; appends = tt; passes = tt })
-heard K most (Ok TooLong) before after taken = (taken.0, taken.1, taken.2, record { consumes = tt; appends = tt; passes = tt })
-heard K most (Ok End) before after taken = (taken.0, taken.1, record { consumes = tt; appends = tt; passes = tt }, tt)
-heard K most (Err Device) before after taken = (taken.0, taken.1, record { consumes = tt; appends = tt; passes = tt }, refl)
-heard K most (Err OutOfMemory) before after taken = (taken.0, taken.1, record { consumes = tt; appends = tt; passes = tt })
+heard : (K : Type 0) (most : ℕ) (result : Result Taken LineFault) (before after : Option (List ℕ)) (keeper : K) → TakesLine most result before after → Hears most result unknown unknown keeper
+heard K most (Ok (Line line)) before after keeper taken = (taken.0, taken.1, record { consumes = tt; appends = tt; passes = tt })
+heard K most (Ok TooLong) before after keeper taken = (taken.0, taken.1, taken.2, record { consumes = tt; appends = tt; passes = tt })
+heard K most (Ok End) before after keeper taken = (taken.0, taken.1, record { consumes = tt; appends = tt; passes = tt }, tt)
+heard K most (Err Device) before after keeper taken = (taken.0, taken.1, record { consumes = tt; appends = tt; passes = tt }, refl)
+heard K most (Err OutOfMemory) before after keeper taken = (taken.0, taken.1, record { consumes = tt; appends = tt; passes = tt })
 
 pub returns : goal.returns
-returns g c = heard _ 67108864 c.take_line.result _ _ c.take_line.ensures.taken
+returns g c = heard _ 67108864 c.take_line.result _ _ c.args.keeper.now c.take_line.ensures.taken
