@@ -1,8 +1,7 @@
 -- The headline, of its parts.
 use Rattle.std.specs.Prelude.{◌≡◌, []}
-use Rattle.std.specs.Map.{keys_of}
 use Rattle.sup_model.specs.Headline.{MainTheorem}
-use Rattle.sup_model.specs.Starts.{started_at}
+use Rattle.sup_model.specs.Starts.{runs_of, started_at}
 use Rattle.sup_model.specs.Worlds.{ModelSite, new}
 use Rattle.sup_model.proofs.FollowLaws.{worlds_stand}
 use Rattle.sup_model.proofs.HeadlineLaws.{agree, stays}
@@ -19,6 +18,6 @@ main setting is_message names steps answers w run =
       agree = λ a b _ _ same. agree w.weigher a.node b.node same;
       stays = λ a _. stays a.node;
       keeps = λ a c. each-of (λ (s : ModelSite). Good w.weigher s.node) w.sites good a c;
-      starts = λ a c. each-of (λ (s : ModelSite). keys_of s.node.supervisor.kept ≡ started_at s.node.name [] steps answers) w.sites (starts setting is_message names steps answers w run fresh) a c;
+      starts = λ a c. each-of (λ (s : ModelSite). runs_of s.node.supervisor.kept ≡ started_at s.node.name [] steps answers) w.sites (starts setting is_message names steps answers w run fresh) a c;
       once = no_dot_twice setting is_message names steps answers w run;
     }

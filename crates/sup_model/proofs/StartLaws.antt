@@ -1,7 +1,7 @@
--- What the effects of answers leave started is what is kept, in its order: over nodes, worlds and runs.
+-- What the effects of answers leave running is what is kept, in its order: over nodes, worlds and runs.
 use Rattle.std.specs.Prelude.{◌≡◌, ℕ, ◌+◌, ◌==◌, Bool, true, false, not, List, [], ◌∷◌, ◌++◌, map, reverse, Option, Some, None, Result, Ok, Err, refl, if◌then◌else◌, unwrap_or}
 use Rattle.std.specs.List.{AllByRecursion}
-use Rattle.std.specs.Map.{keys_of, lookup}
+use Rattle.std.specs.Map.{lookup}
 use Rattle.std.specs.Str.{bytes_eq}
 use Rattle.std.specs.Cmp.{tied_itself}
 use Rattle.std.specs.Ordering.{is_eq}
@@ -9,6 +9,7 @@ use Rattle.std.proofs.Common.{sym, ap, ◌∙◌, subst}
 use Rattle.std.proofs.lemmas.Cmp.{eq_by_cmp_equiv}
 use mathlib.Core.Logic.{inl, inr}
 use Rattle.sup_specs.specs.Values.{Bytes}
+use Rattle.sup_specs.specs.declared.child.ExitReason.{ExitReason}
 use Rattle.sup_specs.specs.OrderLaws.{text_total}
 use Rattle.sup_tables.specs.Operations.{Operation, live, covers}
 use Rattle.sup_tables.specs.Makers.{drop_member, finish_child}
@@ -17,8 +18,9 @@ use Rattle.sup_local_sup.specs.declared.leaving.Ruling.{Ruling}
 use Rattle.sup_local_sup.specs.declared.leaving.Ruling.TheVariants.{Stale, Restart as Again, Finish, GiveUp}
 use Rattle.sup_local_sup.specs.declared.effect.Incarnation.{Incarnation}
 use Rattle.sup_local_sup.specs.Keeping.{stop}
-use Rattle.sup_local_sup.specs.Planning.{left, ruling}
-use Rattle.sup_local_sup.specs.Supervising.{others, wanted_effects}
+use Rattle.sup_local_sup.specs.declared.kept.Entry.{Entry}
+use Rattle.sup_local_sup.specs.Planning.{left, ruling, ruling_of}
+use Rattle.sup_local_sup.specs.Supervising.{Supervisor, kept_run, others, wanted_effects}
 use Rattle.sup_placement.specs.Place.{Weigher}
 use Rattle.sup_replica.specs.declared.event.Event.{Event}
 use Rattle.sup_replica.specs.declared.event.Event.TheVariants.{Join, Leave, Drain, Start, Replace, Delete, Register, Unregister, Exit, Ship, Push, Deliver}
@@ -35,27 +37,27 @@ use Rattle.sup_replica.specs.Steps.{wanted, command, exit_step, up_step, with_ow
 use Rattle.sup_model.specs.declared.step.Step.{Step}
 use Rattle.sup_model.specs.declared.step.Step.TheVariants.{Node as AtNode, Deliver as Delivery, Raw}
 use Rattle.sup_model.specs.Runs.{world_after, answer_of, ModelAllows, ModelRun}
-use Rattle.sup_model.specs.Starts.{left_by, started_by, started_with, started_at, without}
+use Rattle.sup_model.specs.Starts.{Run, left_by, runs_of, started_by, started_with, started_at, without}
 use Rattle.sup_model.specs.Worlds.{WorldSetting, Ops, ModelWorld, ModelSite, ModelAnswer, WorldStepped, site_of, message_of, or_refused, acted, target_is_here, step, new}
 use Rattle.sup_model.proofs.Afters.{After, after-refused_if, after-checked, after-then_do, after-or_refused}
 use Rattle.sup_model.proofs.CleanLaws.{kept_by_after}
-use Rattle.sup_model.proofs.EffectLaws.{all_stopped, keys_without, restart_starts, started_append, wanted_starts}
+use Rattle.sup_model.proofs.EffectLaws.{all_stopped, restart_starts, runs_without, started_append, wanted_starts}
 use Rattle.sup_model.proofs.KeepsLaws.{Good, GoodWorld, each-find, allowed_good}
 use Rattle.sup_model.proofs.OnceLaws.{IsOnce, once_left, once_none}
 use Rattle.sup_replica.proofs.WantedLaws.{wanted_rises}
 
-abbrev ids_at : Node Ops → List Bytes
-ids_at n = keys_of n.supervisor.kept
+abbrev runs_at : Node Ops → List Run
+runs_at n = runs_of n.supervisor.kept
 
 -- the effects of what a node does lead from what it kept to what it keeps; `ends` are those that no effect stops
-record Tells (ends : Reply → List Bytes → List Bytes) (n : Node Ops) (o : ActOutcome Ops) : Type 0 where
+record Tells (ends : Reply → List Run → List Run) (n : Node Ops) (o : ActOutcome Ops) : Type 0 where
   name : o.node.name ≡ n.name
-  starts : ids_at o.node ≡ started_by (ends o.done.reply (ids_at n)) o.done.effects
+  starts : runs_at o.node ≡ started_by (ends o.done.reply (runs_at n)) o.done.effects
 
-abbrev none_ends : Reply → List Bytes → List Bytes
-none_ends reply ids = ids
+abbrev none_ends : Reply → List Run → List Run
+none_ends reply runs = runs
 
-reconciles : (s : Weigher) (n : Node Ops) → IsOnce n.supervisor.kept → ids_at (reconciled by_operations s n) ≡ started_by (ids_at n) (wanted_effects n.supervisor (wanted by_operations s n))
+reconciles : (s : Weigher) (n : Node Ops) → IsOnce n.supervisor.kept → runs_at (reconciled by_operations s n) ≡ started_by (runs_at n) (wanted_effects n.supervisor (wanted by_operations s n))
 reconciles s n once = sym (wanted_starts n.supervisor.boot n.supervisor.given n.supervisor.kept (wanted by_operations s n) (wanted_rises s n.name (live n.known)) once)
 
 command_tells : (s : Weigher) (n : Node Ops) (issued : Result Operation Refusal) (reply : Operation → Reply) → IsOnce n.supervisor.kept → After (Tells none_ends n) (command by_operations s n issued reply)
@@ -63,25 +65,42 @@ command_tells s n (Ok op) reply once =
     record { name = refl; starts = sym (wanted_starts n.supervisor.boot n.supervisor.given n.supervisor.kept (wanted by_operations s (with_own by_operations n (op ∷ []))) (wanted_rises s n.name (live (n.known ++ op ∷ []))) once) }
 command_tells s n (Err r) reply once = tt
 
-finish_tells : (s : Weigher) (n : Node Ops) (id : Bytes) (inc : Incarnation) (reason : _) (now : ℕ) (r : Ruling) → IsOnce n.supervisor.kept → After (Tells (left_by (Of (Exit id inc reason))) n) (exit_step by_operations s n id now r)
-finish_tells s n id inc reason now Stale once = tt
-finish_tells s n id inc reason now Again once = record { name = refl; starts = sym (restart_starts n.supervisor id (lookup (bytes_eq id) n.supervisor.kept) refl) }
-finish_tells s n id inc reason now (Finish dot) once =
+-- an exit calls for nothing where its run isn't kept
+abbrev IsFresh : Ruling → Type 0
+IsFresh Stale = ⊥
+IsFresh Again = Unit {0}
+IsFresh (Finish dot) = Unit {0}
+IsFresh GiveUp = Unit {0}
+
+is_there : (v : Supervisor) (reason : ExitReason) (now : ℕ) (o : Option Entry) → IsFresh (ruling_of v reason now o) → (e : Entry) × (o ≡ Some e)
+is_there v reason now None fresh = absurd fresh
+is_there v reason now (Some e) fresh = (e, refl)
+
+-- a run that its exit ends is one of those that are kept
+ended : (v : Supervisor) (id : Bytes) (inc : Incarnation) (reason : ExitReason) (now : ℕ) (r : Ruling) → ruling v id inc reason now ≡ r → IsFresh r → IsOnce v.kept → without id inc (runs_of v.kept) ≡ runs_of (others v.kept id)
+ended v id inc reason now r is fresh once =
+    let kept = is_there v reason now (kept_run v id inc) (subst IsFresh (sym is) fresh) in
+    runs_without id inc v.kept kept.0 kept.1 once
+
+finish_tells : (s : Weigher) (n : Node Ops) (id : Bytes) (inc : Incarnation) (reason : ExitReason) (now : ℕ) (r : Ruling) → ruling n.supervisor id inc reason now ≡ r → IsOnce n.supervisor.kept → After (Tells (left_by (Of (Exit id inc reason))) n) (exit_step by_operations s n id now r)
+finish_tells s n id inc reason now Stale is once = tt
+finish_tells s n id inc reason now Again is once = record { name = refl; starts = sym (restart_starts n.supervisor id (lookup (bytes_eq id) n.supervisor.kept) refl) }
+finish_tells s n id inc reason now (Finish dot) is once =
     let v = left n.supervisor (finished id) in
     let ws = wanted by_operations s (with_own by_operations n (finish_child dot ∷ [])) in
     let run = wanted_starts v.boot v.given v.kept ws (wanted_rises s n.name (live (n.known ++ finish_child dot ∷ []))) (once_left n.supervisor.kept (finished id) once) in
-    record { name = refl; starts = sym (ap (λ ids. started_by ids (wanted_effects v ws)) (keys_without id n.supervisor.kept) ∙ run) }
-finish_tells s n id inc reason now GiveUp once =
+    record { name = refl; starts = sym (ap (λ runs. started_by runs (wanted_effects v ws)) (ended n.supervisor id inc reason now (Finish dot) is tt once) ∙ run) }
+finish_tells s n id inc reason now GiveUp is once =
     let op = drop_member (live n.known) n.name in
     let v = left n.supervisor (gave_up id) in
     let ws = wanted by_operations s (with_own by_operations n (op ∷ [])) in
     let rest = others n.supervisor.kept id in
     let run = wanted_starts v.boot v.given [] ws (wanted_rises s n.name (live (n.known ++ op ∷ []))) once_none in
-    let none : started_by (without id (ids_at n)) (reverse (map stop rest)) ≡ [] =
-    ap (λ ids. started_by ids (reverse (map stop rest))) (keys_without id n.supervisor.kept) ∙ all_stopped rest (once_left n.supervisor.kept (finished id) once) in
+    let none : started_by (without id inc (runs_at n)) (reverse (map stop rest)) ≡ [] =
+    ap (λ runs. started_by runs (reverse (map stop rest))) (ended n.supervisor id inc reason now GiveUp is tt once) ∙ all_stopped rest (once_left n.supervisor.kept (finished id) once) in
     record {
       name = refl;
-      starts = sym (started_append (without id (ids_at n)) (reverse (map stop rest)) (wanted_effects v ws) ∙ ap (λ ids. started_by ids (wanted_effects v ws)) none ∙ run);
+      starts = sym (started_append (without id inc (runs_at n)) (reverse (map stop rest)) (wanted_effects v ws) ∙ ap (λ runs. started_by runs (wanted_effects v ws)) none ∙ run);
     }
 
 push_tells : (n : Node Ops) (to : Bytes) (own : Option Ops) → After (Tells none_ends n) (push_step n to own)
@@ -97,7 +116,7 @@ event_tells s n (Replace id spec) now once = command_tells s n _ _ once
 event_tells s n (Delete id) now once = command_tells s n _ _ once
 event_tells s n (Register name id) now once = command_tells s n _ _ once
 event_tells s n (Unregister name) now once = command_tells s n _ _ once
-event_tells s n (Exit id inc reason) now once = finish_tells s n id inc reason now (ruling n.supervisor id inc reason now) once
+event_tells s n (Exit id inc reason) now once = finish_tells s n id inc reason now (ruling n.supervisor id inc reason now) refl once
 event_tells s n (Ship to) now once =
     let sent : Result (ActOutcome Ops) Refusal = Ok (only n Sent [] (Some (record { to = to; kind = delta; content = n.known }))) in
     after-refused_if (Tells none_ends n) (is_named to n.name) UnknownNode sent (record { name = refl; starts = refl })
@@ -137,12 +156,12 @@ deliver_tells s n from m whole good =
     (after-refused_if (Tells none_ends n) (not (is_named m.to n.name)) WrongReceiver ok (takes_tells s n from m.kind m.content (good (up_from n.up off)).once)))
 
 -- each node keeps what was told of it
-abbrev KeptWorld : (Bytes → List Bytes) → ModelWorld → Type 0
-KeptWorld ids w = AllByRecursion (λ (s : ModelSite). ids_at s.node ≡ ids s.node.name) w.sites
+abbrev KeptWorld : (Bytes → List Run) → ModelWorld → Type 0
+KeptWorld runs w = AllByRecursion (λ (s : ModelSite). runs_at s.node ≡ runs s.node.name) w.sites
 
-abbrev next_ids : (Bytes → List Bytes) → Step → Result ModelAnswer Refusal → Bytes → List Bytes
-next_ids ids step (Ok answer) name = if is_named name answer.at then started_with step answer (ids name) else ids name
-next_ids ids step (Err refusal) name = ids name
+abbrev next_runs : (Bytes → List Run) → Step → Result ModelAnswer Refusal → Bytes → List Run
+next_runs runs step (Ok answer) name = if is_named name answer.at then started_with step answer (runs name) else runs name
+next_runs runs step (Err refusal) name = runs name
 
 each-changed : {X : Type 0} (P Q : X → Type 0) (p : X → Bool) (new : X) → Q new → ((x : X) → p x ≡ false → P x → Q x) → (xs : List X) → AllByRecursion P xs → AllByRecursion Q (map (λ x. if p x then new else x) xs)
 each-changed P Q p new h other [] a = tt
@@ -152,25 +171,25 @@ each-changed P Q p new h other (x ∷ xs) a =
 named_itself : (a : Bytes) → is_named a a ≡ true
 named_itself a = ap is_eq (tied_itself text_total a)
 
-module _ (ids : Bytes → List Bytes) (w : ModelWorld) (st : Step) where
+module _ (runs : Bytes → List Run) (w : ModelWorld) (st : Step) where
   abbrev TellsStep : WorldStepped → Type 0
-  TellsStep x = KeptWorld (next_ids ids st (Ok x.answer)) x.world
+  TellsStep x = KeptWorld (next_runs runs st (Ok x.answer)) x.world
 
-  acted_tells : (site : ModelSite) (o : ActOutcome Ops) → KeptWorld ids w → ids_at site.node ≡ ids site.node.name → o.node.name ≡ site.node.name → ids_at o.node ≡ started_with st (acted w site o).answer (ids_at site.node) → TellsStep (acted w site o)
+  acted_tells : (site : ModelSite) (o : ActOutcome Ops) → KeptWorld runs w → runs_at site.node ≡ runs site.node.name → o.node.name ≡ site.node.name → runs_at o.node ≡ started_with st (acted w site o).answer (runs_at site.node) → TellsStep (acted w site o)
   acted_tells site o kept own name starts =
-      each-changed (λ (s : ModelSite). ids_at s.node ≡ ids s.node.name) (λ (s : ModelSite). ids_at s.node ≡ next_ids ids st (Ok (acted w site o).answer) s.node.name) _ _
-      (starts ∙ ap (started_with st (acted w site o).answer) (own ∙ ap ids (sym name))
-      ∙ ap (λ b. if b then started_with st (acted w site o).answer (ids o.node.name) else ids o.node.name) (sym (ap (is_named o.node.name) (sym name) ∙ named_itself o.node.name)))
-      (λ s off h. h ∙ ap (λ b. if b then started_with st (acted w site o).answer (ids s.node.name) else ids s.node.name)
+      each-changed (λ (s : ModelSite). runs_at s.node ≡ runs s.node.name) (λ (s : ModelSite). runs_at s.node ≡ next_runs runs st (Ok (acted w site o).answer) s.node.name) _ _
+      (starts ∙ ap (started_with st (acted w site o).answer) (own ∙ ap runs (sym name))
+      ∙ ap (λ b. if b then started_with st (acted w site o).answer (runs o.node.name) else runs o.node.name) (sym (ap (is_named o.node.name) (sym name) ∙ named_itself o.node.name)))
+      (λ s off h. h ∙ ap (λ b. if b then started_with st (acted w site o).answer (runs s.node.name) else runs s.node.name)
       (sym ((eq_by_cmp_equiv text_total).symm s.node.name site.node.name ∙ ap (λ a. is_named a s.node.name) (sym name) ∙ off)))
       w.sites kept
 
-both_find : (w : ModelWorld) (ids : Bytes → List Bytes) (name : Bytes) (site : ModelSite) → KeptWorld ids w → site_of w name ≡ Some site → ids_at site.node ≡ ids site.node.name
-both_find w ids name site kept e = each-find (λ (s : ModelSite). ids_at s.node ≡ ids s.node.name) (λ s. is_named name s.node.name) w.sites site kept e
+both_find : (w : ModelWorld) (runs : Bytes → List Run) (name : Bytes) (site : ModelSite) → KeptWorld runs w → site_of w name ≡ Some site → runs_at site.node ≡ runs site.node.name
+both_find w runs name site kept e = each-find (λ (s : ModelSite). runs_at s.node ≡ runs s.node.name) (λ s. is_named name s.node.name) w.sites site kept e
 
-step_tells : (ids : Bytes → List Bytes) (w : ModelWorld) (st : Step) → GoodWorld w → KeptWorld ids w → After (TellsStep ids w st) (step w st)
-step_tells ids w (AtNode at act now saves) good kept =
-    let P = TellsStep ids w (AtNode at act now saves) in
+step_tells : (runs : Bytes → List Run) (w : ModelWorld) (st : Step) → GoodWorld w → KeptWorld runs w → After (TellsStep runs w st) (step w st)
+step_tells runs w (AtNode at act now saves) good kept =
+    let P = TellsStep runs w (AtNode at act now saves) in
     let done = λ (site : ModelSite). kept_by saves (act_step by_operations w.weigher site.node act now) in
     let next = λ (site : ModelSite) (o : ActOutcome Ops). let x : Result WorldStepped Refusal = Ok (acted w site o) in x in
     let rest = λ (site : ModelSite). then_do (done site) (next site) in
@@ -179,9 +198,9 @@ step_tells ids w (AtNode at act now saves) good kept =
     (after-then_do (Tells (left_by act) site.node) P (done site) (next site)
     (kept_by_after (Tells (left_by act) site.node) saves (act_step by_operations w.weigher site.node act now)
     (act_tells w.weigher site.node act now (each-find (λ (s : ModelSite). Good w.weigher s.node) (λ s. is_named at s.node.name) w.sites site good e)))
-    (λ o h. acted_tells ids w (AtNode at act now saves) site o kept (both_find w ids at site kept e) h.name h.starts)))
-step_tells ids w (Delivery from k at drop now saves) good kept =
-    let P = TellsStep ids w (Delivery from k at drop now saves) in
+    (λ o h. acted_tells runs w (AtNode at act now saves) site o kept (both_find w runs at site kept e) h.name h.starts)))
+step_tells runs w (Delivery from k at drop now saves) good kept =
+    let P = TellsStep runs w (Delivery from k at drop now saves) in
     let arrives = λ (m : Message Ops) (receiver : ModelSite). deliver by_operations w.weigher receiver.node from m (drop == 0) in
     let next = λ (receiver : ModelSite) (o : ActOutcome Ops). let x : Result WorldStepped Refusal = Ok (acted w receiver o) in x in
     let at_receiver = λ (m : Message Ops) (receiver : ModelSite). then_do (kept_by saves (arrives m receiver)) (next receiver) in
@@ -193,51 +212,51 @@ step_tells ids w (Delivery from k at drop now saves) good kept =
     after-then_do (Tells none_ends receiver.node) P (kept_by saves (arrives m receiver)) (next receiver)
     (kept_by_after (Tells none_ends receiver.node) saves (arrives m receiver)
     (deliver_tells w.weigher receiver.node from m (drop == 0) (each-find (λ (s : ModelSite). Good w.weigher s.node) (λ s. is_named (unwrap_or at m.to) s.node.name) w.sites receiver good e)))
-    (λ o h. acted_tells ids w (Delivery from k at drop now saves) receiver o kept (both_find w ids (unwrap_or at m.to) receiver kept e) h.name h.starts))))
-step_tells ids w (Raw at bytes) good kept =
-    let P = TellsStep ids w (Raw at bytes) in
+    (λ o h. acted_tells runs w (Delivery from k at drop now saves) receiver o kept (both_find w runs (unwrap_or at m.to) receiver kept e) h.name h.starts))))
+step_tells runs w (Raw at bytes) good kept =
+    let P = TellsStep runs w (Raw at bytes) in
     let none : Result WorldStepped Refusal = Err NoSuchMessage in
     let inner = refused_if (not (w.is_message bytes)) BadMessage none in
     after-or_refused P (site_of w at) UnknownNode (λ site. refused_if (not site.node.up) Down inner) (λ site _.
     after-refused_if P (not site.node.up) Down inner (after-refused_if P (not (w.is_message bytes)) BadMessage none tt))
 
 -- a step, answered as it may be
-allowed_tells : (ids : Bytes → List Bytes) (w : ModelWorld) (s : Step) (answer : Result ModelAnswer Refusal) (w' : ModelWorld) → ModelAllows w s answer w' → GoodWorld w → KeptWorld ids w → KeptWorld (next_ids ids s answer) w'
-allowed_tells ids w s answer w' (inl h) good kept =
-    subst (λ (a : Result ModelAnswer Refusal). KeptWorld (next_ids ids s a) w') (sym h.0)
-    (subst (KeptWorld (next_ids ids s (answer_of (step w s)))) (sym h.1) (go (step w s) (step_tells ids w s good kept)))
+allowed_tells : (runs : Bytes → List Run) (w : ModelWorld) (s : Step) (answer : Result ModelAnswer Refusal) (w' : ModelWorld) → ModelAllows w s answer w' → GoodWorld w → KeptWorld runs w → KeptWorld (next_runs runs s answer) w'
+allowed_tells runs w s answer w' (inl h) good kept =
+    subst (λ (a : Result ModelAnswer Refusal). KeptWorld (next_runs runs s a) w') (sym h.0)
+    (subst (KeptWorld (next_runs runs s (answer_of (step w s)))) (sym h.1) (go (step w s) (step_tells runs w s good kept)))
   where
-    go : (r : Result WorldStepped Refusal) → After (TellsStep ids w s) r → KeptWorld (next_ids ids s (answer_of r)) (world_after w r)
+    go : (r : Result WorldStepped Refusal) → After (TellsStep runs w s) r → KeptWorld (next_runs runs s (answer_of r)) (world_after w r)
     go (Ok x) t = t
     go (Err r) t = kept
-allowed_tells ids w s answer w' (inr (inl h)) good kept = subst (λ (a : Result ModelAnswer Refusal). KeptWorld (next_ids ids s a) w') (sym h.0) (subst (KeptWorld ids) (sym h.2) kept)
-allowed_tells ids w s answer w' (inr (inr h)) good kept = subst (λ (a : Result ModelAnswer Refusal). KeptWorld (next_ids ids s a) w') (sym h.0) (subst (KeptWorld ids) (sym h.3) kept)
+allowed_tells runs w s answer w' (inr (inl h)) good kept = subst (λ (a : Result ModelAnswer Refusal). KeptWorld (next_runs runs s a) w') (sym h.0) (subst (KeptWorld runs) (sym h.2) kept)
+allowed_tells runs w s answer w' (inr (inr h)) good kept = subst (λ (a : Result ModelAnswer Refusal). KeptWorld (next_runs runs s a) w') (sym h.0) (subst (KeptWorld runs) (sym h.3) kept)
 
-later : (ids : Bytes → List Bytes) (s : Step) (steps : List Step) (answer : Result ModelAnswer Refusal) (answers : List (Result ModelAnswer Refusal)) (name : Bytes)
-    → started_at name (next_ids ids s answer name) steps answers ≡ started_at name (ids name) (s ∷ steps) (answer ∷ answers)
-later ids s steps (Ok a) answers name = refl
-later ids s steps (Err r) answers name = refl
+later : (runs : Bytes → List Run) (s : Step) (steps : List Step) (answer : Result ModelAnswer Refusal) (answers : List (Result ModelAnswer Refusal)) (name : Bytes)
+    → started_at name (next_runs runs s answer name) steps answers ≡ started_at name (runs name) (s ∷ steps) (answer ∷ answers)
+later runs s steps (Ok a) answers name = refl
+later runs s steps (Err r) answers name = refl
 
 -- and a run of them
-run_tells : (ids : Bytes → List Bytes) (w : ModelWorld) (steps : List Step) (answers : List (Result ModelAnswer Refusal)) (w' : ModelWorld) → ModelRun w steps answers w' → GoodWorld w → KeptWorld ids w → KeptWorld (λ name. started_at name (ids name) steps answers) w'
-run_tells ids w [] [] w' run good kept = subst (KeptWorld ids) (sym run) kept
-run_tells ids w (s ∷ steps) (answer ∷ rest) w' run good kept =
-    each (run_tells (next_ids ids s answer) run.0 steps rest w' run.2 (allowed_good w s answer run.0 run.1 good) (allowed_tells ids w s answer run.0 run.1 good kept))
+run_tells : (runs : Bytes → List Run) (w : ModelWorld) (steps : List Step) (answers : List (Result ModelAnswer Refusal)) (w' : ModelWorld) → ModelRun w steps answers w' → GoodWorld w → KeptWorld runs w → KeptWorld (λ name. started_at name (runs name) steps answers) w'
+run_tells runs w [] [] w' run good kept = subst (KeptWorld runs) (sym run) kept
+run_tells runs w (s ∷ steps) (answer ∷ rest) w' run good kept =
+    each (run_tells (next_runs runs s answer) run.0 steps rest w' run.2 (allowed_good w s answer run.0 run.1 good) (allowed_tells runs w s answer run.0 run.1 good kept))
   where
-    go : (sites : List ModelSite) → AllByRecursion (λ (t : ModelSite). ids_at t.node ≡ started_at t.node.name (next_ids ids s answer t.node.name) steps rest) sites
-        → AllByRecursion (λ (t : ModelSite). ids_at t.node ≡ started_at t.node.name (ids t.node.name) (s ∷ steps) (answer ∷ rest)) sites
+    go : (sites : List ModelSite) → AllByRecursion (λ (t : ModelSite). runs_at t.node ≡ started_at t.node.name (next_runs runs s answer t.node.name) steps rest) sites
+        → AllByRecursion (λ (t : ModelSite). runs_at t.node ≡ started_at t.node.name (runs t.node.name) (s ∷ steps) (answer ∷ rest)) sites
     go [] a = tt
-    go (t ∷ sites) a = (a.0 ∙ later ids s steps answer rest t.node.name, go sites a.1)
+    go (t ∷ sites) a = (a.0 ∙ later runs s steps answer rest t.node.name, go sites a.1)
 
-    each : KeptWorld (λ name. started_at name (next_ids ids s answer name) steps rest) w' → KeptWorld (λ name. started_at name (ids name) (s ∷ steps) (answer ∷ rest)) w'
+    each : KeptWorld (λ name. started_at name (next_runs runs s answer name) steps rest) w' → KeptWorld (λ name. started_at name (runs name) (s ∷ steps) (answer ∷ rest)) w'
     each a = go w'.sites a
-run_tells ids w [] (answer ∷ rest) w' run good kept = absurd run
-run_tells ids w (s ∷ steps) [] w' run good kept = absurd run
+run_tells runs w [] (answer ∷ rest) w' run good kept = absurd run
+run_tells runs w (s ∷ steps) [] w' run good kept = absurd run
 
 new_kept : (setting : WorldSetting) (is_message : Bytes → Bool) (names : List Bytes) → KeptWorld (λ name. []) (new setting is_message names)
 new_kept setting is_message [] = tt
 new_kept setting is_message (name ∷ names) = (refl, new_kept setting is_message names)
 
 pub starts : (setting : WorldSetting) (is_message : Bytes → Bool) (names : List Bytes) (steps : List Step) (answers : List (Result ModelAnswer Refusal)) (w : ModelWorld) → ModelRun (new setting is_message names) steps answers w → GoodWorld (new setting is_message names)
-    → AllByRecursion (λ (a : ModelSite). keys_of a.node.supervisor.kept ≡ started_at a.node.name [] steps answers) w.sites
+    → AllByRecursion (λ (a : ModelSite). runs_of a.node.supervisor.kept ≡ started_at a.node.name [] steps answers) w.sites
 starts setting is_message names steps answers w run good = run_tells (λ name. []) (new setting is_message names) steps answers w run good (new_kept setting is_message names)

@@ -23,7 +23,7 @@ use Rattle.sup_model.specs.Follows.{WorldStandsFor}
 use Rattle.sup_model.specs.Posts.{RealWorld}
 use Rattle.sup_model.specs.Refines.{WorldStands}
 use Rattle.sup_model.specs.Runs.{ModelRun, all_issued, new_dots}
-use Rattle.sup_model.specs.Starts.{started_at}
+use Rattle.sup_model.specs.Starts.{runs_of, started_at}
 use Rattle.sup_model.specs.TableViews.{table_view}
 use Rattle.sup_model.specs.Worlds.{WorldSetting, Ops, ModelWorld, ModelSite, ModelAnswer, new}
 
@@ -59,8 +59,8 @@ pub record Headline (steps : List Step) (answers : List (Result ModelAnswer Refu
   pub agree : (a b : ModelSite) → Contains w.sites a → Contains w.sites b → SameOperations a.node.known b.node.known → NodesAgree w.weigher a.node b.node
   pub stays : (a : ModelSite) → Contains w.sites a → AddsStay a.node
   pub keeps : (a : ModelSite) → Contains w.sites a → a.node.up ≡ true → KeepsExactly w.weigher a.node
-  -- in the order in which its effects started them
-  pub starts : (a : ModelSite) → Contains w.sites a → keys_of a.node.supervisor.kept ≡ started_at a.node.name [] steps answers
+  -- each in the run, and all in the order, in which its effects started them: so a stop names the run that is kept
+  pub starts : (a : ModelSite) → Contains w.sites a → runs_of a.node.supervisor.kept ≡ started_at a.node.name [] steps answers
   -- no two operations add the same dot
   pub once : AllPairs (λ (d e : Dot). d ≢ e) (map (λ r. r.dot) (added issued))
 
