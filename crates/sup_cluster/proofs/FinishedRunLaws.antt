@@ -24,7 +24,7 @@ use Rattle.sup_node_gate.specs.declared.entry.Entry.{Entry}
 use Rattle.sup_links.specs.Image.{image}
 use Rattle.sup_links.specs.Ends.{script_of}
 use Rattle.sup_links.specs.declared.script.Verdict.{Verdict}
-use Rattle.sup_plan.specs.Calls.{asked, letters_to, deliveries}
+use Rattle.sup_plan.specs.Calls.{letters_to, deliveries}
 use Rattle.sup_plan.specs.Parts.{commands_of, script_between}
 use Rattle.sup_plan.specs.Sublists.{Sublist}
 use Rattle.sup_plan.specs.declared.histories.History.{History}
@@ -38,7 +38,7 @@ use Rattle.sup_posts.specs.declared.jobs.Lane.{Lane}
 use Rattle.sup_posts.specs.declared.jobs.Drive.{Drive}
 use Rattle.sup_posts.specs.declared.jobs.Driven.{Driven}
 use Rattle.sup_posts.specs.declared.jobs.Arrived.{Arrived}
-use Rattle.sup_cluster.specs.Runs.{HasRun, RanCommands, CameFrom, IsRunOf, AllStoodBy, carried, in_a_row}
+use Rattle.sup_cluster.specs.Runs.{HasRun, IsDrivenFront, RanCommands, CameFrom, IsRunOf, AllStoodBy, carried, in_a_row}
 use Rattle.sup_posts.proofs.ItemLaws.{zip_append}
 use Rattle.sup_posts.specs.Drives.{IsFresh, IsLaneTo, IsDriveOf, LeadsToItsNode, others_of, places, passes_to, shares_of, dealt_by, HaveWhole, IsSharedNodeOf}
 use Rattle.sup_run_ends.specs.Passes.{of_arrived, calls_by, AreMadeBy}
@@ -47,6 +47,7 @@ use Rattle.sup_run_ends.proofs.DealtPassLaws.{places_at}
 use Rattle.sup_run_ends.proofs.ZipLaws.{zip_left, zip_right, zip_map, zip_weaken, zip_equal, zip_by_place, zip_same_length, map_same}
 use Rattle.sup_run_ends.proofs.RunEndItemLaws.{all_at, contained, place_of, stands_in, same_place, flat_contains, get_left, get_right, get_next, get_map, split_place}
 use Rattle.sup_cluster.proofs.HistorySublistLaws.{in_deliveries}
+use Rattle.sup_cluster.proofs.OwnCallLaws.{own_stand}
 use Rattle.sup_cluster.proofs.PassPlaceLaws.{one_other, not_itself, none_comes, one_comes, passes_both, same_shares}
 use Rattle.sup_cluster.proofs.ShuffleImageLaws.{shuffle_of_images, row_image, some_injective}
 
@@ -58,6 +59,39 @@ module _ {W : Type 0} {h : WeighGhosts W} (did : Bytes → Effect → Bool → T
   node_named : (plan : Plan) (posts : List (SharedNode W h)) (post : SharedNode W h) (drive : Drive W h) (driven : Driven W h) (x : History)
       → IsDriveOf plan posts post drive → (r : DrivesNode did stood posts drive driven) → x.node ≡ post.name → r.seat.0.name ≡ x.node
   node_named plan posts post drive driven x is r named = ap (λ (p : SharedNode W h). p.name) (same_place posts drive.at drive.at r.seat.0 post r.seat.1 is.place refl) ∙ sym named
+
+  fresh_calls : (s : Seat W h) → IsFresh s → calls_of (view_of s) ≡ []
+  fresh_calls s f = ap (map (get_elem? (view_of s).seen)) f
+
+  -- the commands that a driver made, said of its node's history
+  made_at : (plan : Plan) (posts : List (SharedNode W h)) (post : SharedNode W h) (drive : Drive W h) (driven : Driven W h) (x : History)
+      → IsDriveOf plan posts post drive → DrivesNode did stood posts drive driven → x.node ≡ post.name
+      → MakesCommands (did x.node) (stood x.node) (view_of drive.seat) (commands_of x.node plan.commands.items) (view_of driven.seat)
+  made_at plan posts post drive driven x is r named =
+      subst (λ l. MakesCommands (did x.node) (stood x.node) (view_of drive.seat) l (view_of driven.seat)) (is.commands ∙ ap (λ n. commands_of n plan.commands.items) (sym named))
+      (subst (λ n. MakesCommands (did n) (stood n) (view_of drive.seat) drive.commands.items (view_of driven.seat)) (node_named plan posts post drive driven x is r named) r.drove)
+
+  -- they are all that its pass called
+  called_at : (plan : Plan) (posts : List (SharedNode W h)) (post : SharedNode W h) (drive : Drive W h) (driven : Driven W h) (x : History)
+      → (is : IsDriveOf plan posts post drive) (r : DrivesNode did stood posts drive driven) (named : x.node ≡ post.name)
+      → calls_of (view_of driven.seat) ≡ map some (in_a_row (made_at plan posts post drive driven x is r named).made.rounds)
+  called_at plan posts post drive driven x is r named =
+      let drove = made_at plan posts post drive driven x is r named in
+      drove.made.own ∙ ap (λ l. l ++ flat_map (map some) drove.made.rounds) (fresh_calls drive.seat is.fresh) ∙ row_image some drove.made.rounds
+
+  -- so they stand in what it has seen
+  driven_front : (plan : Plan) (posts : List (SharedNode W h)) (post : SharedNode W h) (drive : Drive W h) (driven : Driven W h) (x : History)
+      → IsDriveOf plan posts post drive → DrivesNode did stood posts drive driven → x.node ≡ post.name → BeginsWithSeen driven.seat x
+      → IsDrivenFront (did x.node) plan x (view_of driven.seat).seen
+  driven_front plan posts post drive driven x is r named begins =
+      let drove = made_at plan posts post drive driven x is r named in
+      let called = called_at plan posts post drive driven x is r named in
+      record {
+        begins = begins;
+        rounds = drove.made.rounds;
+        made = drove.made.are;
+        stand = own_stand (view_of driven.seat).seen (view_of driven.seat).own (in_a_row drove.made.rounds) driven.seat.placed called;
+      }
 
   -- what a lane carried, said of the two histories
   reached : (plan : Plan) (posts : List (SharedNode W h)) (all : List History) (front : List Entry) (from to : History) (post other : SharedNode W h) (at : ℕ)
@@ -75,7 +109,7 @@ module _ {W : Type 0} {h : WeighGhosts W} (did : Bytes → Effect → Bool → T
   drove_at : (g : Weigher) (plan : Plan) (posts : List (SharedNode W h)) (drives : List (Drive W h)) (driven : List (Driven W h)) (all : List History)
       → AllZip (IsDriveOf plan posts) posts drives → AllZip (DrivesNode did stood posts) drives driven
       → AllZip (IsHistoryOf g) posts all → AllZip (λ d k. BeginsWithSeen d.seat k) driven all → All (EndsHistory all) (passes_of driven)
-      → (i : ℕ) (x : History) → slice_get all i ≡ Some x → RanCommands plan all x
+      → (i : ℕ) (x : History) → slice_get all i ≡ Some x → RanCommands did plan all x
   drove_at g plan posts drives driven all ds gs hs own others i x e =
       let p = zip_right (IsHistoryOf g) posts all i x hs e in
       let d = zip_left (IsDriveOf plan posts) posts drives i p.0 ds p.1 in
@@ -84,12 +118,7 @@ module _ {W : Type 0} {h : WeighGhosts W} (did : Bytes → Effect → Bool → T
       let begins : BeginsWithSeen r.0.seat x = subst (λ (k : History). BeginsWithSeen r.0.seat k) (same_place all i i o.0 x o.1 e refl) o.2 in
       record {
         front = (view_of r.0.seat).seen;
-        driven = record {
-          begins = begins;
-          entries = r.2.entries;
-          calls = r.2.calls ∙ ap (map asked) d.2.commands ∙ ap (λ n. map asked (commands_of n plan.commands.items)) (sym p.2.named);
-          stand = r.2.seen;
-        };
+        driven = driven_front plan posts p.0 d.0 r.0 x d.2 r.2 p.2.named begins;
         reach = λ k c ne.
             let at = place_of all k c in
             let q = zip_right (IsHistoryOf g) posts all at.0 k hs at.1 in
@@ -111,15 +140,12 @@ module _ {W : Type 0} {h : WeighGhosts W} (did : Bytes → Effect → Bool → T
       (at_places : map (λ (d : Drive W h). d.at) drives ≡ places (length posts)) where
     -- what a driver's links brought to the node at another place
     abbrev Sends : ℕ → History → Driven W h → History → Type 0
-    Sends j to r from = (rounds : List (List Entry)) × CameFrom (did to.node) plan to from rounds × (calls_by (passes_to j (map of_arrived r.arrived.items)) ≡ map some (in_a_row rounds) ∷ [])
+    Sends j to r from = (rounds : List (List Entry)) × CameFrom did plan to from rounds × (calls_by (passes_to j (map of_arrived r.arrived.items)) ≡ map some (in_a_row rounds) ∷ [])
 
     drive_place : (i : ℕ) (d : Drive W h) → slice_get drives i ≡ Some d → d.at ≡ i
     drive_place i d e =
         let low : i < length posts = subst (λ n. i < n) (sym (zip_same_length (IsDriveOf plan posts) posts drives ds)) (slice_get_within drives i d e) in
         same_place (places (length posts)) i i d.at i (subst (λ l. slice_get l i ≡ Some d.at) at_places (get_map (λ (x : Drive W h). x.at) drives i d e)) (places_at (length posts) i low) refl
-
-    fresh_calls : (s : Seat W h) → IsFresh s → calls_of (view_of s) ≡ []
-    fresh_calls s f = ap (map (get_elem? (view_of s).seen)) f
 
     sends_at : (j : ℕ) (to : History) (i : ℕ) (r : Driven W h) (from : History) → slice_get all j ≡ Some to → i ≢ j → slice_get driven i ≡ Some r → slice_get all i ≡ Some from → Sends j to r from
     sends_at j to i r from at_to apart at_r at_from =
@@ -142,12 +168,7 @@ module _ {W : Type 0} {h : WeighGhosts W} (did : Bytes → Effect → Bool → T
           c.made.rounds,
           record {
             front = (view_of r.seat).seen;
-            driven = record {
-              begins = begins;
-              entries = d.2.entries;
-              calls = d.2.calls ∙ ap (map asked) is.commands ∙ ap (λ n. map asked (commands_of n plan.commands.items)) (sym p.2.named);
-              stand = d.2.seen;
-            };
+            driven = driven_front plan posts p.0 d.0 r from is d.2 p.2.named begins;
             delivered = subst (λ (l : List Verdict). AllZip (IsRound (did to.node)) (map delivery (image l (letters_to to.node (view_of r.seat).seen))) c.made.rounds) script
                 (subst (λ n. AllZip (IsRound (did n)) (map delivery (image (script_of one.lane.entry) (letters_to n (view_of r.seat).seen))) c.made.rounds) (ap (λ (x : SharedNode W h). x.name) same ∙ sym q.2.named) c.made.are);
           },
@@ -156,7 +177,7 @@ module _ {W : Type 0} {h : WeighGhosts W} (did : Bytes → Effect → Bool → T
         )
 
     all_sent : (j : ℕ) (to : History) (rs : List (Driven W h)) (ks : List History) → AllZip (Sends j to) rs ks
-        → (received : List (List (List Entry))) × AllZip (CameFrom (did to.node) plan to) ks received × (calls_by (passes_to j (map of_arrived (passes_of rs))) ≡ map (map some) (map in_a_row received))
+        → (received : List (List (List Entry))) × AllZip (CameFrom did plan to) ks received × (calls_by (passes_to j (map of_arrived (passes_of rs))) ≡ map (map some) (map in_a_row received))
     all_sent j to [] [] z = ([], tt, refl)
     all_sent j to [] (k ∷ ks) z = absurd z
     all_sent j to (r ∷ rs) [] z = absurd z
@@ -197,11 +218,8 @@ module _ {W : Type 0} {h : WeighGhosts W} (did : Bytes → Effect → Bool → T
           ∙ map-append (λ (s : Seat W h). calls_of (view_of s)) (passes_to j (map of_arrived (passes_of parts.0))) (passes_to j (map of_arrived (passes_of parts.1)))
           ∙ (λ i. b.2 i ++ a.2 i)
           ∙ sym (ap (map (map some)) (map-append in_a_row b.0 a.0) ∙ map-append (map some) (map in_a_row b.0) (map in_a_row a.0)) in
-          let drove : MakesCommands (did x.node) (stood x.node) (view_of d.0.seat) (commands_of x.node plan.commands.items) (view_of r.0.seat)
-          = subst (λ l. MakesCommands (did x.node) (stood x.node) (view_of d.0.seat) l (view_of r.0.seat)) (d.2.commands ∙ ap (λ n. commands_of n plan.commands.items) (sym p.2.named))
-          (subst (λ n. MakesCommands (did n) (stood n) (view_of d.0.seat) d.0.commands.items (view_of r.0.seat)) (node_named plan posts p.0 d.0 r.0 x d.2 r.2 p.2.named) r.2.drove) in
-          let mine : calls_of (view_of r.0.seat) ≡ map some (in_a_row drove.made.rounds)
-          = drove.made.own ∙ ap (λ l. l ++ flat_map (map some) drove.made.rounds) (fresh_calls d.0.seat d.2.fresh) ∙ row_image some drove.made.rounds in
+          let drove = made_at plan posts p.0 d.0 r.0 x d.2 r.2 p.2.named in
+          let mine = called_at plan posts p.0 d.0 r.0 x d.2 r.2 p.2.named in
           let shares : IsWhole ((view_of r.0.seat).shares ++ shares_of (passes_to j (map of_arrived (passes_of driven))))
           = subst (λ (y : List ℕ × List ℕ). IsWhole (y.0 ++ y.1)) (λ i. (sym drove.made.shares i, sym (same_shares did posts stood j drives driven gs) i))
           (whole j d.0.seat (get_map (λ (y : Drive W h). y.seat) drives j d.0 d.1)) in
@@ -211,7 +229,7 @@ module _ {W : Type 0} {h : WeighGhosts W} (did : Bytes → Effect → Bool → T
               own = drove.made.rounds;
               commands = drove.made.are;
               received = b.0 ++ a.0;
-              came = zip_append (CameFrom (did x.node) plan x) before b.0 after a.0 b.1 a.1;
+              came = zip_append (CameFrom did plan x) before b.0 after a.0 b.1 a.1;
               whole = shuffle_of_images some some_injective (map in_a_row (b.0 ++ a.0)) (in_a_row drove.made.rounds) x.entries.items
                   (subst (λ (y : List (M.Option Entry) × List (List (M.Option Entry))). IsShuffleOf y.0 y.1 (map some x.entries.items)) (λ i. (mine i, others i)) calls);
             };
@@ -237,7 +255,7 @@ module _ {W : Type 0} {h : WeighGhosts W} (did : Bytes → Effect → Bool → T
             let p = zip_right (IsHistoryOf g) posts all i x f.histories e in
             let n = zip_right (IsSharedNodeOf plan.config bound) plan.nodes.items posts i p.0 ps p.1 in
             p.2.saves n.2.sound);
-        drove = all_at (RanCommands plan all) all (drove_at g plan posts drives f.driven all ds given f.histories f.own f.others);
+        drove = all_at (RanCommands did plan all) all (drove_at g plan posts drives f.driven all ds given f.histories f.own f.others);
         made = λ before x after e. (rounds_at g plan posts drives f.driven all ds given f.histories f.own at_places whole f.made before x after e).made;
       }
 

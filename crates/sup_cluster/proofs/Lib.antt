@@ -1,3 +1,4 @@
+pub mod OwnCallLaws
 pub mod HistorySublistLaws
 pub mod ReturnedTeamLaws
 pub mod ShuffleImageLaws
