@@ -26,13 +26,13 @@ module _ {X : Type 0} where
       let to : length before + suc (length ys) ≡ length (before ++ y ∷ []) + length ys = omega (arith, longer) in
       let moved : before ++ y ∷ ys ≡ (before ++ y ∷ []) ++ ys = sym (append_assoc before (y ∷ []) ys) in
       dite (ℕ_discrete p (length before))
-          (λ (here : p ≡ length before).
-          let from : suc p ≡ length (before ++ y ∷ []) = omega (arith, here, longer) in
-          let is : some e ≡ some y = sym head ∙ ap (get_elem? (before ++ y ∷ ys)) here ∙ at_middle before y ys in
-          inl (some-injective e y is, stand_behind (before ++ y ∷ []) ys ps es (subst (λ (z : ℕ × ℕ). PlacesRise z.0 ps z.1) (λ i. (from i, to i)) rises.1) (ap (λ (l : List X). map (get_elem? l) ps) (sym moved) ∙ tail)))
-          (λ other.
-          let past : length (before ++ y ∷ []) ≤ p = omega (arith, longer, low, other) in
-          inr (stand_behind (before ++ y ∷ []) ys (p ∷ ps) (e ∷ es) (past, subst (PlacesRise (suc p) ps) to rises.1) (ap (λ (l : List X). map (get_elem? l) (p ∷ ps)) (sym moved) ∙ are)))
+      (λ (here : p ≡ length before).
+      let from : suc p ≡ length (before ++ y ∷ []) = omega (arith, here, longer) in
+      let is : some e ≡ some y = sym head ∙ ap (get_elem? (before ++ y ∷ ys)) here ∙ at_middle before y ys in
+      inl (some-injective e y is, stand_behind (before ++ y ∷ []) ys ps es (subst (λ (z : ℕ × ℕ). PlacesRise z.0 ps z.1) (λ i. (from i, to i)) rises.1) (ap (λ (l : List X). map (get_elem? l) ps) (sym moved) ∙ tail)))
+      (λ other.
+      let past : length (before ++ y ∷ []) ≤ p = omega (arith, longer, low, other) in
+      inr (stand_behind (before ++ y ∷ []) ys (p ∷ ps) (e ∷ es) (past, subst (PlacesRise (suc p) ps) to rises.1) (ap (λ (l : List X). map (get_elem? l) (p ∷ ps)) (sym moved) ∙ are)))
 
   pub own_stand : (seen : List X) (own : List ℕ) (es : List X) → PlacesRise 0 own (length seen) → map (get_elem? seen) own ≡ map some es → Sublist es seen
   own_stand seen own es rises are =

@@ -1,7 +1,6 @@
 use Rattle.std.proofs.Common.{sym, subst}
-use Rattle.std.specs.Prelude.{IfErr}
 use Rattle.std.specs.List.{AllZip}
-use Rattle.sup_run_ends.specs.Steps.{AreFinished, IsFaultOf, ReturnsDriven}
+use Rattle.sup_run_ends.specs.Steps.{AreFinished, ReturnsDriven}
 use Rattle.sup_cluster.proofs.run_histories.RunHistories.of.Goals as goal
 
 pub finish-requires : goal.finish-requires
