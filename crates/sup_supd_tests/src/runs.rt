@@ -230,6 +230,12 @@ fn expect_image(rt: &(impl Abort + AllocGlobal), told: &Note, image: &Note) {
     assert_eq!(rt; image.text.as_slice(), text.as_slice());
 }
 
+// Expects that these bytes are what was kept when the text at this place was told.
+fn expect_kept(rt: &(impl Abort + AllocGlobal), notes: &[Note], at: usize, kept: &[u8]) {
+    let note = notes.get(at).expect(rt, "as many answers");
+    assert_eq!(rt; kept, note.kept.as_slice());
+}
+
 #[test]
 fn what_a_host_is_told_is_kept_by_then(rt: HostRuntime) {
     let disk = LaterDisk {
@@ -261,10 +267,14 @@ fn what_was_told_is_kept_while_the_next_line_is_awaited(rt: HostRuntime) {
     };
     let host = noted(&rt, disk, b"join\nstart web\nmembers\n");
     assert!(rt; !host.is_short);
-    assert_eq!(rt; host.awaited.len(), 4);
-    assert_eq!(rt; host.notes.len(), 4);
-    for (awaited, note) in host.awaited.iter().zip(&host.notes) {
-        assert_eq!(rt; awaited.as_slice(), note.kept.as_slice());
+    match host.awaited.as_slice() {
+        [first, second, third, end] => {
+            expect_kept(&rt, &host.notes, 0, first);
+            expect_kept(&rt, &host.notes, 1, second);
+            expect_kept(&rt, &host.notes, 2, third);
+            expect_kept(&rt, &host.notes, 3, end);
+        }
+        _ => rt.panic("four lines, the end for one"),
     }
 }
 
