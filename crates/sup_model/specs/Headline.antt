@@ -59,7 +59,7 @@ pub record Headline (steps : List Step) (answers : List (Result ModelAnswer Refu
   pub agree : (a b : ModelSite) → Contains w.sites a → Contains w.sites b → SameOperations a.node.known b.node.known → NodesAgree w.weigher a.node b.node
   pub stays : (a : ModelSite) → Contains w.sites a → AddsStay a.node
   pub keeps : (a : ModelSite) → Contains w.sites a → a.node.up ≡ true → KeepsExactly w.weigher a.node
-  -- each in the run, and all in the order, in which its effects started them: so a stop names the run that is kept
+  -- each in the run, and all in the order, in which its effects started them, where a stop or an exit ends the run that it names and no other
   pub starts : (a : ModelSite) → Contains w.sites a → runs_of a.node.supervisor.kept ≡ started_at a.node.name [] steps answers
   -- no two operations add the same dot
   pub once : AllPairs (λ (d e : Dot). d ≢ e) (map (λ r. r.dot) (added issued))

@@ -64,7 +64,8 @@ pub trait Answerer<K> {
 }
 
 /// Answers each line of the host before the next is heard, until the host says no more, the answerer is over, or `u64::MAX` lines were
-/// answered. With each answer, and while it's awaited, the host is shown the keeper as the last answer left it. A line that no line feed ended is none.
+/// answered. With each answer, and while a line is awaited, the host is shown the keeper as the last answer left it. A line that no line
+/// feed ended is none.
 ///
 /// # Errors
 ///
