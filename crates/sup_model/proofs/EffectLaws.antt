@@ -20,17 +20,17 @@ use Rattle.sup_local_sup.proofs.OnceLaws.{kept_once}
 use Rattle.sup_model.specs.Starts.{Run, is_run, run_of, runs_of, started_by, with_start, without}
 use Rattle.sup_model.proofs.OnceLaws.{IsOnce}
 
-abbrev Others : Bytes → List Bytes → Type 0
+abbrev pub Others : Bytes → List Bytes → Type 0
 Others id ids = AllByRecursion (λ y. bytes_eq id y ≡ false) ids
 
 -- none of these runs is of the child
-abbrev Apart : Bytes → List Run → Type 0
+abbrev pub Apart : Bytes → List Run → Type 0
 Apart id runs = AllByRecursion (λ (r : Run). bytes_eq id r.id ≡ false) runs
 
-abbrev ids_of : List Run → List Bytes
+abbrev pub ids_of : List Run → List Bytes
 ids_of runs = map (λ (r : Run). r.id) runs
 
-ne_flips : (a b : Bytes) → bytes_eq a b ≡ false → bytes_eq b a ≡ false
+pub ne_flips : (a b : Bytes) → bytes_eq a b ≡ false → bytes_eq b a ≡ false
 ne_flips a b h =
     elim (bytes_eq b a) as (λ v. bytes_eq b a ≡ v → v ≡ false) [
       | true ↦ λ e. absurd (true≢false (sym (sym h ∙ ap (bytes_eq a) (exact_from_eq b a e) ∙ eq-itself a)))
@@ -40,7 +40,7 @@ ne_flips a b h =
 inc_itself : (i : Incarnation) → inc_eq i i ≡ true
 inc_itself i = ap (λ b. b && (i.k == i.k)) ((Decides-eqb i.boot i.boot).1 refl) ∙ (Decides-eqb i.k i.k).1 refl
 
-is_itself : (r : Run) → is_run r.id r.inc r ≡ true
+pub is_itself : (r : Run) → is_run r.id r.inc r ≡ true
 is_itself r = ap (λ b. b && inc_eq r.inc r.inc) (eq-itself r.id) ∙ inc_itself r.inc
 
 pub started_append : (runs : List Run) (first then : List Effect) → started_by runs (first ++ then) ≡ started_by (started_by runs first) then
@@ -93,7 +93,7 @@ runs_without id inc (k ∷ ks) e h once = by (bytes_eq id k.0) refl h (λ g. run
     by false is g later = ap (λ rs. run_of k ∷ rs) (later g)
 
 -- stops, the newest first
-stops_first : (runs : List Run) (k : KeptChild) (ks : List KeptChild) → started_by runs (reverse (map stop (k ∷ ks))) ≡ without k.0 k.1.inc (started_by runs (reverse (map stop ks)))
+pub stops_first : (runs : List Run) (k : KeptChild) (ks : List KeptChild) → started_by runs (reverse (map stop (k ∷ ks))) ≡ without k.0 k.1.inc (started_by runs (reverse (map stop ks)))
 stops_first runs k ks = ap (started_by runs) (reverse-append (stop k ∷ []) (map stop ks)) ∙ started_append runs (reverse (map stop ks)) (stop k ∷ [])
 
 stays_first : (r : Run) (runs : List Run) (ks : List KeptChild) → AllByRecursion (λ (k : KeptChild). bytes_eq k.0 r.id ≡ false) ks → started_by (r ∷ runs) (reverse (map stop ks)) ≡ r ∷ started_by runs (reverse (map stop ks))
@@ -123,7 +123,7 @@ some_apart id p (k ∷ ks) a =
     ]
 
 -- those that don't stay are stopped
-stopped_left : (p : KeptChild → Bool) (ks : List KeptChild) → IsOnce ks → started_by (runs_of ks) (reverse (map stop (filter (λ k. not (p k)) ks))) ≡ runs_of (filter p ks)
+pub stopped_left : (p : KeptChild → Bool) (ks : List KeptChild) → IsOnce ks → started_by (runs_of ks) (reverse (map stop (filter (λ k. not (p k)) ks))) ≡ runs_of (filter p ks)
 unfolding IsDistinct
 stopped_left p [] once = refl
 stopped_left p (k ∷ ks) once =
@@ -152,34 +152,47 @@ in_middle : (P : Bytes → Type 0) (ids : List Bytes) (id : Bytes) (rest : List 
 in_middle P [] id rest a = a.0
 in_middle P (i ∷ ids) id rest a = in_middle P ids id rest a.1
 
-others_before : (runs : List Run) (id : Bytes) (rest : List Bytes) → IsDistinct bytes_eq (ids_of runs ++ id ∷ rest) → Apart id runs
+pub others_before : (runs : List Run) (id : Bytes) (rest : List Bytes) → IsDistinct bytes_eq (ids_of runs ++ id ∷ rest) → Apart id runs
 unfolding IsDistinct
 others_before [] id rest d = tt
 others_before (r ∷ runs) id rest d = (ne_flips r.id id (in_middle (λ y. bytes_eq r.id y ≡ false) (ids_of runs) id rest d.0), others_before runs id rest d.1)
 
-start_last : (next : Run) (runs : List Run) → Apart next.id runs → with_start next runs ≡ runs ++ next ∷ []
+pub start_last : (next : Run) (runs : List Run) → Apart next.id runs → with_start next runs ≡ runs ++ next ∷ []
 start_last next [] a = refl
 start_last next (r ∷ runs) a = ap (λ b. cond b (next ∷ runs) (r ∷ with_start next runs)) a.0 ∙ ap (λ rs. r ∷ rs) (start_last next runs a.1)
+
+-- so they do behind the first of them
+pub next_apart : (runs : List Run) (k : KeptChild) (ks : List KeptChild) → IsDistinct bytes_eq (ids_of runs ++ keys_of (k ∷ ks)) → IsDistinct bytes_eq (ids_of (runs ++ run_of k ∷ []) ++ keys_of ks)
+next_apart runs k ks d =
+    let ids : ids_of runs ++ k.0 ∷ keys_of ks ≡ ids_of (runs ++ run_of k ∷ []) ++ keys_of ks =
+    sym (append_assoc (ids_of runs) (k.0 ∷ []) (keys_of ks)) ∙ ap (λ l. l ++ keys_of ks) (sym (map-append (λ (r : Run). r.id) runs (run_of k ∷ []))) in
+    subst (IsDistinct bytes_eq) ids d
 
 starts_behind : (runs : List Run) (ks : List KeptChild) → IsDistinct bytes_eq (ids_of runs ++ keys_of ks) → started_by runs (map start ks) ≡ runs ++ runs_of ks
 starts_behind runs [] d = sym (append-nil runs)
 starts_behind runs (k ∷ ks) d =
-    let ids : ids_of runs ++ k.0 ∷ keys_of ks ≡ ids_of (runs ++ run_of k ∷ []) ++ keys_of ks =
-    sym (append_assoc (ids_of runs) (k.0 ∷ []) (keys_of ks)) ∙ ap (λ l. l ++ keys_of ks) (sym (map-append (λ (r : Run). r.id) runs (run_of k ∷ []))) in
     ap (λ rs. started_by rs (map start ks)) (start_last (run_of k) runs (others_before runs k.0 (keys_of ks) d))
-    ∙ starts_behind (runs ++ run_of k ∷ []) ks (subst (IsDistinct bytes_eq) ids d)
+    ∙ starts_behind (runs ++ run_of k ∷ []) ks (next_apart runs k ks d)
     ∙ append_assoc runs (run_of k ∷ []) (runs_of ks)
+
+-- what is newly wanted is of other children than what stays
+pub fresh_apart : (boot given : ℕ) (kept : List KeptChild) (wanted : List Wanted) → IdsRise wanted → IsOnce kept
+    → IsDistinct bytes_eq (ids_of (runs_of (staying kept wanted)) ++ keys_of (numbered boot given (newly kept wanted)))
+fresh_apart boot given kept wanted rise once =
+    let stay = staying kept wanted in
+    let fresh = numbered boot given (newly kept wanted) in
+    let keys : keys_of (stay ++ fresh) ≡ keys_of stay ++ keys_of fresh = map-append (λ (k : KeptChild). k.0) stay fresh in
+    let apart : IsDistinct bytes_eq (keys_of stay ++ keys_of fresh) = subst (IsDistinct bytes_eq) keys (kept_once boot given kept wanted rise once) in
+    subst (λ l. IsDistinct bytes_eq (l ++ keys_of fresh)) (sym (ids_kept stay)) apart
 
 -- after a look at what is wanted
 pub wanted_starts : (boot given : ℕ) (kept : List KeptChild) (wanted : List Wanted) → IdsRise wanted → IsOnce kept → started_by (runs_of kept) (effects_of boot given kept wanted) ≡ runs_of (kept_after boot given kept wanted)
 wanted_starts boot given kept wanted rise once =
     let stay = staying kept wanted in
     let fresh = numbered boot given (newly kept wanted) in
-    let keys : keys_of (stay ++ fresh) ≡ keys_of stay ++ keys_of fresh = map-append (λ (k : KeptChild). k.0) stay fresh in
-    let apart : IsDistinct bytes_eq (keys_of stay ++ keys_of fresh) = subst (IsDistinct bytes_eq) keys (kept_once boot given kept wanted rise once) in
     started_append (runs_of kept) (stops kept wanted) (map start fresh)
     ∙ ap (λ runs. started_by runs (map start fresh)) (stopped_left (is_wanted wanted) kept once)
-    ∙ starts_behind (runs_of stay) fresh (subst (λ l. IsDistinct bytes_eq (l ++ keys_of fresh)) (sym (ids_kept stay)) apart)
+    ∙ starts_behind (runs_of stay) fresh (fresh_apart boot given kept wanted rise once)
     ∙ sym (map-append run_of stay fresh)
 
 -- a child's next run has the place of its last one

@@ -5,6 +5,7 @@ pub mod OnceLaws
 mod KeptRowLaws
 pub mod KeepsLaws
 pub mod EffectLaws
+pub mod FitLaws
 pub mod StartLaws
 pub mod IssueLaws
 pub mod CleanLaws

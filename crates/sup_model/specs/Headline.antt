@@ -19,6 +19,7 @@ use Rattle.sup_replica.specs.Nodes.{Node, by_operations}
 use Rattle.sup_replica.specs.Steps.{wanted}
 use Rattle.sup_model.specs.declared.step.Step.{Step}
 use Rattle.sup_model.specs.Clean.{HasRow}
+use Rattle.sup_model.specs.Fitting.{fits_at}
 use Rattle.sup_model.specs.Follows.{WorldStandsFor}
 use Rattle.sup_model.specs.Posts.{RealWorld}
 use Rattle.sup_model.specs.Refines.{WorldStands}
@@ -59,8 +60,10 @@ pub record Headline (steps : List Step) (answers : List (Result ModelAnswer Refu
   pub agree : (a b : ModelSite) → Contains w.sites a → Contains w.sites b → SameOperations a.node.known b.node.known → NodesAgree w.weigher a.node b.node
   pub stays : (a : ModelSite) → Contains w.sites a → AddsStay a.node
   pub keeps : (a : ModelSite) → Contains w.sites a → a.node.up ≡ true → KeepsExactly w.weigher a.node
-  -- each in the run, and all in the order, in which its effects started them, where a stop or an exit ends the run that it names and no other
+  -- each in the run, and all in the order, in which its effects started them
   pub starts : (a : ModelSite) → Contains w.sites a → runs_of a.node.supervisor.kept ≡ started_at a.node.name [] steps answers
+  -- and these fit what runs: a stop is of a run that does, a start of a child of which none does
+  pub fits : (a : ModelSite) → Contains w.sites a → fits_at a.node.name [] steps answers ≡ true
   -- no two operations add the same dot
   pub once : AllPairs (λ (d e : Dot). d ≢ e) (map (λ r. r.dot) (added issued))
 

@@ -1,6 +1,7 @@
 pub mod Worlds
 pub mod Runs
 pub mod Starts
+pub mod Fitting
 pub mod Headline
 pub mod Laws
 pub mod Posts

@@ -10,8 +10,9 @@ ghost use Rattle.sup_model.specs.Shipments.{ShipmentIsEnough};
 
 /// After any list of steps from a new world, answered as they may be: what the code has of a node stands for the operations
 /// that the node absorbed; nodes that absorbed the same operations agree; adds that no absorbed removal names stay; each
-/// running node keeps exactly the children that are placed on it, each once, in the order in which its effects started them;
-/// and no two operations add the same dot.
+/// running node keeps exactly the children that are placed on it, each once, in the run and the order in which its effects
+/// started them; each stop is of a run that runs then, and each start of a child of which none does; and no two operations add
+/// the same dot.
 pub fn main_theorem()
     ensures { MainTheorem }
 {}
