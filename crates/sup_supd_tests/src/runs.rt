@@ -1,6 +1,5 @@
 //! Stories of a node, from what is kept and the lines of its host to its status.
 
-use crate::disks::opened;
 use crate::later_disk::LaterDisk;
 use crate::noting::{Note, Noting};
 use std::process::Abort;
@@ -49,7 +48,9 @@ fn expect_on<D: Disk>(
     line: &[u8],
 ) -> Left<DiskKeeper<D>> {
     let alloc = rt.alloc();
-    let keeper = opened(rt, disk);
+    let Ok(keeper) = DiskKeeper::open(alloc, disk) else {
+        panic!(rt; "it doesn't open")
+    };
     let name = NodeName::parse("a").expect(rt, "a name");
     let config = Config::new(1, 5, 64).expect(rt, "settings");
     let mut host = Streams::new(lines, Vec::new(alloc));
@@ -203,6 +204,9 @@ ok boot 1
 // What a host notes that says these lines to a new node over this disk.
 fn noted<'a, D: Disk>(rt: &(impl Abort + AllocGlobal), disk: D, lines: &'a [u8]) -> Noting<'a> {
     let alloc = rt.alloc();
+    let Ok(keeper) = DiskKeeper::open(alloc, disk) else {
+        panic!(rt; "it doesn't open")
+    };
     let mut host = Noting {
         alloc,
         lines,
@@ -216,7 +220,7 @@ fn noted<'a, D: Disk>(rt: &(impl Abort + AllocGlobal), disk: D, lines: &'a [u8])
         NodeName::parse("a").expect(rt, "a name"),
         Config::new(1, 5, 64).expect(rt, "settings"),
         Weighing::Flat,
-        opened(rt, disk),
+        keeper,
         &mut host,
         &mut Vec::new(alloc),
     );

@@ -7,8 +7,8 @@ use sup_disk::{
 };
 use sup_keeper::{KeepFault, Keeper};
 
-/// A keeper of what this disk has. It ends the test where none can be opened.
-pub(crate) fn opened<D: Disk>(rt: &(impl Abort + AllocGlobal), disk: D) -> DiskKeeper<D> {
+// A keeper of what this disk has. It ends the test where none can be opened.
+fn opened<D: Disk>(rt: &(impl Abort + AllocGlobal), disk: D) -> DiskKeeper<D> {
     match DiskKeeper::open(rt.alloc(), disk) {
         Ok(keeper) => keeper,
         Err(_) => panic!(rt; "it doesn't open"),
