@@ -14,7 +14,7 @@ use Rattle.sup_node_gate.specs.InMemory.{failures_by, sound_by}
 use Rattle.sup_links.specs.declared.link_in.Sent.{Sent}
 use Rattle.sup_links.specs.Ends.{AreOneLink, script_of, taken_of}
 use Rattle.sup_links.specs.Image.{image}
-use Rattle.sup_plan.specs.Calls.{asked, letters_to, deliveries}
+use Rattle.sup_plan.specs.Calls.{letters_to, deliveries}
 use Rattle.sup_plan.specs.Sublists.{Sublist}
 use Rattle.sup_plan.specs.declared.plan.Command.{Command}
 use Rattle.sup_plan.specs.declared.plan.Plan.{Plan}
@@ -130,9 +130,6 @@ module _ {W : Type 0} {h : WeighGhosts W} (did : Bytes → Effect → Bool → T
     drives_of drive team done driven t d g =
         let s : SteersNode did stood posts team.lead g.steered = subst (λ r. IfOk r (SteersNode did stood posts team.lead)) g.lead d.0 in record {
           seat = (s.seat.0, ap (slice_get posts) (sym t.at) ∙ s.seat.1, subst (IsOf kept_by failures_by sound_by s.seat.0.gate) (sym g.seat) s.seat.2);
-          entries = s.entries;
-          calls = s.are ∙ ap (λ v. map asked v.items) t.commands;
-          seen = subst (λ x. Sublist s.entries (view_of x).seen) (sym g.seat) s.stand;
           drove = subst (λ x. MakesCommands (did s.seat.0.name) (stood s.seat.0.name) (view_of drive.seat) drive.commands.items (view_of x)) (sym g.seat)
               (subst (λ v. MakesCommands (did s.seat.0.name) (stood s.seat.0.name) (view_of drive.seat) v.items (view_of g.steered.seat)) t.commands
               (subst (λ x. MakesCommands (did s.seat.0.name) (stood s.seat.0.name) (view_of x) team.lead.commands.items (view_of g.steered.seat)) t.seat s.drove));

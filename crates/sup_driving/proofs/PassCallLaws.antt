@@ -1,7 +1,6 @@
 -- What a call does to a pass.
-use Rattle.std.proofs.Common.{◌≡◌, ℕ, List, [], ◌∷◌, ◌++◌, append_assoc, append-nil, refl, ap, ◌∙◌, sym, subst}
+use Rattle.std.proofs.Common.{◌≡◌, ℕ, List, [], ◌∷◌, ◌++◌, append_assoc, append-nil, ap, ◌∙◌, sym, subst}
 use Rattle.std.proofs.lemmas.Grind.{flat_map-append}
-use Rattle.std.proofs.lemmas.List.{map-append}
 use Rattle.sup_specs.specs.Values.{Bytes}
 use Rattle.sup_replica.specs.declared.event.Act.{Act}
 use Rattle.sup_replica.specs.declared.event.Act.TheVariants.{Event as Of}
@@ -9,11 +8,11 @@ use Rattle.sup_replica.specs.declared.event.Event.TheVariants.{Deliver}
 use Rattle.sup_node_gate.specs.declared.entry.Entry.{Entry}
 use Rattle.sup_node_gate.specs.declared.view.View.{View}
 use Rattle.sup_node_gate.specs.Histories.{entry}
-use Rattle.sup_plan.specs.Calls.{Call, call_of, brought, deliveries}
+use Rattle.sup_plan.specs.Calls.{brought, deliveries}
 use Rattle.sup_plan.specs.Sublists.{Sublist}
 use Rattle.sup_posts.specs.NodeCalls.{MadeCall}
 use Rattle.sup_posts.proofs.SublistLaws.{sub_more, sub_both}
-use Rattle.sup_driving.specs.Called.{CallsStand, SeesMore}
+use Rattle.sup_driving.specs.Called.{SeesMore}
 
 pub more_then : (u v w : View) → SeesMore u v → SeesMore v w → SeesMore u w
 more_then u v w p q = (p.0 ++ q.0, q.1 ∙ (ap (λ l. l ++ q.0) p.1 ∙ append_assoc u.seen p.0 q.0))
@@ -37,17 +36,3 @@ delivered_one texts v m text now effects v' c is h = let e = entry (Of (Deliver 
     (subst (Sublist (texts ++ m ∷ [])) (sym (ap deliveries c.ends ∙ flat_map-append (λ (x : Entry). brought x.act) c.before (e ∷ [])))
     (sub_both texts (deliveries c.before) (m ∷ [])
     (subst (Sublist texts) (sym (ap deliveries c.begins.1 ∙ flat_map-append (λ (x : Entry). brought x.act) v.seen c.begins.0)) (sub_more texts (deliveries v.seen) (deliveries c.begins.0) h))))
-
-pub stand_none : (seen : List Entry) → CallsStand [] seen
-stand_none seen = record { entries = []; are = refl; stand = tt }
-
-pub stand_later : (cs : List Call) (v v' : View) → SeesMore v v' → CallsStand cs v.seen → CallsStand cs v'.seen
-stand_later cs v v' p d = record { entries = d.entries; are = d.are; stand = subst (Sublist d.entries) (sym p.1) (sub_more d.entries v.seen p.0 d.stand) }
-
--- a call more
-pub stand_more : (cs : List Call) (v : View) (a : Act) (now : ℕ) (effects : _) (v' : View) → MadeCall v a now effects v' → CallsStand cs v.seen → CallsStand (cs ++ (a, now) ∷ []) v'.seen
-stand_more cs v a now effects v' c d = let e = entry a now c.answer in record {
-  entries = d.entries ++ e ∷ [];
-  are = map-append call_of d.entries (e ∷ []) ∙ ap (λ l. l ++ (a, now) ∷ []) d.are;
-  stand = subst (Sublist (d.entries ++ e ∷ [])) (sym c.ends) (sub_both d.entries c.before (e ∷ []) (subst (Sublist d.entries) (sym c.begins.1) (sub_more d.entries v.seen c.begins.0 d.stand)));
-}

@@ -11,19 +11,12 @@ use Rattle.sup_node_gate.specs.Histories.{IsPrefix}
 use Rattle.sup_node_gate.specs.Views.{calls_of}
 use Rattle.sup_links.specs.declared.link_out.LinkOut.{LinkOut}
 use Rattle.sup_links.specs.Ends.{has_ended}
-use Rattle.sup_plan.specs.Calls.{Call, call_of, asked}
-use Rattle.sup_plan.specs.Sublists.{Sublist}
+use Rattle.sup_plan.specs.Calls.{asked}
 use Rattle.sup_plan.specs.declared.plan.Command.{Command}
 use Rattle.sup_posts.specs.Requests.{Unasked}
 use Rattle.sup_posts.specs.Rounds.{ChildIncarnation, IsDone, IsRound, StoodByRound, TellsRunner}
 use Rattle.sup_posts.specs.declared.thread_fault.ThreadFault.{ThreadFault}
 use Rattle.sup_posts.specs.declared.thread_fault.ThreadFault.TheVariants.{HistoryFull, LinkClosed, OutOfMemory}
-
--- the calls stand in what was seen, in their order
-pub record CallsStand (calls : List Call) (seen : List Entry) : Type 0 where
-  pub entries : List Entry
-  pub are : map call_of entries ≡ calls
-  pub stand : Sublist entries seen
 
 -- what is seen begins with what was seen
 abbrev pub SeesMore : View → View → Type 0

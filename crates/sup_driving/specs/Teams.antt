@@ -8,7 +8,7 @@ use Rattle.sup_node_gate.specs.declared.entry.Entry.{Entry}
 use Rattle.sup_node_gate.specs.Gates.{view_of}
 use Rattle.sup_links.specs.declared.link_in.Sent.{Sent}
 use Rattle.sup_links.specs.Ends.{SameOut, IsSentOf, script_of, sent_script, sent_put, taken_of, has_ended}
-use Rattle.sup_plan.specs.Calls.{call_of, asked, letters_to, deliveries}
+use Rattle.sup_plan.specs.Calls.{letters_to, deliveries}
 use Rattle.sup_plan.specs.Sublists.{Sublist}
 use Rattle.sup_plan.specs.declared.plan.Command.{Command}
 use Rattle.sup_posts.specs.Jobs.{IsSeatAt, MayTakeDrive}
@@ -67,14 +67,10 @@ module _ {W : Type 0} {h : WeighGhosts W} where
   abbrev pub IsReady : List (SharedNode W h) → Team (Steer W h) (Receive W h) → Type 0
   IsReady posts team = AllOfTeam (IsReadyToSteer posts) (IsReadyToReceive posts) team
 
-  -- the commands stand in order, each once with its moment, in what the driver's pass has seen, and the letters of all that it has seen were sent,
-  -- and nothing else; the pass made no other call but exits of children that didn't start at a command, as the runner answered; the checkpoint was
-  -- told of each command and its answer
+  -- the pass called the commands in order, each once with its moment, and nothing else but exits of children that didn't start at a command, as the
+  -- runner answered; the checkpoint was told of each command and its answer; the letters of all that the pass has seen were sent, and nothing else
   pub record SteersNode (did : Bytes → Effect → Bool → Type 0) (stood : Bytes → Command → ℕ → List Effect → Type 0) (posts : List (SharedNode W h)) (steer : Steer W h) (steered : Steered W h) : Type 0 where
     pub seat : IsSeatAt posts steer.at steered.seat
-    pub entries : List Entry
-    pub are : map call_of entries ≡ map asked steer.commands.items
-    pub stand : Sublist entries (view_of steered.seat).seen
     pub sent : AllZip (HasSent (view_of steered.seat).seen) steer.wires.items steered.sent.items
     pub drove : MakesCommands (did seat.0.name) (stood seat.0.name) (view_of steer.seat) steer.commands.items (view_of steered.seat)
 

@@ -1,12 +1,11 @@
 //! What a driver does.
-ghost use Rattle.std.specs.Prelude.{◌++◌, ◌⊎◌, [], ◌∷◌, map, IfErr, IfOk, OnOk, List};
+ghost use Rattle.std.specs.Prelude.{◌⊎◌, IfErr, IfOk, OnOk};
 ghost use Rattle.std.specs.List.{AllZip, AllByRecursion};
 ghost use Rattle.sup_node_gate.specs.Gates.{IsOf, view_of, bound_of};
 ghost use Rattle.sup_node_gate.specs.InMemory.{failures_by, sound_by};
 ghost use Rattle.sup_station.specs.OpenedStations.{kept_by};
-ghost use Rattle.sup_plan.specs.Calls.{Call, asked};
 ghost use Rattle.sup_posts.specs.Rounds.{MakesCommands};
-ghost use Rattle.sup_driving.specs.Called.{CallsStand, MakesCommand, StopsCalling, stood_by};
+ghost use Rattle.sup_driving.specs.Called.{MakesCommand, StopsCalling, stood_by};
 ghost use Rattle.sup_driving.specs.Wires.{HaveLetters, HaveShipped, IsLater, IsUnused, StopsPutting};
 
 use crate::field::Field;
@@ -34,7 +33,6 @@ impl<'a, R: Wait, W: Weigh, N: Runner, C: Checkpoint> Field<'a, R, W, N, C> {
         ensures of { IsOf kept_by failures_by sound_by post.now.gate seat.new }
         ensures later { OnOk result (AllZip IsLater wires.old wires.new) }
         ensures shipped { IfOk result (λ n. HaveShipped n (view_of seat.new).seen wires.new) }
-        ensures did { (calls : List Call) → CallsStand calls (view_of seat.old).seen → OnOk result (CallsStand (calls ++ asked command ∷ []) (view_of seat.new).seen) }
         ensures made { OnOk result (MakesCommand (N.did self.now.runner.now post.now.name) (stood_by C.was_before C.was_answered self.now.checkpoint.now post.now.name) (view_of seat.old) command place (view_of seat.new)) }
         ensures fault { IfErr result (λ f. StopsCalling (bound_of post.now.gate) (view_of seat.new) f ⊎ StopsPutting wires.new f) }
     {
@@ -61,7 +59,6 @@ impl<'a, R: Wait, W: Weigh, N: Runner, C: Checkpoint> Field<'a, R, W, N, C> {
         ensures of { IsOf kept_by failures_by sound_by post.now.gate seat.new }
         ensures later { OnOk result (AllZip IsLater wires.old wires.new) }
         ensures letters { OnOk result (HaveLetters (view_of seat.new).seen wires.new) }
-        ensures did { OnOk result (CallsStand (map asked commands.items) (view_of seat.new).seen) }
         ensures made { OnOk result (MakesCommands (N.did self.now.runner.now post.now.name) (stood_by C.was_before C.was_answered self.now.checkpoint.now post.now.name) (view_of seat.old) commands.items (view_of seat.new)) }
         ensures fault { IfErr result (λ f. StopsCalling (bound_of post.now.gate) (view_of seat.new) f ⊎ StopsPutting wires.new f) }
     {

@@ -161,7 +161,7 @@ pub start_last : (next : Run) (runs : List Run) → Apart next.id runs → with_
 start_last next [] a = refl
 start_last next (r ∷ runs) a = ap (λ b. cond b (next ∷ runs) (r ∷ with_start next runs)) a.0 ∙ ap (λ rs. r ∷ rs) (start_last next runs a.1)
 
--- so they do behind the first of them
+-- what has different ids still has them once the first of what is to start stands behind what runs
 pub next_apart : (runs : List Run) (k : KeptChild) (ks : List KeptChild) → IsDistinct bytes_eq (ids_of runs ++ keys_of (k ∷ ks)) → IsDistinct bytes_eq (ids_of (runs ++ run_of k ∷ []) ++ keys_of ks)
 next_apart runs k ks d =
     let ids : ids_of runs ++ k.0 ∷ keys_of ks ≡ ids_of (runs ++ run_of k ∷ []) ++ keys_of ks =

@@ -17,6 +17,7 @@ use Rattle.sup_local_sup.specs.declared.wanted.Wanted.{Wanted}
 use Rattle.sup_local_sup.specs.Keeping.{KeptChild, IdsRise, is_wanted, effects_of, newly, numbered, start, staying, stop, stops}
 use Rattle.sup_local_sup.specs.Planning.{restart_effects}
 use Rattle.sup_local_sup.specs.Supervising.{Supervisor, inc_eq, others}
+use Rattle.sup_local_sup.proofs.CountedLaws.{all-filter}
 use Rattle.sup_local_sup.proofs.KeepingLaws.{exact_from_eq}
 use Rattle.sup_model.specs.Fitting.{fits, has_run}
 use Rattle.sup_model.specs.Starts.{Run, is_run, run_of, runs_of, started_by, with_start, without}
@@ -44,14 +45,6 @@ there_behind r runs (k ∷ ks) a = (or_right (is_run k.0 k.1.inc r) _ a.0, there
 all_there : (ks : List KeptChild) → AllByRecursion (IsThere (runs_of ks)) ks
 all_there [] = tt
 all_there (k ∷ ks) = (ap (λ b. b || list_any (is_run k.0 k.1.inc) (runs_of ks)) (is_itself (run_of k)), there_behind (run_of k) (runs_of ks) ks (all_there ks))
-
-some_there : (runs : List Run) (p : KeptChild → Bool) (ks : List KeptChild) → AllByRecursion (IsThere runs) ks → AllByRecursion (IsThere runs) (filter p ks)
-some_there runs p [] a = tt
-some_there runs p (k ∷ ks) a =
-    elim (p k) as (λ b. AllByRecursion (IsThere runs) (cond b (k ∷ filter p ks) (filter p ks))) [
-      | true ↦ (a.0, some_there runs p ks a.1)
-      | false ↦ some_there runs p ks a.1
-    ]
 
 -- a run is left where another child's is stopped
 still_runs : (id : Bytes) (inc : Incarnation) (k : KeptChild) (r : Run) → bytes_eq id k.0 ≡ false → is_run id inc r ≡ true → not (is_run k.0 k.1.inc r) ≡ true
@@ -95,7 +88,7 @@ wanted_fits boot given kept wanted rise once =
     let stay = staying kept wanted in
     let fresh = numbered boot given (newly kept wanted) in
     fits_both (runs_of kept) (stops kept wanted) (map start fresh)
-    (stops_fit (runs_of kept) (filter goes kept) (IsDistinct-keys_filter bytes_eq goes kept once) (some_there (runs_of kept) goes kept (all_there kept)))
+    (stops_fit (runs_of kept) (filter goes kept) (IsDistinct-keys_filter bytes_eq goes kept once) (all-filter (IsThere (runs_of kept)) goes kept (all_there kept)))
     (ap (λ rs. fits rs (map start fresh)) (stopped_left (is_wanted wanted) kept once) ∙ starts_fit (runs_of stay) fresh (fresh_apart boot given kept wanted rise once))
 
 others_apart : (id : Bytes) (ks : List KeptChild) → Apart id (runs_of (others ks id))

@@ -28,6 +28,7 @@ use Rattle.sup_local_sup.specs.declared.wanted.Wanted.{Wanted}
 use Rattle.sup_local_sup.specs.Keeping.{KeptChild, is_kept, is_wanted, kept_after, newly, numbered}
 use Rattle.sup_local_sup.specs.Planning.{kept_of_leaving, restart_kept}
 use Rattle.sup_local_sup.specs.Supervising.{Supervisor, renewed}
+use Rattle.sup_local_sup.proofs.CountedLaws.{all-append, all-filter}
 use Rattle.sup_replica.specs.Nodes.{is_placed_on, wanted_of, wanted_row, wanted_at}
 use Rattle.sup_model.specs.Clean.{HasRow}
 use Rattle.sup_model.specs.Headline.{KeepsAdded, kept_row}
@@ -72,15 +73,6 @@ pub wants_added : (weigher : Weigher) (me : Bytes) (ops : Ops) → Wants ops (wa
 wants_added weigher me ops = wants ops weigher me (eligible (live ops)) (keys (live ops) children)
 
 -- ---- what is kept was wanted
-module _ {X : Type 0} (P : X → Type 0) where
-  each_filtered : (p : X → Bool) (xs : List X) → AllByRecursion P xs → AllByRecursion P (filter p xs)
-  each_filtered p [] h = tt
-  each_filtered p (x ∷ xs) h = elim (p x) as (λ b. AllByRecursion P (cond b (x ∷ filter p xs) (filter p xs))) [ true ↦ (h.0, each_filtered p xs h.1) | false ↦ each_filtered p xs h.1 ]
-
-  each_appended : (xs ys : List X) → AllByRecursion P xs → AllByRecursion P ys → AllByRecursion P (xs ++ ys)
-  each_appended [] ys h k = k
-  each_appended (x ∷ xs) ys h k = (h.0, each_appended xs ys h.1 k)
-
 numbered_added : (ops : Ops) (boot given : ℕ) (ws : List Wanted) → Wants ops ws → KeepsAdded ops (numbered boot given ws)
 numbered_added ops boot given [] h = tt
 numbered_added ops boot given (w ∷ ws) h = (h.0, numbered_added ops boot (given + 1) ws h.1)
@@ -88,8 +80,8 @@ numbered_added ops boot given (w ∷ ws) h = (h.0, numbered_added ops boot (give
 pub kept_added : (ops : Ops) (boot given : ℕ) (kept : List KeptChild) (wanted : List Wanted) → KeepsAdded ops kept → Wants ops wanted → KeepsAdded ops (kept_after boot given kept wanted)
 kept_added ops boot given kept wanted h w =
     let P = λ (k : KeptChild). HasRow ops (kept_row k) in
-    each_appended P (filter (is_wanted wanted) kept) (numbered boot given (newly kept wanted)) (each_filtered P (is_wanted wanted) kept h)
-    (numbered_added ops boot given (newly kept wanted) (each_filtered (λ (v : Wanted). HasRow ops (wanted_child v)) (λ v. not (is_kept kept v)) wanted w))
+    all-append P (filter (is_wanted wanted) kept) (numbered boot given (newly kept wanted)) (all-filter P (is_wanted wanted) kept h)
+    (numbered_added ops boot given (newly kept wanted) (all-filter (λ (v : Wanted). HasRow ops (wanted_child v)) (λ v. not (is_kept kept v)) wanted w))
 
 pub added_stays : (ops more : Ops) (kept : List KeptChild) → KeepsAdded ops kept → KeepsAdded (ops ++ more) kept
 added_stays ops more [] h = tt
@@ -97,7 +89,7 @@ added_stays ops more (k ∷ ks) h = (among-added-append ops more (kept_row k) �
 
 pub left_added : (ops : Ops) (kept : List KeptChild) (leaving : Leaving) → KeepsAdded ops kept → KeepsAdded ops (kept_of_leaving kept leaving)
 left_added ops kept Nobody h = h
-left_added ops kept (Finished id) h = each_filtered (λ (k : KeptChild). HasRow ops (kept_row k)) (λ k. not (bytes_eq id k.0)) kept h
+left_added ops kept (Finished id) h = all-filter (λ (k : KeptChild). HasRow ops (kept_row k)) (λ k. not (bytes_eq id k.0)) kept h
 left_added ops kept (GaveUp id) h = tt
 
 -- ---- and in its next run

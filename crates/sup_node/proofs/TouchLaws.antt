@@ -31,6 +31,7 @@ use Rattle.sup_local_sup.specs.declared.change.Change.{Change}
 use Rattle.sup_local_sup.specs.declared.leaving.Leaving.{Leaving}
 use Rattle.sup_local_sup.specs.declared.leaving.Leaving.TheVariants.{Nobody, Finished, GaveUp}
 use Rattle.sup_local_sup.specs.Keeping.{KeptChild, is_for, is_wanted, is_kept}
+use Rattle.sup_local_sup.proofs.CountedLaws.{all-append, all-filter}
 use Rattle.sup_local_sup.proofs.KeepingLaws.{exact_from_eq}
 use Rattle.sup_local_sup.specs.Changing.{now_list, news, is_named, by_id, IsOwn, AreChanges, IsReplaced, left_of, leaving_of}
 use Rattle.sup_replica.specs.Nodes.{is_placed_on, wanted_of, wanted_row, wanted_at}
@@ -47,18 +48,6 @@ all_from p (x ∷ xs) e = (and-first (p x) _ e, all_from p xs (and-second (p x) 
 all_with : {X : Type 0} (P Q : X → Type 0) → ((x : X) → P x → Q x) → (xs : List X) → AllByRecursion P xs → AllByRecursion Q xs
 all_with P Q f [] a = tt
 all_with P Q f (x ∷ xs) a = (f x a.0, all_with P Q f xs a.1)
-
-all_both : {X : Type 0} (P : X → Type 0) (xs ys : List X) → AllByRecursion P xs → AllByRecursion P ys → AllByRecursion P (xs ++ ys)
-all_both P [] ys a b = b
-all_both P (x ∷ xs) ys a b = (a.0, all_both P xs ys a.1 b)
-
-all_filtered : {X : Type 0} (P : X → Type 0) (q : X → Bool) (xs : List X) → AllByRecursion P xs → AllByRecursion P (filter q xs)
-all_filtered P q [] a = tt
-all_filtered P q (x ∷ xs) a = at (q x) (all_filtered P q xs a.1)
-  where
-    at : (b : Bool) → AllByRecursion P (filter q xs) → AllByRecursion P (cond b (x ∷ filter q xs) (filter q xs))
-    at true h = (a.0, h)
-    at false h = h
 
 -- one of a list has the property
 pick : {X Q : Type 0} (P : X → Type 0) (p : X → Bool) (xs : List X) → AllByRecursion P xs → list_any p xs ≡ true → ((x : X) → P x → p x ≡ true → Q) → Q
@@ -97,7 +86,7 @@ sorted_filter p [] s = tt
 sorted_filter p (x ∷ xs) s = at (p x) (sorted_filter p xs s.1)
   where
     at : (b : Bool) → IsStrictlySortedBy text_cmp (filter p xs) → IsStrictlySortedBy text_cmp (cond b (x ∷ filter p xs) (filter p xs))
-    at true h = (all_filtered (λ y. text_cmp x y ≡ Less) p xs s.0, h)
+    at true h = (all-filter (λ y. text_cmp x y ≡ Less) p xs s.0, h)
     at false h = h
 
 among_filter : (p : Bytes → Bool) (xs : List Bytes) (q : Bytes) → among text_cmp (filter p xs) q ≡ (among text_cmp xs q && p q)
@@ -158,7 +147,7 @@ module _ (g : Weigher) (me : Bytes) (hosts : List Bytes) (rows : List Row) where
 
   each : (ks : List Bytes) → AllByRecursion (λ (w : Wanted). under w.id ≡ Some w) (listed ks)
   each [] = tt
-  each (k ∷ ks) = all_both (λ (w : Wanted). under w.id ≡ Some w) (now_list (under k)) (listed ks) (each_now k (under k) refl) (each ks)
+  each (k ∷ ks) = all-append (λ (w : Wanted). under w.id ≡ Some w) (now_list (under k)) (listed ks) (each_now k (under k) refl) (each ks)
 
   has_any : (p : Wanted → Bool) (id : Bytes) (w : Wanted) → under id ≡ Some w → p w ≡ true → (ks : List Bytes) → among text_cmp ks id ≡ true → list_any p (listed ks) ≡ true
   has_any p id w u h [] a = absurd (true≢false (sym a))
@@ -352,7 +341,7 @@ module _ (g : Weigher) (me : Bytes) (old new : State) (ids : List Bytes) (rise :
 
     stays : (ended : Option Bytes) → AllByRecursion (λ (k : KeptChild). is_named changes k.0 ≡ false → is_wanted (wanted_at g me new.rows) k ≡ true) (left_of kept ended)
     stays None = all_with _ _ stays_one kept all_kept
-    stays (Some id) = all_filtered _ (λ k. not (bytes_eq id k.0)) kept (all_with _ _ stays_one kept all_kept)
+    stays (Some id) = all-filter _ (λ k. not (bytes_eq id k.0)) kept (all_with _ _ stays_one kept all_kept)
 
     -- what is wanted with the delta is what was kept, with the touched ids replaced
     pub is_replaced : (ended : Option Bytes) → IsAmong ids ended → IsReplaced (left_of kept ended) changes (wanted_at g me new.rows)

@@ -13,7 +13,7 @@ use Rattle.sup_node_gate.specs.Gates.{IsOf, view_of}
 use Rattle.sup_node_gate.specs.InMemory.{failures_by, sound_by}
 use Rattle.sup_links.specs.Image.{image}
 use Rattle.sup_links.specs.Ends.{AreOneLink, script_of, put_of, is_closed, taken_of, has_ended}
-use Rattle.sup_plan.specs.Calls.{call_of, asked, letters_to, deliveries}
+use Rattle.sup_plan.specs.Calls.{letters_to, deliveries}
 use Rattle.sup_plan.specs.declared.plan.Command.{Command}
 use Rattle.sup_plan.specs.Sublists.{Sublist}
 use Rattle.sup_posts.specs.Rounds.{MakesCalls, MakesCommands, delivery}
@@ -60,14 +60,11 @@ module _ {W : Type 0} {h : WeighGhosts W} where
     pub delivered : Sublist (image (script_of lane.entry) (letters_to post.name entries)) (deliveries (view_of arrived.seat).seen)
     pub made : MakesCalls (did post.name) (view_of lane.seat) (map delivery (image (script_of lane.entry) (letters_to post.name entries))) (view_of arrived.seat)
 
-  -- the commands stand in order, each once with its moment, in what the driver's pass has seen, and the letters of all that it has seen were carried,
-  -- and nothing else; the pass made no other call but exits of children that didn't start at a command, as the runner answered, which was told of
-  -- all effects of the answers; the checkpoint was told of each command and its answer
+  -- the pass called the commands in order, each once with its moment, and nothing else but exits of children that didn't start at a command, as the
+  -- runner answered, which was told of all effects of the answers; the checkpoint was told of each command and its answer; the letters of all that
+  -- the pass has seen were carried, and nothing else
   pub record DrivesNode (did : Bytes → Effect → Bool → Type 0) (stood : Bytes → Command → ℕ → List Effect → Type 0) (posts : List (SharedNode W h)) (drive : Drive W h) (driven : Driven W h) : Type 0 where
     pub seat : IsSeatAt posts drive.at driven.seat
-    pub entries : List Entry
-    pub calls : map call_of entries ≡ map asked drive.commands.items
-    pub seen : Sublist entries (view_of driven.seat).seen
     pub drove : MakesCommands (did seat.0.name) (stood seat.0.name) (view_of drive.seat) drive.commands.items (view_of driven.seat)
     pub carried : AllZip (CarriedLetters did posts (view_of driven.seat).seen) drive.lanes.items driven.arrived.items
 

@@ -1,11 +1,10 @@
-use Rattle.std.proofs.Common.{◌≡◌, ◌++◌, length, map}
+use Rattle.std.proofs.Common.{◌≡◌, ◌++◌, length}
 use Rattle.std.specs.List.{AllZip}
 use Rattle.sup_station.specs.OpenedStations.{kept_by}
 use Rattle.sup_node_gate.specs.Gates.{IsOf, view_of}
 use Rattle.sup_node_gate.specs.InMemory.{failures_by, sound_by}
-use Rattle.sup_plan.specs.Calls.{asked}
 use Rattle.sup_posts.specs.Rounds.{MakesCommands}
-use Rattle.sup_driving.specs.Called.{CallsStand, stood_by}
+use Rattle.sup_driving.specs.Called.{stood_by}
 use Rattle.sup_driving.specs.Wires.{HaveShipped, IsLater}
 use Rattle.sup_driving.proofs.field.Field.drive.Given as goal
 
@@ -15,6 +14,5 @@ invariant-loop-command g l =
     × IsOf kept_by failures_by sound_by l.post.gate l.seat
     × AllZip IsLater l.fn.wires l.wires
     × HaveShipped l.shipped (view_of l.seat).seen l.wires
-    × CallsStand (map asked l.yielded) (view_of l.seat).seen
     × MakesCommands (g.N.Runner.did l.self.runner.now l.post.name) (stood_by g.C.Checkpoint.was_before g.C.Checkpoint.was_answered l.self.checkpoint.now l.post.name) (view_of l.fn.seat) l.yielded (view_of l.seat)
     × (l.place ≡ length l.yielded)

@@ -1,6 +1,6 @@
 use Rattle.sup_node_gate.specs.Gates.{view_of}
 use Rattle.sup_driving.specs.Called.{stood_by}
-use Rattle.sup_driving.proofs.PassCallLaws.{more_then, called_more, stand_more, stand_later}
+use Rattle.sup_driving.proofs.PassCallLaws.{called_more}
 use Rattle.sup_driving.proofs.RoundLaws.{command_one, tells_since}
 use Rattle.sup_driving.proofs.WirePutLaws.{shipped_later, shipped_more}
 use Rattle.sup_driving.proofs.field.Field.make.Goals as goal
@@ -13,12 +13,6 @@ ship-requires-clause-shipped g c =
 pub returns-clause-shipped : goal.returns-clause-shipped
 returns-clause-shipped g c =
     shipped_more c.in_ok-shipped.shipped (view_of c.ship.new.seat) (view_of c.act_all.new.seat) c.ship.new.wires c.in_ok-shipped.ensures.count c.in_ok-shipped.ensures.letters c.in_ok-act_all.ensures.seen
-
-pub returns-clause-did : goal.returns-clause-did
-returns-clause-did g c = λ cs d.
-    stand_later _ (view_of c.call.new.seat) (view_of c.act_all.new.seat)
-    (more_then (view_of c.call.new.seat) (view_of c.ship.new.seat) (view_of c.act_all.new.seat) c.ship.ensures.seen c.in_ok-act_all.ensures.seen)
-    (stand_more cs (view_of c.args.seat.now) c.args.command.act c.args.command.now c.in_ok-requests.requests.effects (view_of c.call.new.seat) c.in_ok-requests.ensures.called d)
 
 pub returns-clause-made : goal.returns-clause-made
 returns-clause-made g c =

@@ -13,12 +13,8 @@ use Rattle.sup_driving.proofs.work.FieldWorkSteerResultSteeredThreadFault.run.Go
 
 pub returns-in_ok-sent-in-Ok : goal.returns-in_ok-sent-in-Ok
 returns-in_ok-sent-in-Ok g c =
-    let did = c.in-Ok.ensures.did in
     let here = get_or_from_slice_get c.args.self.now.posts.now c.args.steer.at c.requires.seat.0 c.index-self-at.result c.requires.seat.1 in record {
       seat = (c.requires.seat.0, c.requires.seat.1, subst (λ (p : SharedNode g.row.W.Denot g.W.Weigh). IsOf kept_by failures_by sound_by p.gate c.drive.new.seat) here c.drive.ensures.of);
-      entries = did.entries;
-      are = did.are;
-      stand = did.stand;
       sent =
           let later = subst (λ l. AllZip IsLater l c.drive.new.wires) c.deref_mut.ensures.value c.in-Ok.ensures.later in
           sent_all (view_of c.drive.new.seat).seen c.args.steer.wires.items c.drive.new.wires c.in_ok-sent-in-Ok.sent.items later
