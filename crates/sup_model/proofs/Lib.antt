@@ -7,6 +7,7 @@ pub mod KeepsLaws
 pub mod EffectLaws
 pub mod FitLaws
 pub mod StartLaws
+pub mod GoingLaws
 pub mod IssueLaws
 pub mod CleanLaws
 pub mod CleanWorld

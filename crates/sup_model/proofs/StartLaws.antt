@@ -82,7 +82,7 @@ command_tells s n (Ok op) reply once =
 command_tells s n (Err r) reply once = tt
 
 -- an exit calls for nothing where its run isn't kept
-abbrev IsFresh : Ruling → Type 0
+abbrev pub IsFresh : Ruling → Type 0
 IsFresh Stale = ⊥
 IsFresh Again = Unit {0}
 IsFresh (Finish dot) = Unit {0}

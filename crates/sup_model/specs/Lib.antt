@@ -15,6 +15,7 @@ pub mod Follows
 pub mod Shipments
 pub mod Arrivals
 pub mod ChildRestarts
+pub mod GoingOn
 pub mod Memory
 pub mod OneNode
 pub mod OneStation

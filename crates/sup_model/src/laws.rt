@@ -3,6 +3,7 @@ ghost use Rattle.sup_model.specs.Headline.{MainTheorem, RepliesTellDots};
 ghost use Rattle.sup_model.specs.Follows.{StepsFollow, NewStands, WorldsStand, RunsFollow, SettlingSettles};
 ghost use Rattle.sup_model.specs.Arrivals.{BytesArrive, OtherBytesAreRefused};
 ghost use Rattle.sup_model.specs.ChildRestarts.{RestartsStay};
+ghost use Rattle.sup_model.specs.GoingOn.{ActsGoOn, DeliveriesGoOn};
 ghost use Rattle.sup_model.specs.Memory.{StopsAreAnswered, FirstChecksComeFirst};
 ghost use Rattle.sup_model.specs.OneNode.{ActsStand, DeliveriesStand};
 ghost use Rattle.sup_model.specs.OneStation.{PlainActsStand, ShipsStand, MailStands};
@@ -59,6 +60,13 @@ pub fn worlds_stand()
 /// A restart of a child changes its node's supervisor alone, and what is kept is still what is wanted.
 pub fn a_restarted_child_stays()
     ensures { RestartsStay }
+{}
+
+/// What a running node keeps and still wants after an act, or after a message, it keeps in the same run: unless that run is the
+/// one that exits, or the node stops or gives up.
+pub fn what_stays_wanted_goes_on()
+    ensures acts { ActsGoOn }
+    ensures deliveries { DeliveriesGoOn }
 {}
 
 /// Bytes that are read as a message come to a station as the world brings that message whole. Other bytes are refused: `Down`
