@@ -29,7 +29,7 @@ use Rattle.sup_replica.specs.declared.refusal.Refusal.TheVariants.{Down, Already
 use Rattle.sup_replica.specs.Acts.{stopped, booted, act_step, absorbs, takes, deliver, keeps}
 use Rattle.sup_replica.specs.Checks.{refused_if}
 use Rattle.sup_replica.specs.Nodes.{Node, Kind, delta, push, ack, Message, ActOutcome, by_operations, is_named}
-use Rattle.sup_replica.specs.Steps.{wanted, command, exit_step, up_step, only, push_step}
+use Rattle.sup_replica.specs.Steps.{command, exit_step, up_step, only, push_step}
 use Rattle.sup_model.specs.GoingOn.{ActsGoOn, DeliveriesGoOn, Keeps, Wants, gives_up, is_exit_of}
 use Rattle.sup_model.specs.Worlds.{Ops}
 use Rattle.sup_model.proofs.Afters.{After, after-refused_if, after-checked}

@@ -1,6 +1,6 @@
 -- After any list of steps each up node keeps exactly what is placed on it, each child once.
-use Rattle.std.specs.Prelude.{◌≡◌, ℕ, zero, suc, ◌+◌, ◌==◌, Bool, true, false, cond, not, ◌||◌, ◌&&◌, List, [], ◌∷◌, ◌++◌, filter, map, find, Contains, Option, Some, None, Result, Ok, Err, refl, slice_get, length, ◌<◌, if◌then◌else◌, unwrap_or}
-use Rattle.std.specs.List.{list_any, list_all, AllByRecursion}
+use Rattle.std.specs.Prelude.{◌≡◌, ℕ, zero, suc, ◌+◌, ◌==◌, Bool, true, false, cond, not, ◌&&◌, List, [], ◌∷◌, ◌++◌, map, find, Contains, Option, Some, None, Result, Ok, Err, refl, length, ◌<◌, if◌then◌else◌, unwrap_or}
+use Rattle.std.specs.List.{list_all, AllByRecursion}
 use Rattle.std.proofs.Common.{sym, ap, ◌∙◌, subst, arith}
 use mathlib.Core.Bool.{true≢false}
 use Rattle.sup_specs.specs.Values.{Bytes}
@@ -9,8 +9,6 @@ use Rattle.sup_tables.specs.Operations.{Operation, live, covers}
 use Rattle.sup_tables.proofs.CoverLaws.{covers-live}
 use Rattle.sup_tables.specs.Makers.{drop_member, finish_child}
 use Rattle.sup_local_sup.specs.Keeping.{is_wanted, is_kept}
-use Rattle.std.specs.Str.{bytes_eq}
-use Rattle.std.specs.Map.{lookup, set_value}
 use Rattle.sup_local_sup.specs.declared.leaving.Leaving.{Leaving}
 use Rattle.sup_local_sup.specs.declared.leaving.Leaving.TheVariants.{Nobody, Finished as finished, GaveUp as gave_up}
 use Rattle.sup_local_sup.specs.declared.leaving.Ruling.{Ruling}
