@@ -10,7 +10,8 @@ pub fn ships_are_right<L: Lattice>()
     ensures { HoldsForJoin L.join ShipsAreRight }
 {}
 
-/// A counted change of one peer, a stop and a restart keep what is true between all peers.
+/// Whatever one peer does keeps what is true between all peers: a counted change, a ship, a push, an acknowledgement that it
+/// sends or hears, a stop and a restart.
 pub fn steps_keep_sound<L: Lattice>()
     ensures { HoldsForJoin L.join StepsKeepSound }
 {}
