@@ -7,7 +7,7 @@ use lib.ListN.{get_elem?}
 use lib.Seq.{set-get_or}
 use prog.Atomic.{either}
 use Rattle.atomic_table.specs.Table as T
-use Rattle.atomic_table.specs.Table.{State, Me, step, keeps, takes, gives, stepped, rest, Allows, Valid, carried_after, homes_after}
+use Rattle.atomic_table.specs.Table.{State, Me, step, keeps, takes, gives, stepped, Allows, Valid, carried_after, homes_after}
 use Rattle.atomic_table.proofs.Lists.{at_set, set_here, exchanged}
 use Rattle.sup_placement.specs.Place.{Weigher}
 use Rattle.sup_node_gate.specs.Histories.{CountedStation}

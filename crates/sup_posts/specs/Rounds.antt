@@ -1,6 +1,6 @@
 -- Which calls of its gate a thread of a run makes, and what it tells the runner (the rule of starts that fail): what it has to do, and behind each of
 -- these the exits of children of which the runner answered that they didn't start.
-use Rattle.std.specs.Prelude.{◌≡◌, ℕ, suc, Bool, true, false, List, [], ◌∷◌, ◌++◌, map, flat_map, Some, Ok, Err}
+use Rattle.std.specs.Prelude.{◌≡◌, ℕ, suc, Bool, true, false, List, [], ◌∷◌, ◌++◌, map, flat_map, Ok, Err}
 use Rattle.std.specs.List.{AllZip, AllByRecursion}
 use mathlib.Core.Option.{some}
 use Rattle.sup_specs.specs.Values.{Bytes}

@@ -1,16 +1,12 @@
 -- Passes that are joined one after another, and what they have and called together.
-use Rattle.std.specs.Prelude.{◌≡◌, ◌≢◌, ◌+◌, ◌≤◌, ℕ, List, [], ◌∷◌, ◌++◌, length, map, flat_map, All, Some, slice_get, refl}
-use Rattle.std.specs.List.{AllZip, filter}
+use Rattle.std.specs.Prelude.{◌≡◌, ◌≢◌, ◌+◌, ◌≤◌, ℕ, List, [], ◌∷◌, ◌++◌, length, map, flat_map, Some, slice_get, refl}
 use Rattle.std.proofs.Common.{arith, sym, ap, ◌∙◌, subst, append_assoc, append-nil, ⊎_elim}
 use Rattle.std.proofs.lemmas.Grind.{flat_map-append}
 use Rattle.std.proofs.lemmas.List.{map-append}
 use Rattle.std.proofs.lemmas.Option.{slice_get_within}
 use mathlib.Core.Option as M
-use mathlib.Core.Option.{some}
 use Rattle.sup_placement.specs.declared.weigh.Weigh.{Ghosts as WeighGhosts}
-use Rattle.sup_node_gate.specs.declared.entry.Entry.{Entry}
 use Rattle.sup_node_gate.specs.Gates.{view_of}
-use Rattle.sup_node_gate.specs.Shares.{IsWhole}
 use Rattle.sup_node_gate.specs.Shuffles.{IsShuffle, IsShuffleOf}
 use Rattle.sup_node_gate.specs.Views.{calls_of}
 use Rattle.sup_plan.specs.declared.histories.History.{History}

@@ -1,4 +1,4 @@
-use Rattle.std.proofs.Common.{◌≡◌, ℕ, ◌++◌, [], ◌∷◌, All, ap, sym, ◌∙◌, append-nil, refl}
+use Rattle.std.proofs.Common.{◌≡◌, ℕ, ◌++◌, [], ◌∷◌, ap, sym, ◌∙◌, append-nil, refl}
 use Rattle.std.specs.Prelude.{not, cond}
 use Rattle.sup_posts.proofs.ItemLaws.{all_none, all_snoc}
 use Rattle.sup_posts.specs.Jobs.{Seat}

@@ -1,20 +1,17 @@
-use Rattle.std.proofs.Common.{arith, ◌≡◌, ℕ, ◌+◌, ◌++◌, List, [], ◌∷◌, length, All, Some, sym, ap, ◌∙◌, subst, append-nil}
-use Rattle.std.specs.Prelude.{slice_get, suc, map}
+use Rattle.std.proofs.Common.{arith, ◌≡◌, ℕ, ◌+◌, ◌++◌, List, [], ◌∷◌, length, All, sym, ◌∙◌, subst}
+use Rattle.std.specs.Prelude.{suc}
 use Rattle.std.specs.List.{AllZip}
 use Rattle.std.specs.declared.alloc.Global.{Global}
 use Rattle.std.specs.declared.vec.Vec.{Vec}
 use Rattle.std.proofs.lemmas.Slice.Zip.{all_zipped_more}
 use Rattle.std.proofs.lemmas.Option.{get_or_from_slice_get}
-use Rattle.sup_specs.specs.Values.{Bytes}
-use Rattle.sup_node_gate.specs.Gates.{view_of}
-use Rattle.sup_node_gate.specs.Shares.{IsWhole}
 use Rattle.sup_posts.specs.Jobs.{Seat, IsSeatAt}
 use Rattle.sup_posts.specs.declared.shared_node.SharedNode.{SharedNode}
 use Rattle.sup_posts.specs.declared.jobs.Lane.{Lane}
 use Rattle.sup_posts.proofs.ItemLaws.{all_weaken}
-use Rattle.sup_posts.specs.Drives.{IsFresh, LeadsToItsNode, ends_of, others_of, places, HaveWhole, dealt_in, of_lane}
+use Rattle.sup_posts.specs.Drives.{IsFresh, LeadsToItsNode, places, HaveWhole, dealt_in, of_lane}
 use Rattle.sup_run_ends.specs.Passes.{IsFirst}
-use Rattle.sup_run_ends.specs.Steps.{IsSeatOf, IsRowOf}
+use Rattle.sup_run_ends.specs.Steps.{IsRowOf}
 use Rattle.sup_run_ends.proofs.DealtPassLaws.{kept_fresh, whole_more, ends_same, first_whole_each}
 use Rattle.sup_run_ends.proofs.RunEndItemLaws.{all_unmap}
 use Rattle.sup_run_ends.proofs.drives.deal.Goals as goal

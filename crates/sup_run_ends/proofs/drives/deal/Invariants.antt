@@ -1,4 +1,4 @@
-use Rattle.std.proofs.Common.{◌≡◌, ℕ, List, All}
+use Rattle.std.proofs.Common.{◌≡◌, All}
 use Rattle.std.specs.List.{AllZip}
 use Rattle.sup_posts.specs.Drives.{IsFresh, places, HaveWhole, dealt_in}
 use Rattle.sup_run_ends.specs.Steps.{IsSeatOf, IsRowOf}

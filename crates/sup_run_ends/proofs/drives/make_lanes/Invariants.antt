@@ -1,6 +1,6 @@
 use Rattle.std.proofs.Common.{◌≡◌, ℕ, ◌++◌, map, All}
 use Rattle.sup_posts.specs.Jobs.{Seat, IsSeatAt, IsLane}
-use Rattle.sup_posts.specs.Drives.{IsFresh, LeadsToItsNode, of_lane}
+use Rattle.sup_posts.specs.Drives.{LeadsToItsNode, of_lane}
 use Rattle.sup_run_ends.proofs.drives.make_lanes.Given as goal
 
 abbrev pub invariant-loop-dealt : goal.invariant-loop-dealt

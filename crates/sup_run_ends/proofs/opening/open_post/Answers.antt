@@ -1,7 +1,4 @@
-use Rattle.std.proofs.Common.{◌≡◌, ◌∙◌, true, not, refl, ap, sym, subst}
-use Rattle.std.proofs.lemmas.Option.{same_Some}
-use Rattle.sup_keeper.specs.Keeping.{Kept}
-use Rattle.sup_node_gate.specs.InMemory.{sound_by}
+use Rattle.std.proofs.Common.{◌≡◌, ◌∙◌, ap, sym, subst}
 use Rattle.sup_node_gate.specs.Shares.{IsWhole}
 use Rattle.sup_node_gate.proofs.ShareLaws.{first_whole}
 use Rattle.sup_run_ends.proofs.opening.open_post.Goals as goal
