@@ -1,17 +1,16 @@
 -- The buffer: deltas joined one after another, and acknowledgements kept in a map.
-use Rattle.std.specs.Prelude.{ℕ, zero, suc, ◌≡◌, ◌+◌, ◌<◌, ◌≤◌, Bool, true, false, cond, List, [], ◌∷◌, length, drop, slice_get, Option, Some, None, refl, if◌then◌else◌}
+use Rattle.std.specs.Prelude.{ℕ, ◌≡◌, ◌+◌, ◌<◌, ◌≤◌, Bool, true, false, cond, List, [], ◌∷◌, length, drop, slice_get, Option, Some, None, refl, if◌then◌else◌}
 use Rattle.std.specs.Option.{unwrap_or}
 use Rattle.std.specs.Ordering.{eq_by_cmp}
 use Rattle.std.specs.BTreeMap.{BTreeMap, get, Updates}
-use Rattle.std.specs.Cmp.{IsEquivalence}
-use Rattle.std.proofs.Common.{sym, ap, ◌∙◌, subst, arith}
+use Rattle.std.proofs.Common.{sym, ap, ◌∙◌}
 use Rattle.std.proofs.lemmas.Cmp.{eq_by_cmp_equiv}
 use Rattle.std.proofs.lemmas.List.{at_drop_more}
 use Rattle.std.proofs.lemmas.Option.{get_or_from_slice_get, slice_get-get_or, slice_get_within}
 use Rattle.std.specs.Cmp.Lexicographic.{nat_list_cmp_total}
 use Rattle.sup_specs.specs.Values.{Bytes, text_cmp}
 use Rattle.sup_tables.specs.States.{State}
-use Rattle.sup_tables.specs.Joined.{IsTables, no_state, join_states, covers_state}
+use Rattle.sup_tables.specs.Joined.{IsTables, no_state, join_states}
 use Rattle.sup_tables.proofs.OneForm.{nothing_is_tables}
 use Rattle.sup_tables.proofs.StateJoins.{tables_both, states_commute, states_associate, nothing_more, covered_more}
 use Rattle.sup_anti_entropy.specs.Shipments.{joined_deltas, taken_in, IsEnough}

@@ -11,7 +11,7 @@ pub fn ships_are_right<L: Lattice>()
 {}
 
 /// Whatever one peer does keeps what is true between all peers: a counted change, a ship, a push, an acknowledgement that it
-/// sends or hears, a stop and a restart.
+/// sends or hears, a stop and a restart. An acknowledgement is sent to, or heard of, the only peer of its name.
 pub fn steps_keep_sound<L: Lattice>()
     ensures { HoldsForJoin L.join StepsKeepSound }
 {}

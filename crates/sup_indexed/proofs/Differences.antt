@@ -1,21 +1,16 @@
 -- Functions that a join leaves as they are, found by their values.
 use mathlib.Core.Bool.{false≢true}
-use Rattle.std.specs.Prelude.{ℕ, ◌≡◌, ◌⊎◌, Bool, true, false, not, cond, List, [], ◌∷◌, length, slice_get, Option, Some, None, IsSome, refl}
-use Rattle.std.proofs.Common.{sym, ap, ◌∙◌, subst, inl, inr}
+use Rattle.std.specs.Prelude.{ℕ, ◌≡◌, ◌⊎◌, Bool, true, false, not, cond, List, [], ◌∷◌, length, slice_get, Some, None, IsSome, refl}
+use Rattle.std.proofs.Common.{sym, ap, ◌∙◌, subst}
 use Rattle.std.proofs.lemmas.Option.{same_Some}
 use Rattle.std.specs.Ordering.{eq_by_cmp}
 use Rattle.std.specs.Map.{lookup}
 use Rattle.std.specs.BTreeMap.{is_at}
-use Rattle.sup_causal.specs.Merge.{IsMergeAt}
 use Rattle.sup_causal.specs.declared.dot.Dot.{Dot}
 use Rattle.sup_causal.specs.Dots.{dot_cmp}
 use Rattle.sup_causal.specs.DotLaws.{dot_exact}
-use Rattle.sup_dot_store.specs.declared.dot_fun.DotFun.{DotFun}
 use Rattle.sup_dot_store.specs.ByDot.{ByDot, at_dot}
 use Rattle.sup_dot_store.proofs.IndexLaws.{same}
-use Rattle.sup_dot_store.specs.Points.{standing, higher, value_at}
-use Rattle.sup_indexed.specs.Changed.{changed_at, value_in}
-use Rattle.sup_indexed.proofs.Joins.{untouched}
 
 -- a list of one element is that element's
 pub only_of : {X : Type 0} (es : List X) (x : X) → length es ≡ 1 → slice_get es 0 ≡ Some x → es ≡ x ∷ []

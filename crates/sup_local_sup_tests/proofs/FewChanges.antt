@@ -1,5 +1,5 @@
 -- Changes of what is wanted under an id or two.
-use Rattle.std.proofs.Common.{◌≡◌, List, [], ◌∷◌}
+use Rattle.std.proofs.Common.{◌≡◌, [], ◌∷◌}
 use Rattle.std.specs.declared.cmp.Ordering.TheVariants.{Less}
 use Rattle.sup_specs.specs.Values.{text_cmp}
 use Rattle.sup_causal.proofs.Rising.{one_rises, two_rise}

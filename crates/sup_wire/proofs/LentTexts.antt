@@ -3,8 +3,7 @@ use Rattle.std.proofs.Common.{◌≡◌, ℕ, ◌<◌, ◌^◌, ◌++◌, true, 
 use Rattle.std.specs.List.{AllByRecursion}
 use Rattle.sup_specs.specs.Values.{Bytes}
 use Rattle.sup_causal.specs.declared.dot.Dot.{Dot}
-use Rattle.sup_causal.specs.Dots.{Context, has, IsCounted}
-use Rattle.sup_tables.specs.declared.row.Row.{Row}
+use Rattle.sup_causal.specs.Dots.{has, IsCounted}
 use Rattle.sup_tables.specs.Lent.{rows_lent}
 use Rattle.sup_tables.specs.declared.lent.LentRow.{LentRow}
 use Rattle.sup_tables.specs.States.{State, HasDotsOf, with_rows}

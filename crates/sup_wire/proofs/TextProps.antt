@@ -1,5 +1,5 @@
 -- That texts are those of rows is one fact.
-use Rattle.std.proofs.Common.{◌≡◌, ◌<◌, ◌^◌, List, map, Option, Some, None}
+use Rattle.std.proofs.Common.{◌≡◌, ◌<◌, ◌^◌, List, Option, Some, None}
 use Rattle.std.specs.List.{AllByRecursion, AllByRecursion-prop}
 use Rattle.std.proofs.Props.{props}
 use Rattle.sup_specs.specs.Values.{Bytes}

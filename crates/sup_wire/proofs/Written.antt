@@ -1,5 +1,5 @@
 -- What the writers of whole messages give.
-use Rattle.std.proofs.Common.{◌≡◌, ◌≢◌, ℕ, ◌<◌, ◌^◌, true, List, Result, Ok, Err, refl, sym, ap₂, subst, ◌∙◌}
+use Rattle.std.proofs.Common.{◌≡◌, ◌≢◌, ℕ, ◌<◌, ◌^◌, true, List, Result, Ok, Err, refl, ap₂, subst, ◌∙◌}
 use Rattle.std.specs.Prelude.{OnOk}
 use Rattle.sup_specs.specs.Values.{Bytes}
 use Rattle.json.specs.Written.{Written}

@@ -1,4 +1,4 @@
-use Rattle.std.proofs.Common.{◌≡◌, length, None, IsSome}
+use Rattle.std.proofs.Common.{◌≡◌, length}
 use Rattle.std.specs.BTreeMap.{get}
 use Rattle.sup_dot_store.specs.Index.{value_under}
 use Rattle.sup_indexed.specs.Changed.{IsReady}

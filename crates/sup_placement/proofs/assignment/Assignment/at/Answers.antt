@@ -1,9 +1,9 @@
-use Rattle.std.proofs.Common.{◌≡◌, Bool, cond, Option, Some, None, sym, ap, subst, ◌∙◌}
+use Rattle.std.proofs.Common.{◌≡◌, cond, Some, None, sym, ap, subst, ◌∙◌}
 use Rattle.std.specs.Option.{is_some}
 use Rattle.std.specs.Str.{bytes_eq}
 use Rattle.std.specs.Map.{lookup}
 use Rattle.sup_placement.specs.Place.{place}
-use Rattle.sup_placement.specs.Assigned.{AssignedChildren, at, IsPlaced}
+use Rattle.sup_placement.specs.Assigned.{at, IsPlaced}
 use Rattle.sup_placement.proofs.ThereLaws.{by_bytes, there}
 use Rattle.sup_placement.proofs.assignment.Assignment.at.Goals as goal
 

@@ -1,4 +1,4 @@
-use Rattle.std.proofs.Common.{◌≡◌, ◌∙◌, ◌||◌, sym, ap}
+use Rattle.std.proofs.Common.{◌≡◌, ◌∙◌, ◌||◌}
 use Rattle.std.specs.Str.{bytes_eq}
 use Rattle.sup_placement.proofs.ThereLaws.{any_step, eq_turned}
 use Rattle.sup_placement.proofs.assignment.Assignment.over.Goals as goal

@@ -1,4 +1,4 @@
-use Rattle.std.proofs.Common.{◌≡◌, not, ◌&&◌, sym, ap, subst, ◌∙◌}
+use Rattle.std.proofs.Common.{◌≡◌, not, ◌&&◌, ap, ◌∙◌}
 use Rattle.std.specs.Str.{bytes_eq}
 use Rattle.sup_placement.specs.Assigned.{AssignedChildren, is_there}
 use Rattle.sup_placement.proofs.ThereLaws.{take_there, take_placed}
