@@ -1,6 +1,6 @@
 use Rattle.std.proofs.Common.{◌≡◌, ◌+◌, ◌-◌, ◌<◌, sym, ap, subst, ◌∙◌, drop, slice_get, None, rules}
 use Rattle.sup_anti_entropy.specs.Joins.{newest_of}
-use Rattle.sup_anti_entropy.specs.Shipments.taken_in
+use Rattle.sup_anti_entropy.specs.Shipments.{taken_in}
 use Rattle.sup_anti_entropy.proofs.BufferLaws.{taken_alone, next_taken, none_missing}
 use Rattle.sup_anti_entropy.proofs.buffer.Buffer.newest.Goals as goal
 use Rattle.sup_anti_entropy.proofs.buffer.Buffer.newest.Goals.{in-Some+in_ok-join_from, in_default}

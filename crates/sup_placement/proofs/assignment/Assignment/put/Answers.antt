@@ -1,7 +1,7 @@
 use Rattle.std.proofs.Common.{◌≡◌, ◌||◌, sym, ◌∙◌}
 use Rattle.std.specs.Str.{bytes_eq}
 use Rattle.sup_placement.specs.Place.{place}
-use Rattle.sup_placement.specs.Assigned.is_there
+use Rattle.sup_placement.specs.Assigned.{is_there}
 use Rattle.sup_placement.proofs.ThereLaws.{put_there, put_placed}
 use Rattle.sup_placement.proofs.assignment.Assignment.put.Goals as goal
 
