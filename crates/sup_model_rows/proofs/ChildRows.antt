@@ -9,7 +9,7 @@ use Rattle.sup_replica.specs.declared.letter.LetterKind.TheVariants.{Push}
 use Rattle.sup_replica.specs.declared.refusal.Refusal.TheVariants.{StaleExit}
 use Rattle.sup_model_rows.specs.Scripts.{◌⇒◌, show, letter, refused, Tells, prints}
 use Rattle.sup_model_rows.proofs.Lines.{join, join_as, leave, start, exit, push, stop, restart, deliver, at_moment}
-use Rattle.sup_model_rows.proofs.Words.{a, c, x, y, t, web, job, of_kind, sp, restarts, flat, with_intensity, dot, begins, ends, did, did_with, sent}
+use Rattle.sup_model_rows.proofs.Words.{a, c, x, y, t, web, job, of_kind, sp, with_arg, restarts, flat, with_intensity, dot, begins, ends, did, did_with, sent}
 
 -- A restart just a period old still counts, so the second is one too many.
 pub restarts_a_period_apart_still_count : Tells flat (a ∷ []) (
@@ -32,6 +32,16 @@ pub restarts_beyond_the_period_dont_count : Tells flat (a ∷ []) (
     ∷ [])
 unfolding has digits
 restarts_beyond_the_period_dont_count = (refl, refl)
+
+-- Each run of a child has its specification.
+pub each_run_of_a_child_has_its_specification : Tells flat (a ∷ []) (
+    join a ⇒ did a (Added (dot a 1))
+    ∷ start a web (with_arg (codes "x") sp) ⇒ did_with a (Added (dot a 2)) (begins web (with_arg (codes "x") sp) 1 1 ∷ [])
+    ∷ at_moment 10 (exit a web 1 1 Crash) ⇒ did_with a Restarted (begins web (with_arg (codes "x") sp) 1 2 ∷ [])
+    ∷ at_moment 16 (exit a web 1 2 Crash) ⇒ did_with a Restarted (begins web (with_arg (codes "x") sp) 1 3 ∷ [])
+    ∷ [])
+unfolding has digits
+each_run_of_a_child_has_its_specification = (refl, refl)
 
 -- With no restart allowed a node gives up at the first.
 pub an_intensity_of_0_gives_up_at_once : Tells (with_intensity 0 flat) (a ∷ []) (
