@@ -50,12 +50,12 @@ class Page(unittest.TestCase):
     def test_machines_and_children_are_shown_with_place_run_restarts_and_last_exit(self):
         os.kill(self.machines.process("web"), signal.SIGKILL)
         until(10, lambda: re.search(r"<code>web</code>.*?signal 9", self.get(self.base + "/tables?key=" + self.key)), "the exit is shown")
-        shown = self.get(self.url)
-        for name in "abc":
-            self.assertRegex(shown, f"<code>{name}</code></td><td>open")
-        for ident, place in self.machines.where(["web", "queue", "mail"]).items():
-            self.assertRegex(shown, f"<code>{ident}</code></td><td><code>{place}</code></td><td><code>{place}</code>")
-        self.assertRegex(shown, "<code>web</code>(</td><td>|<code>|</code>|[a-z0-9.])*<code>1</code></td><td><code>signal 9")
+        until(10, lambda: self.machines.each_once(["web", "queue", "mail"]), "each runs")
+        rows = [f"<code>{name}</code></td><td>open" for name in "abc"]
+        rows += [f"<code>{ident}</code></td><td><code>{place}</code></td><td><code>{place}</code>" for ident, place in self.machines.where(["web", "queue", "mail"]).items()]
+        rows.append("<code>web</code>(</td><td>|<code>|</code>|[a-z0-9.])*<code>1</code></td><td><code>signal 9")
+        for row in rows:
+            until(10, lambda: re.search(row, self.get(self.url)), row)
 
     def test_forms_start_drain_and_delete(self):
         self.assertIn("ok (a,", self.post(key=self.key, verb="start", id="one", kind="sleep", arg="1000"))
