@@ -1,190 +1,156 @@
-"""The children as processes: each in a session and a group of its own, begun and ended as the node orders.
-
-A run of a child begins only once its earlier run has ended, here and, as far as is heard, on other machines. It is ended by SIGTERM to its
-process group, and by SIGKILL once its shutdown has passed. Where a run's first process has ended, the rest of its process group is killed.
+"""The runs of one group as processes, each under the key that the core gave it, in a session and a process group of its own, and in a cgroup of
+its own where there are such.
 """
 import os
-import signal
 import subprocess
-import types
 
-import processes
+import beside
+import cgroups
+import health
+import leftovers
+import limits
+import one_run
+import users
 from clock import seconds
 
-NO_PROCESS = types.SimpleNamespace(pid=0, returncode=0)
-GONE_WITHIN = 5  # seconds in which killed processes end, if they ever do
-LINGER = 0.02    # seconds between two looks at them, where no signal tells of their end
-
-
-def reason_of(status):
-    return "normal" if status == 0 else "failed" if status in processes.NOT_BEGUN else "crash"
-
-
-class Run:
-    """A process of a child: its run's number, under which it ends, may become another one."""
-
-    def __init__(self, ident, number, spec, process):
-        self.id, self.number, self.spec, self.process = ident, number, spec, process
-        self.kill_at = self.given_up_at = None
-
-    def signal(self, number):
-        """Signals the whole process group. Its number stays this run's until its process is reaped."""
-        if self.process.returncode is None:
-            try:
-                os.killpg(self.process.pid, number)
-            except (ProcessLookupError, PermissionError):
-                pass
-
-    def end(self, now):
-        shutdown = self.spec["shutdown"]
-        if shutdown == "brutal_kill":
-            self.signal(signal.SIGKILL)
-            return
-        self.signal(signal.SIGTERM)
-        self.signal(signal.SIGCONT)  # one that is stopped hears it then
-        self.kill_at = None if shutdown == "infinity" else now + int(shutdown) / 1000
-
-    def has_ended(self):
-        """Whether its first process has, and with it its whole process group, which is killed then."""
-        if self.process.returncode is None:
-            if os.waitid(os.P_PID, self.process.pid, os.WEXITED | os.WNOHANG | os.WNOWAIT) is None:
-                return False
-            self.signal(signal.SIGKILL)
-            self.process.wait()
-            self.given_up_at = seconds() + GONE_WITHIN
-        return not processes.has_any(self.process.pid) or seconds() > self.given_up_at
-
-    def lingers(self):
-        """Whether its first process has ended, and others of its process group were there still."""
-        return self.process.returncode is not None
-
-
-class Note:
-    """A run of a kind without a program: it has no process, and ends when it is told to."""
-
-    def __init__(self, ident, number, spec):
-        self.id, self.number, self.spec, self.process, self.kill_at, self.is_over = ident, number, spec, NO_PROCESS, None, False
-
-    def end(self, now):
-        self.is_over = True
-
-    def signal(self, number):
-        self.is_over = True
-
-    def has_ended(self):
-        return self.is_over
-
-    def lingers(self):
-        return self.is_over
+LINGER = 0.02    # seconds between two looks at killed processes, where no signal tells of their end
+KEPT = ("PATH", "HOME", "LANG", "LANGUAGE", "TZ", "USER", "LOGNAME", "SHELL", "TMPDIR")  # of the agent's variables, those that its children get
+HELD = 2         # seconds without a look from which on this process didn't listen, and no check is to blame
+NEVER = float("inf")
 
 
 class Children:
-    """The runs of one group: those that run, those that were told to end, and those that wait for their begin."""
-
-    def __init__(self, name, kinds, mark, log):
-        self.name, self.kinds, self.mark, self.log = name, kinds, mark, log
-        self.running, self.ending, self.waiting = {}, [], {}  # id to run; runs; id to (number, spec)
-        self.changes = 0  # how often what is told has changed
+    def __init__(self, name, group, kinds, mark, cgroup, loop, logs, log):
+        """`mark` is the image's path. `cgroup` is the folder in which each run gets a cgroup of its own, None where there is none."""
+        self.name, self.group, self.kinds, self.mark, self.cgroup, self.loop, self.logs, self.log = name, group, kinds, mark, cgroup, loop, logs, log
+        self.runs, self.watched = {}, set()  # of each key its run; the keys of those that are to be looked at though they haven't ended
+        self.sessions = leftovers.Sessions(mark + ".sessions")
         self.lingers = False  # whether what was killed hasn't ended yet
-        self.restarts, self.last = {}, {}  # of each id since this agent began: how often it was begun again, how its last run ended
+        self.look_at, self.looked_at = 0, 0  # when the watched ones want to be looked at, and when that was asked for last
+        self.told = set()     # what nothing limits here, of which the log has told
+        self.goes_on = False  # whether an earlier program of this agent has handed on what runs
 
-    def busy(self):
-        """The ids of which there is a process."""
-        return set(self.running) | {run.id for run in self.ending}
+    def begin(self, key, ident, number, spec):
+        """Begins a run. Its process's number, 0 where it has none. OSError or ValueError where it can't be begun."""
+        name, _, shutdown, arg = spec.split(" ", 3)
+        kind = self.kinds.of(ident, name, arg.removeprefix("arg="))
+        if not kind.command:
+            self.runs[key] = one_run.Note(kind)
+            return 0
+        user, cgroup, stream = users.of(kind.user, kind.group), self.cgroup_of(key), None
+        try:
+            bounds, unkept = limits.words(kind.limits, cgroup)
+            place = beside.Place([*(cgroup.before() if cgroup else ()), *bounds], user, folder_of(kind), self.environment(kind, user, ident, number))
+            watch = health.Health(kind, place, self.loop, self.wake, seconds()) if kind.health or kind.ready else None
+            stream = self.logs.stream(ident, number, kind)
+            process = place.begin(kind.command, stream.output if stream else subprocess.DEVNULL)
+        except (OSError, ValueError, subprocess.SubprocessError):
+            if stream:
+                stream.close()
+            if cgroup:
+                cgroup.remove()
+            raise
+        if stream:
+            stream.has_begun()
+        place.environment["SEBRAKT_PROCESS"] = str(process.pid)  # for the programs beside it
+        self.take(key, one_run.Run(process, kind, shutdown, place, cgroup, stream, watch))
+        self.tell_unkept(name, unkept)
+        return process.pid
 
-    def do(self, orders):
-        """Takes the node's orders, in their order. What starts waits for `begin`."""
-        for verb, ident, number, spec in orders:
-            if verb == "start":
-                self.waiting[ident] = (number, spec)
-            elif ident in self.running and self.running[ident].number == number:
-                self.stop(self.running.pop(ident))
-            elif self.waiting.get(ident, ("", None))[0] == number:
-                del self.waiting[ident]
+    def take(self, key, run):
+        self.runs[key] = run
+        self.sessions.note(run.process.pid)
+        if run.is_watched:
+            self.watched.add(key)
+            self.wake()
 
-    def stop(self, run):
-        self.log("stop", run.id, run.number, run.process.pid)
-        run.end(seconds())
-        self.ending.append(run)
-        self.changes += 1
-        self.lingers = self.lingers or run.lingers()
+    def resume(self, key, run):
+        """Takes a run that an earlier program of this agent has begun."""
+        self.runs[key], self.goes_on = run, True
+        if run.is_watched:
+            self.watched.add(key)
 
-    def adopt(self, orders):
-        """Takes the orders of a node that was begun anew: what runs under the same specification goes on under its new number, all else ends."""
-        before, self.running, self.waiting, self.changes = self.running, {}, {}, self.changes + 1
-        starts = {ident: (number, spec) for verb, ident, number, spec in orders if verb == "start"}
-        for ident, run in before.items():
-            number, spec = starts.get(ident, (None, None))
-            if spec == run.spec and not run.has_ended():
-                run.number = number
-                self.running[ident] = run
-            else:
-                self.stop(run)
-        self.do([order for order in orders if order[1] not in self.running])
+    def rename(self, old, key):
+        """Has a run go on under another key. Its process's number."""
+        self.runs[key] = self.runs.pop(old)
+        self.watched = {key if one == old else one for one in self.watched}
+        return self.runs[key].process.pid
 
-    def forget(self):
-        """Forgets what is told of children that this machine has nothing to do with any more."""
-        here = self.busy() | set(self.waiting)
-        for told in (self.restarts, self.last):
-            for ident in [ident for ident in told if ident not in here]:
-                del told[ident]
+    def wake(self):
+        self.look_at = 0
 
-    def stop_all(self):
-        self.waiting = {}
-        for ident in reversed(list(self.running)):
-            self.stop(self.running.pop(ident))
+    def environment(self, kind, user, ident, number):
+        kept = {name: value for name, value in os.environ.items() if name in KEPT or name.startswith("LC_")}
+        own = {"SEBRAKT_ID": ident, "SEBRAKT_RUN": number, "SEBRAKT_NODE": self.name, leftovers.MARK: self.mark}
+        return {**kept, **(user.variables if user else {}), **kind.environment, **own}
 
-    def kill_all(self):
-        """Kills what was told to end."""
-        for run in self.ending:
-            run.signal(signal.SIGKILL)
+    def tell_unkept(self, kind, limits_unkept):
+        """Tells once of a kind what nothing limits here."""
+        if limits_unkept and kind not in self.told:
+            self.told.add(kind)
+            self.log("nothing limits", ", ".join(limits_unkept), "of kind", kind, "here: the agent has no cgroup with a controller for it")
 
-    def begin(self, idents):
-        """Begins these, which wait and have no process here. The ends (id, number, reason) of what couldn't be begun."""
-        faults = []
-        self.changes += len(idents)
-        for ident in idents:
-            number, spec = self.waiting.pop(ident)
-            try:
-                self.running[ident] = self.run_of(ident, number, spec)
-                self.log("start", ident, number, self.running[ident].process.pid)
-            except (OSError, ValueError, subprocess.SubprocessError) as fault:
-                self.log("no start", ident, number, fault)
-                self.last[ident] = "failed"
-                faults.append((ident, number, "failed"))
-        return faults
+    def cgroup_of(self, key):
+        try:
+            return cgroups.make(self.cgroup, f"{os.getpid()}.{self.group}.{key}") if self.cgroup else None
+        except OSError:
+            return None
 
-    def run_of(self, ident, number, spec):
-        words = self.kinds.of(ident, spec)
-        if not words:
-            return Note(ident, number, spec)
-        environment = dict(os.environ, SEBRAKT_ID=ident, SEBRAKT_RUN=number, SEBRAKT_NODE=self.name, **{processes.MARK: self.mark})
-        return Run(ident, number, spec, processes.begin(words, stdin=subprocess.DEVNULL, env=environment))
+    def term(self, key):
+        if key in self.runs:
+            self.runs[key].term()
+            self.wake()
+            self.lingers = self.lingers or self.runs[key].lingers()
+
+    def kill(self, key):
+        if key in self.runs:
+            self.runs[key].kill()
+            self.lingers = self.lingers or self.runs[key].lingers()
 
     def ended(self):
-        """The ends (id, number, reason) that nobody ordered, since the last call."""
-        ending, self.ending = self.ending, [run for run in self.ending if not run.has_ended()]
-        ends = [run for run in self.running.values() if run.has_ended()]
-        self.changes += len(ending) - len(self.ending) + len(ends)
-        for run in ends:
-            status = run.process.returncode
-            del self.running[run.id]
-            self.last[run.id] = f"status {status}" if status >= 0 else f"signal {-status}"
-            self.log("ended", run.id, run.number, self.last[run.id])
-        self.lingers = any(run.lingers() for run in [*self.running.values(), *self.ending])
-        return [(run.id, run.number, reason_of(run.process.returncode)) for run in ends]
+        """Of each run that has ended since the last call (key, status, why it failed)."""
+        ends = [(key, run) for key, run in self.runs.items() if run.has_ended()]
+        told = [(key, *run.end()) for key, run in ends]
+        for key, run in ends:
+            del self.runs[key]
+            self.watched.discard(key)
+            run.close(self.sessions)
+        self.lingers = any(run.lingers() for run in self.runs.values())
+        return told
 
-    def kill_late(self):
-        """Kills what was told to end and whose shutdown has passed. When there is to be looked again, None where a signal tells."""
-        now = seconds()
-        for run in self.ending:
-            if run.kill_at is not None and run.kill_at <= now:
-                run.kill_at = None
-                run.signal(signal.SIGKILL)
-        moments = [run.kill_at for run in self.ending if run.kill_at is not None] + [now + LINGER] * self.lingers
+    def look(self, now, some_ended):
+        """Looks at the runs that are checked or timed, where it is time. Of each of which there is something new to be told (key, note, the
+        seconds for which its child waits at least when it has ended).
+        """
+        was_held, self.looked_at = now - self.looked_at > HELD, now
+        if not (self.watched and (some_ended or now >= self.look_at)):
+            return []
+        for run in [self.runs[key] for key in self.watched if was_held and self.runs[key].health]:
+            run.health.excuse(now)
+        self.look_at = NEVER
+        for key in self.watched:
+            self.runs[key].look(now)
+        self.look_at = min(self.look_at, *(self.runs[key].moment() for key in self.watched))
+        return [(key, note, self.runs[key].kind.delay) for key in self.watched if (note := self.runs[key].note()) is not None]
+
+    def next_moment(self, now):
+        """When it wants to be looked at again, though nothing happens; None where it doesn't."""
+        moments = [now + LINGER] * self.lingers + [self.look_at] * bool(self.watched)
         return min(moments, default=None)
 
-    def told(self):
-        """What others are told: of each id with a process its run's number, its process, how often it was begun again, its last end."""
-        runs = list(self.running.values()) + self.ending
-        return {run.id: [run.number, run.process.pid, self.restarts.get(run.id, 0), self.last.get(run.id, "")] for run in runs}
+    def rest(self):
+        """Makes no more checks: another program does, of the same process."""
+        for run in [self.runs[key] for key in self.watched if self.runs[key].health]:
+            run.health.close()
+
+    def end_leftovers(self):
+        """Ends what an agent that was killed has left running. How many processes that were. Only who has the image's lock may say this."""
+        ended = 0 if self.goes_on else leftovers.end(self.mark, *self.sessions.left())
+        self.sessions.begin()
+        return ended
+
+
+def folder_of(kind):
+    if kind.folder is not None and not os.path.isdir(kind.folder):
+        raise OSError(0, f"no folder {kind.folder}")
+    return kind.folder

@@ -8,7 +8,7 @@ import hashlib
 MOST = 64
 CHILD_AT = {"start": 1, "replace": 1, "delete": 1, "register": 2}  # the place of the child's id in a line
 OF_NAMES = {"where", "unregister"}
-OF_ALL = {"show", "inspect", "members", "image", "join", "leave", "drain"}
+OF_ALL = {"show", "inspect", "members", "image", "join", "leave", "drain", "begin"}  # `begin alone` is the agent's own
 OF_PEOPLE = set(CHILD_AT) | OF_NAMES | OF_ALL
 
 
@@ -27,36 +27,61 @@ def tag_of(number, count):
     return f"{number}/{count}"
 
 
-def answer(groups, line):
-    """What somebody who asks is told, by the groups that a line concerns. Each group has `answer(line)` and a `tag`."""
+def ask(groups, line, answer):
+    """Has the groups that a line concerns asked; `answer` takes what somebody who asks is told. Each group has `command(line, then)` and a `tag`."""
     words = line.split(" ")
     if words[0] not in OF_PEOPLE:
-        return ["not asked: " + ", ".join(sorted(OF_PEOPLE))]
-    if words[0] in OF_ALL or len(groups) == 1:
-        return answer_of_each(groups, line)
-    if words[0] in OF_NAMES:
-        return answer_of_each([group for group in groups if has_name(group, words[-1])] or groups[:1], line)
-    place = CHILD_AT[words[0]]
-    if len(words) <= place:
-        return ["bad line"]
-    own = groups[group_of(words[place], len(groups))]
-    if words[0] == "register" and any(has_name(group, words[1]) for group in groups if group is not own):
-        return ["refused 8 NameTaken"]
-    return own.answer(line)
+        answer(["not asked: " + ", ".join(sorted(OF_PEOPLE))])
+    elif words[0] in OF_ALL or len(groups) == 1:
+        ask_each(groups, line, answer)
+    elif words[0] in OF_NAMES:
+        find_name(groups, words[-1], lambda having: ask_each(having or groups[:1], line, answer))
+    elif len(words) <= CHILD_AT[words[0]]:
+        answer(["bad line"])
+    else:
+        ask_own(groups, groups[group_of(words[CHILD_AT[words[0]]], len(groups))], line, answer)
 
 
-def answer_of_each(groups, line):
+def ask_own(groups, own, line, answer):
+    """Has a child's group asked. A name stands in one group alone."""
+    verb, name, *_ = line.split(" ")
+    if verb == "register":
+        others = [group for group in groups if group is not own]
+        find_name(others, name, lambda having: answer(["refused 8 NameTaken"]) if having else own.command(line, answer))
+    else:
+        own.command(line, answer)
+
+
+def ask_each(groups, line, answer):
     if len(groups) == 1:
-        return groups[0].answer(line)
-    return [told for group in groups for told in ["group " + group.tag, *group.answer(line)]]
+        groups[0].command(line, answer)
+    else:
+        gather(groups, line, lambda told: answer([one for group, lines in zip(groups, told) for one in ["group " + group.tag, *lines]]))
 
 
-def has_name(group, name):
-    return group.answer("where " + name) not in ([f"{name} unknown"], ["bad line"], NO_NODE)
+def find_name(groups, name, then):
+    """`then` takes the groups that have a name."""
+    gather(groups, "where " + name, lambda told: then([group for group, lines in zip(groups, told) if is_place(lines, name)]))
 
 
-NO_NODE = ["no node"]
-NOT_DONE = ("refused ", "bad line", "no node", "not asked")  # how the answers begin of lines that did nothing
+def is_place(lines, name):
+    return is_done(lines) and lines != [f"{name} unknown"]
+
+
+def gather(groups, line, then):
+    """Asks each group a line; `then` takes what each has told, once all have."""
+    told = {}
+
+    def take(number, lines):
+        told[number] = lines
+        if len(told) == len(groups):
+            then([told[number] for number in range(len(groups))])
+    for number, group in enumerate(groups):
+        group.command(line, lambda lines, number=number: take(number, lines))
+
+
+NOT_YET = ("no node", "not yet")  # how the answers begin of a machine that begins
+NOT_DONE = ("refused ", "bad line", "not asked", "not upgraded", *NOT_YET)  # how the answers begin of lines that did nothing
 
 
 def first_lines(told):
@@ -67,3 +92,8 @@ def first_lines(told):
 def is_done(told):
     """Whether each group that a line concerns has done it."""
     return not any(line.startswith(NOT_DONE) for line in first_lines(told))
+
+
+def is_early(told):
+    """Whether some group could take no command yet."""
+    return any(line.startswith(NOT_YET) for line in first_lines(told))

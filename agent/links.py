@@ -1,165 +1,130 @@
-"""Letters over TCP: one connection from each machine to each other, and connections of those who ask.
+"""Lines over TCP: one connection that each machine makes to each other one, and connections of those who ask.
 
-Whoever accepts a connection says `hello NAME CHALLENGE` first; all that comes over it is sealed under that challenge. A connection that hasn't
-brought one right line may hold few bytes and a few seconds, so that strangers cost little. Nothing here waits: the loop's selector tells what
-can be read and written.
+Whoever accepts a connection says `hello NAME CHALLENGE` first, and all that comes over it is sealed under that challenge. A machine that has made
+one says `hello CHALLENGE` over it, sealed, and what it is told over it is sealed under this. So lines go both ways over each connection. One that
+hasn't brought one right line may hold few bytes and a few seconds, so that strangers cost little. Who is refused is told why, and no more.
 """
 import resource
 import selectors
 import socket
 
 import seals
+import wires
 from clock import seconds
 
-LONGEST = 64 << 20    # bytes of a line
-OF_STRANGERS = 4096   # bytes of a line, as long as no right one came
 MOST_HELD = 128 << 20  # bytes of lines that have not come whole, of all connections
 MOST_CALLERS = 400    # connections that were accepted, or half as many as the files that a process may have open
 STRANGERS_TIME = 5    # seconds until the first right line
-MOST_UNSENT = 4 << 20  # bytes to a peer, behind which no further letter is taken
-CHUNK = 1 << 18
-CHUNKS = 32  # that are read in one turn of one connection
+MOST_UNSENT = 4 << 20  # bytes to a machine, behind which no further letter is taken; or to who asks
 
 
-def address_of(text):
-    """A host and a port. ValueError where the text is none."""
-    host, colon, port = text.rpartition(":")
-    if not colon or not port.isdecimal() or not 0 < int(port) < 65536:
-        raise ValueError(f"{text}: not of the form HOST:PORT")
-    return host.strip("[]"), int(port)
+class TcpWay:
+    """A connection with a process of another machine."""
 
+    def __init__(self, name, mark, wire, seal, is_own):
+        self.name, self.mark, self.wire, self.seal, self.is_own = name, mark, wire, seal, is_own
 
-def family_of(address):
-    return socket.AF_INET6 if ":" in address[0] else socket.AF_INET
+    @property
+    def came(self):
+        return self.wire.came
 
+    @property
+    def said(self):
+        return self.wire.said
 
-class Wire:
-    """A connection whose bytes are cut into lines: `heard` is called with each, without its line feed, `lost` once when it ends."""
+    def say(self, text):
+        self.wire.send(self.seal.line(text))
 
-    def __init__(self, loop, link, heard, lost, longest):
-        self.loop, self.link, self.heard, self.lost, self.longest = loop, link, heard, lost, longest
-        self.come, self.unsent, self.open, self.moved = bytearray(), bytearray(), True, seconds()
-        link.setblocking(False)
-        loop.register(link, selectors.EVENT_READ, self.ready)
+    def is_ready(self):
+        return len(self.wire.unsent) <= MOST_UNSENT
 
-    def ready(self, events):
-        if self.open and events & selectors.EVENT_WRITE:
-            self.write()
-        if self.open and events & selectors.EVENT_READ:
-            self.read()
-
-    def read(self):
-        """Takes what has come; from one who is known more than one chunk, so that a loop whose turns are long keeps up."""
-        for _ in range(CHUNKS if self.longest == LONGEST else 1):
-            if not (self.open and self.read_chunk()):
-                return
-
-    def read_chunk(self):
-        """Whether there may be more."""
-        try:
-            chunk = self.link.recv(CHUNK)
-        except BlockingIOError:
-            return False
-        except OSError:
-            chunk = b""
-        if not chunk:
-            self.close()
-            return False
-        self.take(chunk)
-        return len(chunk) == CHUNK
-
-    def take(self, chunk):
-        *lines, rest = chunk.split(b"\n")
-        for line in lines:
-            self.come += line
-            line, self.come = bytes(self.come), bytearray()
-            self.cut(line)
-        self.come += rest
-        if len(self.come) > self.longest:
-            self.close("too long")
-
-    def cut(self, line):
-        if self.open and len(line) > self.longest:
-            self.close("too long")
-        elif self.open:
-            self.heard(line)
-
-    def send(self, line):
-        """Sends a line, now or as soon as it goes."""
-        if not self.open:
-            return
-        if not self.unsent:
-            self.moved = seconds()
-        self.unsent += line.encode("ascii") + b"\n"
-        if len(self.unsent) > 2 * LONGEST:
-            self.close("too slow")
-        else:
-            self.write()
-
-    def write(self):
-        try:
-            sent = self.link.send(self.unsent) if self.unsent else 0
-        except BlockingIOError:
-            sent = 0
-        except OSError:
-            self.close()
-            return
-        if sent:
-            self.moved = seconds()
-            del self.unsent[:sent]
-        self.loop.modify(self.link, selectors.EVENT_READ | (selectors.EVENT_WRITE if self.unsent else 0), self.ready)
-
-    def close(self, why=None):
-        if self.open:
-            self.open, self.come, self.unsent = False, bytearray(), bytearray()
-            self.loop.unregister(self.link)
-            self.link.close()
-            self.lost(why)
+    def close(self):
+        self.wire.close()
 
 
 class Caller:
-    """A connection that was accepted."""
+    """A connection that was accepted: of somebody who asks, or of a machine, and then a way to it."""
 
     def __init__(self, server, link, host):
         self.server, self.host, self.since, self.known = server, host, seconds(), False
-        self.guard, self.seals = seals.Guard(server.secret, server.name, seals.fresh()), {}  # and of each session that asks what seals its answers
-        self.wire = Wire(server.loop, link, self.heard, self.lost, OF_STRANGERS)
+        self.guard, self.answers, self.way = seals.Guard(server.secret, server.name, seals.fresh()), {}, None  # of each session that asks what seals its answers
+        self.by = ""  # who asks, by his own word
+        self.wire = wires.Wire(server.loop, link, self.heard, self.lost, wires.OF_STRANGERS)
         server.callers.add(self)
         self.wire.send(f"hello {server.name} {self.guard.challenge}")
 
     def heard(self, line):
         try:
             sender, session, text = self.guard.open(line)
-            self.server.take(sender, text, lambda lines: self.answer(session, lines))
+            if sender == seals.CLIENT:
+                self.take_question(session, text)
+            else:
+                self.take_line(sender, session, text)
         except seals.Refused as refusal:
-            self.server.refuse(self.host, refusal)
-            self.wire.close()
+            self.wire.close(str(refusal))
             return
-        self.known, self.wire.longest = True, LONGEST
+        self.known, self.wire.longest = True, wires.LONGEST
+
+    def take_question(self, session, text):
+        word, _, line = text.partition(" ")
+        if word == "ask":
+            self.server.hearer.asked(line, lambda lines: self.answer(session, lines), self.by, self.host)
+        elif word == "hello":
+            self.by = line
+        else:
+            raise seals.Refused("no question")
 
     def answer(self, session, lines):
-        """Answers one who asked, by lines sealed under the session that it named."""
-        seal = self.seals.setdefault(session, seals.Seal(self.server.secret, self.server.name, self.guard.challenge, seals.CLIENT, session))
+        """Answers one who asked, by lines sealed under the session that it named. Who reads no answers is given no more."""
+        if len(self.wire.unsent) > MOST_UNSENT:
+            self.wire.close("reads no answers")
+        seal = self.answers.setdefault(session, seals.Seal(self.server.secret, self.server.name, self.guard.challenge, seals.CLIENT, session))
         for line in lines:
             self.wire.send(seal.line("line " + line))
         self.wire.send(seal.line("end"))
 
+    def take_line(self, sender, session, text):
+        if self.way is None:
+            self.way = self.server.way_of(sender, session, text, self.wire)
+        elif (sender, session) != (self.way.name, self.way.mark):
+            raise seals.Refused("another machine's line")
+        elif text != "hello":
+            self.server.hearer.take(sender, session, text)
+
     def lost(self, why):
         if why:
-            self.server.refuse(self.host, why)
+            self.server.hearer.refuse(self.host, why)
         self.server.callers.discard(self)
+        if self.way is not None:
+            self.server.ways.drop(self.way)
 
 
 class Server:
-    """Accepts connections at an address. `take(sender, text, answer)` is called with each right line, `refuse(host, why)` for each other one."""
+    """Accepts connections at an address. The hearer has `asked(line, answer, by, whence)`, `take(sender, mark, text)` and `refuse(where, why)`."""
 
-    def __init__(self, loop, address, name, secret, take, refuse):
-        """OSError where the address can't be had."""
-        self.loop, self.name, self.secret, self.take, self.refuse = loop, name, secret, take, refuse
+    def __init__(self, loop, address, name, mark, secret, hearer, file=None):
+        """`file` is a socket that listens there already. OSError where the address can't be had."""
+        self.loop, self.name, self.mark, self.secret, self.hearer = loop, name, mark, secret, hearer
+        self.ways, self.known = None, ()  # where this server's connections are ways, too: these, of these machines
         self.callers, self.most = set(), min(MOST_CALLERS, resource.getrlimit(resource.RLIMIT_NOFILE)[0] // 2)
-        self.socket = socket.create_server(address, family=family_of(address), backlog=128)
-        self.socket.setblocking(False)
-        loop.register(self.socket, selectors.EVENT_READ, self.accept)
+        self.socket = wires.listen(address, 128, file)
+        self.listens(True)
+
+    def listens(self, whether):
+        """Takes connections, or takes none for a while: who connects then waits."""
+        if whether != (self.socket in self.loop.get_map()):
+            self.loop.register(self.socket, selectors.EVENT_READ, self.accept) if whether else self.loop.unregister(self.socket)
+
+    def way_of(self, sender, mark, text, wire):
+        """The way to a machine that has begun a connection by `hello CHALLENGE`. Refused where it is none."""
+        word, _, challenge = text.partition(" ")
+        may_come_later = self.ways is not None and self.secret is not None and sender != self.name  # who has the secret and no peer's name
+        if not (sender in self.known or may_come_later) or word != "hello" or not seals.SESSION.fullmatch(challenge):
+            raise seals.Refused("no line of a machine of this cluster")
+        way = TcpWay(sender, mark, wire, seals.Seal(self.secret, self.name, self.mark, sender, challenge), False)
+        way.say("hello")
+        self.ways.add(way)
+        return way
 
     def accept(self, _):
         for _ in range(self.most // 2):
@@ -188,101 +153,7 @@ class Server:
             max(self.callers, key=lambda caller: len(caller.wire.come)).wire.close("too many bytes")
 
     def close(self):
-        self.loop.unregister(self.socket)
+        self.listens(False)
         self.socket.close()
         for caller in list(self.callers):
             caller.wire.close()
-
-
-class Peer:
-    """The connection to one other machine: begun anew where it is lost, and closed where nothing moves for `patience` seconds."""
-
-    def __init__(self, loop, name, address, me, session, secret, patience, log):
-        self.loop, self.name, self.address, self.me, self.session, self.secret = loop, name, address, me, session, secret
-        self.patience, self.log = patience, log
-        self.wire, self.seal, self.again_at = None, None, 0
-
-    def tick(self, now):
-        if self.wire is None and now >= self.again_at:
-            self.again_at = now + min(0.5, self.patience / 4)
-            self.connect()
-        elif self.wire is not None and now - self.wire.moved > self.patience and (self.seal is None or self.wire.unsent):
-            self.wire.close()
-
-    def connect(self):
-        """Begins a connection, to an address in numbers, since a look-up may wait."""
-        try:
-            link = socket.socket(family_of(self.address), socket.SOCK_STREAM)
-        except OSError:
-            return
-        link.setblocking(False)
-        link.setsockopt(socket.IPPROTO_TCP, socket.TCP_NODELAY, 1)
-        link.setsockopt(socket.IPPROTO_TCP, socket.TCP_USER_TIMEOUT, int(self.patience * 1000))
-        try:
-            link.connect(self.address)
-        except BlockingIOError:
-            pass
-        except OSError:
-            link.close()
-            return
-        self.wire = Wire(self.loop, link, self.heard, self.lost, OF_STRANGERS)
-
-    def heard(self, line):
-        words = line.decode("ascii", "replace").split(" ")
-        if self.seal is None and len(words) == 3 and words[:2] == ["hello", self.name] and seals.SESSION.fullmatch(words[2]):
-            self.seal = seals.Seal(self.secret, self.me, self.session, self.name, words[2])
-            self.send("hello")  # a short line: until a right one has come a long one is taken for a stranger's
-            return
-        self.log(f"what answers at the address of {self.name} says no hello of it")
-        self.again_at = seconds() + 5
-        self.wire.close()
-
-    def lost(self, _):
-        self.wire = self.seal = None
-
-    def is_ready(self):
-        """Whether a letter would leave: one to whom much has not left yet gets no more."""
-        return self.seal is not None and len(self.wire.unsent) <= MOST_UNSENT
-
-    def send(self, text):
-        if self.is_ready():
-            self.tell(text)
-
-    def tell(self, text):
-        """Sends a line whatever waits before it."""
-        if self.seal is not None:
-            self.wire.send(self.seal.line(text))
-
-
-class TcpLinks:
-    """The peers, each by its address."""
-
-    def __init__(self, loop, addresses, me, session, secret, patience, log):
-        self.peers = {name: Peer(loop, name, address, me, session, secret, patience, log) for name, address in addresses.items()}
-
-    def names(self):
-        return list(self.peers)
-
-    def knows(self, name):
-        """Whether this machine would hear of that one, so that its silence says something."""
-        return name in self.peers
-
-    def is_ready(self, name):
-        return name in self.peers and self.peers[name].is_ready()
-
-    def send(self, name, text):
-        if name in self.peers:
-            self.peers[name].send(text)
-
-    def tell(self, name, text):
-        if name in self.peers:
-            self.peers[name].tell(text)
-
-    def tick(self, now):
-        for peer in self.peers.values():
-            peer.tick(now)
-
-    def close(self):
-        for peer in self.peers.values():
-            if peer.wire is not None:
-                peer.wire.close()

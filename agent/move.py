@@ -17,13 +17,13 @@ class NotMoved(Exception):
     """What was refused, and what is to be said by hand."""
 
 
-def move(here, there, secret, tell, without=()):
-    """Moves them from the cluster of the agent at one address to that of another. NotMoved; NoAnswer where an agent can't be reached at the begin.
+def move(here, there, secret, tell, without=(), wait=0):
+    """Moves them from the cluster of the agent at one address to that of another. NotMoved; NoAnswer where an agent isn't there within `wait` seconds.
 
     Each machine of the first cluster has to be there, but those that will never be back: one that comes back later would know of no deletion,
     and, alone there, run all children.
     """
-    status, other = client.status(here, secret), client.status(there, secret)
+    status, other = (client.status(address, secret, wait=wait) for address in (here, there))
     away = [one["name"] for one in status["machines"] if one["name"] not in without and (one["heard"] is None or one["heard"] > AWAY)]
     if away:
         raise NotMoved("away: " + " ".join(away))

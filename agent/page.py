@@ -1,119 +1,127 @@
 """A page for people: an agent's view of machines and children as HTML, at the loopback, refreshed while one looks.
 
-The page has a key of its own, made anew by each `serve` and told in its address. Without it nothing is shown and nothing is done: it stands in
-every form, so that no other page in the same browser, and no other user of the machine, gives commands. The secret of the cluster never
-leaves this process.
+The page has a key of its own, made anew by each `serve` and told in its address. Without it nothing is shown but /metrics, and nothing is done. The
+first load puts it into a cookie, so that it stands in no address; and it stands in every form, so that no other page in the same browser, and no other
+user of the machine, gives commands. No script and no style stands in the page itself, so a name that looked like one would not be taken for one. The
+secret of the cluster never leaves this process.
 """
+import hashlib
 import hmac
-import html
+import http.cookies
 import http.server
+import json
+import os
 import secrets
 import sys
+import threading
+import time
 import urllib.parse
 
+import asking
 import client
+import event_commands
 import groups
+import metrics
+import page_parts
+import refusals
+import wanted
 
 MOST_OF_A_FORM = 8192  # bytes
 LONGEST_WAIT = 5       # seconds for an answer of the agent
-
-STYLE = """
-body { font: 15px/1.45 system-ui, sans-serif; margin: 2rem auto; max-width: 76rem; padding: 0 1rem; color: #1c2430; background: #f7f8fa }
-h1 { font-size: 1.35rem; margin: 0 } h2 { font-size: 1.05rem; margin: 1.8rem 0 .5rem }
-table { border-collapse: collapse; width: 100%; background: #fff; box-shadow: 0 1px 2px #0002 }
-th, td { text-align: left; padding: .4rem .7rem; border-bottom: 1px solid #e6e9ee; vertical-align: top }
-th { font-weight: 600; color: #5a6675; font-size: .85rem }
-code { font: 13px ui-monospace, monospace } .quiet { color: #78828f } .bad { color: #b3261e; font-weight: 600 } .good { color: #14683c }
-form { display: inline } button { font: inherit; padding: .1rem .7rem } input, select { font: inherit; padding: .15rem .3rem }
-#told { padding: .5rem .7rem; background: #fff6d6; border: 1px solid #ecd88a; margin: 1rem 0 }
-.start { background: #fff; padding: .7rem; box-shadow: 0 1px 2px #0002 } .start label { margin-right: 1rem; white-space: nowrap }
-"""
-SCRIPT = """
-setInterval(async () => {
-  try {
-    const answer = await fetch('/tables' + location.search)
-    if (answer.ok) document.getElementById('tables').innerHTML = await answer.text()
-  } catch (gone) { document.getElementById('tables').innerHTML = '<p class=bad>this page is no longer served</p>' }
-}, 1000)
-"""
-
-
-def text(value):
-    return html.escape(str(value), quote=True)
-
-
-def cells(kind, values):
-    return "<tr>" + "".join(f"<{kind}>{value}</{kind}>" for value in values) + "</tr>"
-
-
-def table(head, rows):
-    return "<table>" + cells("th", head) + "".join(cells("td", row) for row in rows) + "</table>"
+GOOD_FOR = 1           # seconds for which what was made is shown again
+MOST_MADE = 200        # parts that are kept for so long
+EVENTS = 200           # that are shown
+LINES = 20             # of a child that are shown
+FOLDER = os.path.dirname(os.path.abspath(__file__))
+FILES = {"/page.css": "text/css", "/page.js": "text/javascript"}
+ASKED = {"delete": "Delete {}? Its run ends, and it is kept no more.", "drain": "Drain {}? Its children run elsewhere then.",
+         "leave": "Take {} back?", "restart": "Restart {}? Its run ends, and a new one begins."}
+VERBS = {*ASKED, "start", "replace"}
+HEADERS = (("Cache-Control", "no-store"), ("X-Content-Type-Options", "nosniff"), ("X-Frame-Options", "DENY"), ("Referrer-Policy", "no-referrer"), (
+    "Content-Security-Policy", "default-src 'none'; script-src 'self'; style-src 'self'; connect-src 'self'; img-src data:; form-action 'self'; base-uri 'none'; frame-ancestors 'none'"))
 
 
 class View:
     """What the page shows and does, for one agent and one key."""
 
     def __init__(self, address, secret, key):
-        self.address, self.secret, self.key = address, secret, key
+        self.address, self.secret, self.key, self.cookie = address, secret, key, "sebrakt-" + hashlib.sha256(key.encode()).hexdigest()[:8]
+        self.lock, self.made, self.made_at, self.seen, self.fault = threading.Lock(), {}, float("-inf"), None, None
 
-    def button(self, verb, what, words):
-        return (f'<form method=post action=/do><input type=hidden name=key value="{self.key}"><input type=hidden name=verb value="{verb}">'
-                f'<input type=hidden name=id value="{text(what)}"><button>{text(words)}</button></form>')
+    def part(self, path, words):
+        """(title, what changes) of a page, made at most once a second for all browsers that ask for it, and anew once something was done. NoAnswer."""
+        asked = path, *sorted((name, value) for name, value in words.items() if name in ("find", "state", "sort", "from", "id"))
+        with self.lock:
+            if time.monotonic() - self.made_at >= GOOD_FOR:
+                self.look()
+            if self.fault:
+                raise self.fault
+            if asked not in self.made and len(self.made) < MOST_MADE:
+                self.made[asked] = self.make(path, words)
+            return self.made.get(asked) or self.make(path, words)
 
-    def machine(self, status, one):
-        here = one["name"] == status["name"]
-        heard = '<span class=good>here</span>' if here else text(client.moment(one["heard"]))
-        drain = self.button("drain", one["name"], "drain") if "open" in one["member"] else self.button("leave", one["name"], "undrain") if "draining" in one["member"] else ""
-        return [f'<code>{text(one["name"])}</code>', text(one["member"]), heard, text(one["label"]), drain]
-
-    def child(self, status, one):
-        runs = one["runs"] or [["", "", "", "", ""]]
-        at = ["<br>".join(f"<code>{text(run[i])}</code>" for run in runs) for i in range(5)]
-        at[0] = at[0] if one["runs"] else '<span class=bad>nowhere</span>'
-        spec = f'<code>{text(one["kind"])}</code> <code>{text(one["arg"])}</code> <span class=quiet>{text(one["restart"])} {text(one["shutdown"])}</span>'
-        place = f'<code>{text(one["place"])}</code>' if one["place"] else '<span class=bad>unplaced</span>'
-        group = f' <span class=quiet>group {one["group"]}</span>' if status["groups"] > 1 else ""
-        return [f'<code>{text(one["id"])}</code>{group}', place, *at, spec, self.button("delete", one["id"], "delete")]
-
-    def tables(self):
+    def look(self):
+        """Asks the agent. That it doesn't answer is told as long as what it answers."""
+        self.made, self.fault = {}, None
         try:
-            status = client.status(self.address, self.secret)
+            self.seen = page_parts.prepared(client.status(self.address, self.secret, LONGEST_WAIT))
         except client.NoAnswer as none:
-            return f"<p class=bad>{text(none)}</p>"
-        refused = ", ".join(f"{count} {why}" for why, count in status["refused"].items()) or "none"
-        return "".join([
-            f'<p>Agent <code>{text(status["name"])}</code>, its node{"s" * (status["groups"] > 1)}: {text(status["node"])}, boot {text(status["boot"])}. Refused lines: {text(refused)}.</p>',
-            "<h2>Machines</h2>", table(["machine", "member", "last contact", "label", ""], [self.machine(status, one) for one in status["machines"]]),
-            "<h2>Children</h2>", table(["child", "place", "runs on", "run", "process", "restarts", "last exit", "kind, arg, restart, shutdown", ""],
-                                       [self.child(status, one) for one in status["children"]]),
-        ])
+            self.fault = none
+        self.made_at = time.monotonic()
 
-    def start_form(self):
-        restarts = "".join(f"<option>{kind}</option>" for kind in ("permanent", "transient", "temporary"))
-        return (f'<h2>Start a child</h2><form class=start method=post action=/do><input type=hidden name=key value="{self.key}">'
-                '<input type=hidden name=verb value=start><label>id <input name=id required maxlength=128 size=14></label>'
-                '<label>kind <input name=kind maxlength=128 size=10></label><label>arg <input name=arg maxlength=1024 size=20></label>'
-                f'<label>restart <select name=restart>{restarts}</select></label><label>shutdown <input name=shutdown size=8 placeholder=5000></label>'
-                '<button>start</button></form>')
+    def make(self, path, words):
+        said = page_parts.title(self.seen)
+        if path == "/events":
+            return said, page_parts.happenings(self.events(words.get("id"), EVENTS))
+        if path == "/child":
+            ident = words.get("id", "")
+            return f"{ident}: {said}", page_parts.child_page(self.seen, ident, self.log(ident), self.events(ident, 20))
+        return said, page_parts.overview(self.seen, words)
 
-    def page(self, told):
-        said = f'<p id=told><code>{text(told)}</code></p>' if told else ""
-        return (f'<!doctype html><html lang=en><meta charset=utf-8><title>Sebrakt</title><meta name=referrer content=no-referrer><style>{STYLE}</style>'
-                f'<noscript><meta http-equiv=refresh content=5></noscript><h1>Sebrakt</h1>{said}<div id=tables>{self.tables()}</div>'
-                f'{self.start_form()}<script>{SCRIPT}</script></html>')
+    def events(self, about, most):
+        try:
+            told = json.loads("".join(client.ask(self.address, self.secret, "events", LONGEST_WAIT)))["events"]
+        except (ValueError, KeyError):
+            return []
+        return [event for event in told if event_commands.is_about(event, about)][-most:]
+
+    def log(self, ident):
+        """The last lines that a child has printed; none where nobody keeps them."""
+        try:
+            return json.loads("".join(client.ask(self.address, self.secret, f"logs {ident} {LINES} - -", LONGEST_WAIT))).get("lines", [])
+        except (ValueError, client.NoAnswer):
+            return []
+
+    def page(self, path, words, told=""):
+        said, live = self.part(path, words)
+        child = next((child for child in self.seen["children"] if child["id"] == words.get("id")), None) if path == "/child" else None
+        before = page_parts.spec_form(self.key, "start", {}) + page_parts.filter_form(words) if path == "/" else ""
+        return page_parts.page(self.key, said, live, told, before, page_parts.spec_form(self.key, "replace", child) if child else "")
+
+    # -- what is done
 
     def do(self, form):
         """Does what a form asks for. What was answered."""
-        verb, what = form.get("verb", ""), form.get("id", "")
-        if verb not in ("start", "delete", "drain", "leave") or not what or " " in "".join(form.values()):
+        verb, _, what = form.pop("do", f"{form.get('verb', '')} {form.get('id', '')}").partition(" ")
+        if verb not in VERBS or not what or " " in "".join([what, *form.values()]):
             return "no such command: words have no spaces"
-        options = [f"{key}={form[key]}" for key in ("kind", "arg", "restart", "shutdown") if form.get(key)] if verb == "start" else []
-        line = " ".join([verb, what, *options])
         try:
+            line = self.line(verb, what, form)
             told = client.ask(self.address, self.secret, line, LONGEST_WAIT)
-            return f"{line}: {', '.join(dict.fromkeys(groups.first_lines(told)))}"
+            self.made_at = float("-inf")
+            answer = ", ".join(dict.fromkeys(groups.first_lines(told)))
+            return f"{line}: {answer}" + ("" if groups.is_done(told) else "\n" + refusals.words_of(line, answer)[0])
         except client.NoAnswer as none:
-            return f"{line}: {none}"
+            return f"{verb} {what}: {none}"
+        except (wanted.NotShown, KeyError) as fault:
+            return f"{verb} {what}: {'there is no such child' if isinstance(fault, KeyError) else fault}"
+
+    def line(self, verb, what, form):
+        """The node's line. A restart is a replace by the same. KeyError where there is no child to restart."""
+        if verb == "restart":
+            return asking.Agent(self.address, self.secret, "", LONGEST_WAIT, 0).tables().children[what].line("replace")
+        options = [f"{key}={form[key]}" for key in ("kind", "arg", "restart", "shutdown") if form.get(key)] if verb in ("start", "replace") else []
+        return " ".join([verb, what, *options])
 
 
 class Handler(http.server.BaseHTTPRequestHandler):
@@ -121,40 +129,74 @@ class Handler(http.server.BaseHTTPRequestHandler):
 
     def do_GET(self):
         path, _, query = self.path.partition("?")
-        words = fields(query)
-        if not self.may(words):
+        words, view = fields(query), self.server.view
+        if not self.is_own_host():
+            self.answer(403, "text/plain", "this page is asked for at 127.0.0.1 or localhost")
+        elif path in FILES:
+            with open(FOLDER + path, encoding="utf-8") as file:
+                self.answer(200, FILES[path], file.read())
+        elif path == "/metrics":
+            self.try_to(lambda: self.answer(200, metrics.KIND, "\n".join(client.ask(view.address, view.secret, "metrics", LONGEST_WAIT)) + "\n"))
+        elif self.has_key(words.get("key", "")):  # from now on it stands in no address
+            self.answer(303, "text/plain", "", ("Location", "/"), ("Set-Cookie", f"{view.cookie}={view.key}; HttpOnly; SameSite=Lax; Path=/"))
+        elif not self.has_cookie():
             self.answer(403, "text/plain", "this page has a key, told by `agent.py serve`")
-        elif path == "/":
-            self.answer(200, "text/html", self.server.view.page(words.get("told", "")))
-        elif path == "/tables":
-            self.answer(200, "text/html", self.server.view.tables())
+        elif path in ("/", "/child", "/events"):
+            self.try_to(lambda: self.show(path, words))
         else:
             self.answer(404, "text/plain", "no such page")
+
+    def try_to(self, show):
+        try:
+            show()
+        except client.NoAnswer as none:
+            self.answer(503, "text/plain", f"The agent doesn't answer: {none}")
+
+    def show(self, path, words):
+        if words.get("live"):
+            said, live = self.server.view.part(path, words)
+            self.answer(200, "text/html", live, ("X-Title", urllib.parse.quote(said)))
+        else:
+            self.answer(200, "text/html", self.server.view.page(path, words))
 
     def do_POST(self):
         size = self.headers.get("Content-Length", "")
         if not size.isdecimal() or int(size) > MOST_OF_A_FORM or self.path != "/do":
             self.answer(400, "text/plain", "no such form")
             return
-        form = fields(self.rfile.read(int(size)).decode("ascii", "replace"))
-        if not self.may(form):
+        form, view = fields(self.rfile.read(int(size)).decode("ascii", "replace")), self.server.view
+        if not self.is_own_host() or not self.has_key(form.pop("key", "")):
             self.answer(403, "text/plain", "without the page's key nothing is done")
             return
-        told = urllib.parse.urlencode({"key": self.server.view.key, "told": self.server.view.do(form)})
-        self.send_response(303)
-        self.send_header("Location", "/?" + told)
-        self.end_headers()
+        is_live, is_sure = form.pop("live", ""), form.pop("sure", "")
+        verb, _, what = form.get("do", "").partition(" ")
+        if verb in ASKED and not is_sure:
+            self.answer(200, "text/html", page_parts.page(view.key, "Sebrakt asks", page_parts.question(view.key, form["do"], ASKED[verb].format(what))))
+            return
+        told = view.do(form)
+        if is_live:
+            self.answer(200, "text/plain", told)
+        else:
+            self.try_to(lambda: self.answer(200, "text/html", view.page("/", {}, told)))
 
-    def may(self, words):
-        """Whether the page was asked for by its own address, with its key: a name of another host that leads here has neither."""
-        host = self.headers.get("Host", "").rsplit(":", 1)[0]
-        return host in ("127.0.0.1", "localhost") and hmac.compare_digest(words.get("key", "").encode("utf-8"), self.server.view.key.encode())
+    def is_own_host(self):
+        """Whether the page was asked for by its own address: a name of another host may lead here, too."""
+        return self.headers.get("Host", "").rsplit(":", 1)[0] in ("127.0.0.1", "localhost")
 
-    def answer(self, status, kind, content):
+    def has_key(self, key):
+        return hmac.compare_digest(key.encode("utf-8"), self.server.view.key.encode())
+
+    def has_cookie(self):
+        try:
+            known = http.cookies.SimpleCookie(self.headers.get("Cookie", "")).get(self.server.view.cookie)
+        except http.cookies.CookieError:
+            return False
+        return known is not None and self.has_key(known.value)
+
+    def answer(self, status, kind, content, *more):
         data = content.encode("utf-8")
         self.send_response(status)
-        for name, value in (("Content-Type", kind + "; charset=utf-8"), ("Content-Length", str(len(data))), ("Cache-Control", "no-store"),
-                            ("X-Frame-Options", "DENY"), ("Referrer-Policy", "no-referrer")):
+        for name, value in (("Content-Type", kind if "charset" in kind else kind + "; charset=utf-8"), ("Content-Length", str(len(data))), *HEADERS, *more):
             self.send_header(name, value)
         self.end_headers()
         self.wfile.write(data)
@@ -163,17 +205,27 @@ class Handler(http.server.BaseHTTPRequestHandler):
         pass
 
 
+class Server(http.server.ThreadingHTTPServer):
+    request_queue_size = 128  # browsers that come at once
+
+    def handle_error(self, request, address):
+        """A browser that has gone away is no fault."""
+        if not isinstance(sys.exc_info()[1], OSError):
+            super().handle_error(request, address)
+
+
 def fields(query):
     try:
-        return {name: values[-1] for name, values in urllib.parse.parse_qs(query, max_num_fields=20).items()}
+        return {name: values[-1] for name, values in urllib.parse.parse_qs(query, max_num_fields=20, keep_blank_values=True).items()}
     except ValueError:
         return {}
 
 
-def serve(address, secret, port):
-    """Serves the page until it is interrupted. NoAnswer where no agent is at the address."""
-    client.status(address, secret)
-    with http.server.ThreadingHTTPServer(("127.0.0.1", port), Handler) as server:
+def serve(address, secret, port, wait=0):
+    """Serves the page until it is interrupted. NoAnswer where no agent is at the address within `wait` seconds."""
+    client.through = "the page"
+    client.status(address, secret, wait=wait)
+    with Server(("127.0.0.1", port), Handler) as server:
         server.view = View(address, secret, secrets.token_urlsafe(24))
         print(f"http://127.0.0.1:{server.server_address[1]}/?key={server.view.key}", flush=True)
         try:

@@ -1,8 +1,8 @@
-"""Processes that die with the agent, and those that an agent which was killed has left.
+"""Processes that die with the agent.
 
 The kernel ends a process with its agent, asked by util-linux's `setpriv`, which then becomes the program; where there is no `setpriv`, by the
-agent itself between fork and exec, which takes longer. What such a process has begun isn't ended by that, but it carries the mark that stands
-in the environment of each. It is left to the agent when the process ends, so that the agent hears of its end, too.
+agent itself between fork and exec, which takes longer. What such a process has begun isn't ended by that (`leftovers.py` finds it). It is left to
+the agent when the process ends, so that the agent hears of its end, too.
 """
 import ctypes
 import os
@@ -11,25 +11,51 @@ import signal
 import subprocess
 import weakref
 
+import users
+
 PR_SET_PDEATHSIG, PR_SET_CHILD_SUBREAPER = 1, 36
 LIBRARY = ctypes.CDLL(None)
-MARK = "SEBRAKT_AGENT"
 SETPRIV = shutil.which("setpriv")
-NOT_BEGUN = (126, 127)  # the statuses with which setpriv ends where it can't become the program
+OWN = "-setuid,-setgid,-kill"  # what an agent that isn't root's may be given so that its children are other users: they get nothing of it
+IS_GIVEN = os.geteuid() != 0 and users.may_change()
 begun = weakref.WeakSet()
 
 
-def begin(words, **options):
-    """Begins a program in a session of its own, that dies with this process. OSError where there is no such program."""
-    if shutil.which(words[0]) is None:
+def begin(words, before=(), user=None, **options):
+    """Begins a program in a session of its own, that dies with this process; `before` are words of a program that becomes the next one, `user` is
+    whom it runs as (`users.py`).
+
+    OSError where there is no such program.
+    """
+    if shutil.which(words[0], path=options.get("env", os.environ).get("PATH")) is None:
         raise OSError(0, f"no program {words[0]}")
     if SETPRIV is not None:
-        words, promise = [SETPRIV, "--pdeathsig", "KILL", "--", *words], None
+        words, promise = [SETPRIV, *rights(user), "--pdeathsig", "KILL", "--", *words], None
     else:
         promise = die_with_parent(os.getpid())
-    process = subprocess.Popen(words, start_new_session=True, preexec_fn=promise, **options)
+        options = {**options, **({"user": user.user, "group": user.group, "extra_groups": user.groups} if user else {})}
+    process = subprocess.Popen([*before, *words], start_new_session=True, preexec_fn=promise, **options)
     begun.add(process)
     return process
+
+
+class Begun:
+    """A process that an earlier program of this agent has begun: its child still. `status` is that with which it has ended, where it is reaped."""
+
+    def __init__(self, pid, status=None):
+        self.pid, self.returncode = pid, status
+        begun.add(self)
+
+    def wait(self):
+        if self.returncode is None:
+            self.returncode = os.waitstatus_to_exitcode(os.waitpid(self.pid, 0)[1])
+
+
+def rights(user):
+    """The options by which `setpriv` becomes a user, who keeps nothing of what this process may do."""
+    if user is None:
+        return [f"--inh-caps={OWN}", f"--ambient-caps={OWN}"] if IS_GIVEN else []
+    return [f"--reuid={user.user}", f"--regid={user.group}", "--groups=" + ",".join(map(str, user.groups)), "--inh-caps=-all", "--ambient-caps=-all"]
 
 
 def die_with_parent(parent):
@@ -39,38 +65,6 @@ def die_with_parent(parent):
         if os.getppid() != parent:
             os._exit(1)
     return promise
-
-
-def environment(process):
-    """The environment with which a process began, as words of bytes; none where there is no such process, or it is another user's."""
-    try:
-        with open(f"/proc/{process}/environ", "rb") as file:
-            return file.read().split(b"\0")
-    except OSError:
-        return []
-
-
-def end_marked(mark):
-    """Kills every process that carries this mark, and tells how many there were."""
-    word = f"{MARK}={mark}".encode()
-    return sum(end_if(int(name), word) for name in os.listdir("/proc") if name.isdecimal() and int(name) != os.getpid())
-
-
-def end_if(process, word):
-    """Kills a process that has this word in its environment, and no other one that was given its number meanwhile. Whether it did."""
-    try:
-        handle = os.pidfd_open(process)
-    except OSError:
-        return False
-    try:
-        if word not in environment(process):
-            return False
-        signal.pidfd_send_signal(handle, signal.SIGKILL)
-        return True
-    except OSError:
-        return False
-    finally:
-        os.close(handle)
 
 
 def take_orphans():

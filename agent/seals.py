@@ -7,6 +7,7 @@ Nothing is hidden by this: whoever sees the network reads all lines.
 """
 import hashlib
 import hmac
+import itertools
 import os
 import re
 import secrets
@@ -14,6 +15,7 @@ import secrets
 CLIENT = "?"  # who asks and is no machine: no node has this name
 WITHOUT_SECRET = "-"
 LEAST_SECRET = 16  # bytes
+WRONG_SEAL = "wrong seal"
 SENDER = re.compile(r"[a-z0-9_-]{1,64}|\?")
 SESSION = re.compile(r"[0-9a-f]{32}")
 COUNT = re.compile(r"[1-9][0-9]{0,15}")
@@ -59,14 +61,14 @@ def seal_of(secret, challenge, to, sender, session, count, text):
 class Seal:
     """Seals what one sender says to one receiver, under the receiver's challenge."""
 
-    def __init__(self, secret, sender, session, to, challenge):
+    def __init__(self, secret, sender, session, to, challenge, counts=None):
+        """`counts` gives the counts, where several seals of one session may be under one challenge."""
         self.secret, self.sender, self.session, self.to, self.challenge = secret, sender, session, to, challenge
-        self.count = 0
+        self.counts = counts or itertools.count(1)
 
     def line(self, text):
         """The sealed line of a text of visible ASCII and spaces, without a line feed."""
-        self.count += 1
-        count = str(self.count)
+        count = str(next(self.counts))
         seal = seal_of(self.secret, self.challenge, self.to, self.sender, self.session, count, text)
         return f"{self.sender} {self.session} {count} {seal} {text}"
 
@@ -83,7 +85,7 @@ class Guard:
         sender, session, count, seal, text = words_of(line)
         right = seal_of(self.secret, self.challenge, self.receiver, sender, session, count, text)
         if not hmac.compare_digest(seal.encode("ascii"), right.encode("ascii")):
-            raise Refused("wrong seal")
+            raise Refused(WRONG_SEAL)
         if int(count) <= self.counts.get((sender, session), 0):
             raise Refused("said before")
         self.counts[sender, session] = int(count)

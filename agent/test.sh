@@ -1,12 +1,15 @@
 #!/usr/bin/env bash
-# Tests the agent with the proved `supd` and real processes: parts by themselves, machines through kills, holds, partitions, drains, returns and
-# faults over TCP and over Redis, several groups, strangers at its port, times beside other supervisors, the page, the commands of
-# agent/README.md. What isn't on this machine (redis-server and python3-redis, runit, s6, supervisor, libfaketime, chromium) is told as
-# skipped. Bounded in time: 23 minutes at most; a run takes about nine. It ends only what it started.
-# usage: agent/test.sh [--supd PROGRAM] [parts | machines | groups | hostile | times | page | docs]..
+# Tests the agent: its source by a linter, its core by hand and in a simulated cluster, its parts by themselves, then agents with the proved `supd`
+# and real processes: machines through kills, holds, partitions, drains, returns and faults over TCP, Redis and NATS, hosts in network namespaces,
+# several groups, what children print, checks of children, upgrades of agents, strangers at its port, times beside other supervisors, the page, the commands of
+# agent/README.md, children in a file, the command `sebrakt`, what has happened, and metrics. The last line is `N passed, M failed`; before it stands
+# what was skipped, with the Debian package that it wants. A test that fails is run once more by itself; where it passes then it counts as passed, and a
+# line `unsteady: PART Class.test` tells it. What breaks a promise is never tried again. It ends only what it started.
+# usage: agent/test.sh [--supd PROGRAM] [lint | core | simulator | parts | logs | health | machines | hazards | upgrade | namespaces | groups | hostile | times | page | docs | apply | commands | events | metrics]..
 #   --supd agent/tests/by_rules.py is a stand-in, where `supd` isn't built
-#   PACE=N makes all waits and bounds N times as long, for a machine with little time for this
-#   STORM=SECONDS of kills (30)   SCREENSHOT=FILE of the page   KEEP=1 leaves the folders of machines
+#   PACE=N makes all waits and bounds N times as long, in place of as much longer as some work takes now; bounds scale besides with how late a plain
+#   sleep comes back
+#   STORM=SECONDS of kills (30)   SCHEDULES=N of the simulator (1000)   SCREENSHOT=FILE of the page   KEEP=1 leaves the folders of machines
 set -u
 top=$(cd "$(dirname "$0")/.." && pwd)
 program=${SUPD:-$top/crates/supd/out/supd}
@@ -24,33 +27,4 @@ if ! [ -x "$program" ]; then
 fi
 python=python3
 [ -x /usr/bin/python3 ] && python=/usr/bin/python3 # Debian's, which python3-redis belongs to
-export SUPD=$(realpath "$program")
-cd "$top/agent/tests"
-
-# The bounds are those of agents that get a processor when they want one, on a busy machine too where root runs this.
-first=
-[ "$(nice -n -15 nice 2>/dev/null)" = -15 ] && first="nice -n -15"
-
-# One file of tests, with its bound in seconds.
-tests() {
-  local name=$1 seconds=$2
-  echo "== $name"
-  timeout -k 20 "$((seconds * ${PACE:-1}))" $first "$python" -W ignore::ResourceWarning "test_$name.py" -v || failed="$failed $name"
-}
-
-failed=
-for name in "${@:-parts machines groups hostile times page docs}"; do
-  for one in $name; do
-    case $one in
-      parts) tests parts 60 ;;
-      machines) tests machines 540 ;;
-      groups) tests groups 180 ;;
-      hostile) tests hostile 240 ;;
-      times) tests times 90 ;;
-      page) tests page 150 ;;
-      docs) tests docs 90 ;;
-      *) echo "no tests $one" >&2 && exit 2 ;;
-    esac
-  done
-done
-[ -z "$failed" ] && echo "all good" || { echo "FAILED:$failed"; exit 1; }
+SUPD=$(realpath "$program") exec "$python" "$top/agent/tests/run.py" "$@"

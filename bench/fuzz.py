@@ -1,6 +1,6 @@
 #!/usr/bin/env python3
 """Hands real `supd` processes bytes that are nearly messages and images: of real ones, which random scripts send and keep, bits are flipped,
-pieces cut, left out, doubled and spliced, and numbers changed. What comes of each has to be what the rules of stories/forms.py say of its text:
+pieces cut, left out, doubled and spliced, and numbers changed. What comes of each has to be what the rules of reference/forms.py say of its text:
 
 - delivered, a text that is no message is refused 17, a message to another node 18, and any other is known, absorbed or acknowledged (an
   acknowledgement of too much is refused 17); a line that isn't plain is a bad line;
@@ -18,7 +18,7 @@ import sys
 import tempfile
 
 top = pathlib.Path(__file__).resolve().parent.parent
-sys.path.insert(0, str(top / "stories"))
+sys.path.insert(0, str(top / "reference"))
 import forms
 import random_scripts
 from supd import Node, Wrong, demand

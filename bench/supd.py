@@ -10,7 +10,7 @@ import subprocess
 import sys
 import time
 
-sys.path.insert(0, str(pathlib.Path(__file__).parent.parent / "stories"))
+sys.path.insert(0, str(pathlib.Path(__file__).parent.parent / "reference"))
 import forms
 import random_scripts
 import rules

@@ -1,5 +1,5 @@
 #!/usr/bin/env python3
-"""A stand-in for `supd`, by the rules of stories/rules.py: the same words, lines, answers and image, in Python, and nothing of it proved.
+"""A stand-in for `supd`, by the rules of reference/rules.py: the same words, lines, answers and image, in Python, and nothing of it proved.
 
 With it the agent is tried where `supd` isn't built yet: `agent/test.sh --supd agent/tests/by_rules.py`.
 """
@@ -9,26 +9,13 @@ import os
 import sys
 
 TOP = os.path.dirname(os.path.dirname(os.path.dirname(os.path.abspath(__file__))))
-sys.path.insert(0, os.path.join(TOP, "stories"))
+sys.path.insert(0, os.path.join(TOP, "reference"))
 
 import forms
 import rules
+import supd_lines
 
-FEWEST = {"join": 0, "leave": 1, "drain": 1, "start": 1, "replace": 1, "delete": 1, "register": 2, "unregister": 1, "exit": 3, "ship": 1, "push": 1}
 SHOWN = {"show": 0, "inspect": 0, "where": 1, "members": 0, "image": 0}
-
-
-def state_of(value):
-    """The state that the context and rows of an image or a message tell."""
-    known = {(number, node) for node, last in value["ctx"]["vector"].items() for number in range(1, last + 1)}
-    known |= {(number, node) for node, number in value["ctx"]["cloud"]}
-    return rules.State(known, {(dot[1], dot[0]): (table, key, content_of(table, content)) for table, key, dot, content in value["rows"]})
-
-
-def content_of(table, content):
-    if table == "member":
-        return content["label"], content.get("status", rules.OPEN)
-    return rules.Spec({**content, "shutdown": str(content["shutdown"])}) if table == "child" else content
 
 
 class Filter:
@@ -37,8 +24,8 @@ class Filter:
         if os.path.exists(path):
             with open(path) as file:
                 value = forms.read(file.read(), forms.IMAGES)
-            self.node.boot, self.node.count, self.node.state = value["boot"] + 1, value["count"], state_of(value)
-        self.first = [f"ok boot {self.node.boot}"] + self.node.bring_up_to_date()
+            self.node.boot, self.node.count, self.node.state = value["boot"] + 1, value["count"], supd_lines.state_of(value)
+        self.first = [f"ok boot {self.node.boot}"] + [supd_lines.order(self.node, line) for line in self.node.bring_up_to_date()]
         self.save()
 
     def save(self):
@@ -48,45 +35,27 @@ class Filter:
             os.fsync(file.fileno())
         os.rename(self.path + ".new", self.path)
 
-    def say(self, lines, letter=None):
-        """An answer: its first line, the orders below it, and the letter."""
-        told = [self.order(line) if line.startswith("  ") else line for line in lines]
-        told += [f"  send {letter[0]} {forms.message(self.node.name, letter)}"] if letter else []
-        sys.stdout.write("\n".join(told) + "\n\n")
+    def can_save(self):
+        try:
+            open(self.path + ".new", "w").close()
+        except OSError:
+            return False
+        return True
+
+    def say(self, lines):
+        sys.stdout.write("".join(line + "\n" for line in lines) + "\n")
         sys.stdout.flush()
 
-    def order(self, line):
-        _, verb, ident, run = line.split()
-        if verb == "stop":
-            return f"  stop {ident} {run}"
-        return f"  start {ident} {run} {self.node.state.rows[self.node.kept[ident][0]][2]}"
-
     def answer(self, line):
-        words = line.split(" ")
-        verb, words = words[0], words[1:]
-        now = int(words.pop()[1:]) if verb == "exit" and len(words) == 4 and words[-1].startswith("@") else 0
+        verb, *words = line.split(" ")
         if verb in SHOWN and len(words) == SHOWN[verb]:
             self.say(self.shown(verb, words))
             return
-        if verb != "deliver" and not (verb in FEWEST and len(words) >= FEWEST[verb] and all(words)):
-            self.say(["bad line"])
-            return
         before = self.node.count
-        try:
-            lines, letter = self.deliver(line.partition(" ")[2]) if verb == "deliver" else self.node.act(verb, words, now, True)
-        except rules.Refused as refusal:
-            lines, letter = [f"refused {rules.NUMBERS[refusal.args[0]]} {refusal.args[0]}"], None
+        lines = supd_lines.answer(self.node, line, self.can_save())
         if self.node.count != before:
             self.save()
-        self.say(lines, letter)
-
-    def deliver(self, text):
-        try:
-            value = forms.read(text, forms.MESSAGES)
-        except forms.Fault:
-            raise rules.Refused("BadMessage") from None
-        content = state_of(value) if "rows" in value else None
-        return self.node.deliver(value["from"], (value["to"], value["kind"], (value.get("n"), content)), True, True)
+        self.say(lines)
 
     def shown(self, verb, words):
         if verb == "members":

@@ -1,8 +1,9 @@
-"""Machines of a test: agents on the loopback in a folder of their own, and a watcher that sees which children have processes.
+"""Machines of a test: agents on the loopback in a folder of their own.
 
 All that a test ends it has started itself: agents, nodes and servers by their processes' numbers, children by the mark of its own folder.
 """
 import atexit
+import contextlib
 import json
 import os
 import random
@@ -12,24 +13,27 @@ import socket
 import subprocess
 import sys
 import tempfile
-import threading
 import time
+import unittest
 
 TESTS = os.path.dirname(os.path.abspath(__file__))
 AGENT = os.path.join(os.path.dirname(TESTS), "agent.py")
 sys.path.insert(0, os.path.dirname(TESTS))
 
-import processes
 import client
 import groups
+import leftovers
+from promises import need
+from pulse import PACE, bound, judges, until
+from watcher import Watcher, command, parent
 
 SUPD = os.environ["SUPD"]  # the node's program; agent/test.sh names it
 KINDS = {"sleep": ["sleep", "{arg}"], "none": ["/nonexistent"], "nested": ["sh", "-c", "sleep 100000 & wait"],
          "leaves": ["sh", "-c", "(setsid sleep 0.5 &); exec sleep 100000"],
-         "stubborn": ["sh", "-c", "trap '' TERM; while :; do sleep 0.1; done"]}
-PACE = float(os.environ.get("PACE", "1"))  # how many times as long all waits and bounds are
+         "stubborn": ["sh", "-c", "trap '' TERM; echo ready; while :; do sleep 0.1; done"], "bad": ["false"], "talks": ["sh", "-c", "seq 101 130; echo '<b>&'; exec sleep 100000"], "short": ["sh", "-c", "sleep 1; exit 1"],
+         "titled": [sys.executable, os.path.join(TESTS, "titled.py"), "{arg}"]}
+IDS = [f"w{number}" for number in range(1, 7)]
 SECRET = b"a secret of this test alone"
-SCAN = 0.02  # seconds between two looks of the watcher
 
 
 signal.signal(signal.SIGTERM, signal.default_int_handler)  # who is too slow ends as by an interrupt, and ends what it started
@@ -55,121 +59,65 @@ def end_process(process):
 
 
 def free_ports(count):
-    """Ports of the loopback that nobody has now."""
-    sockets = [socket.create_server(("127.0.0.1", 0)) for _ in range(count)]
-    ports = [one.getsockname()[1] for one in sockets]
-    for one in sockets:
-        one.close()
+    """Ports of the loopback that nobody has now. They are below those that the system gives to connections, one of which might have one by the time
+    that it is listened at; and as long as this process lives no other test is given them.
+    """
+    ports = []
+    while len(ports) < count:
+        port, taken = random.randrange(10_000, 32_000), socket.socket(socket.AF_UNIX)
+        try:
+            taken.bind(f"\0sebrakt-test-{port}")
+            socket.create_server(("127.0.0.1", port)).close()
+            ports.append(port)
+            TAKEN.append(taken)
+        except OSError:
+            taken.close()
     return ports
 
 
-def until(seconds, holds, what):
-    """Waits until something holds; how long that took. AssertionError after so many seconds, at pace 1."""
-    began = time.monotonic()
-    while not holds():
-        if time.monotonic() - began > seconds * PACE:
-            raise AssertionError(f"not within {seconds} s: {what}")
-        time.sleep(0.02)
-    return time.monotonic() - began
+TAKEN = []  # what has the names of the ports that were given here
 
 
-def parent(process):
-    with open(f"/proc/{process}/stat") as file:
-        return int(file.read().rsplit(")", 1)[1].split()[1])
-
-
-def children_of(process):
-    with open(f"/proc/{process}/task/{process}/children") as file:
-        return file.read().split()
-
-
-def command(process):
-    with open(f"/proc/{process}/cmdline") as file:
-        return file.read().split("\0")
-
-
-class Watcher(threading.Thread):
-    """Looks again and again which processes carry the mark of a folder: at each look of each child its processes, as (number, machine)."""
-
-    def __init__(self, folder):
-        super().__init__(daemon=True)
-        self.mark, self.looks, self.sightings, self.goes_on = f"{processes.MARK}={folder}/".encode(), [], {}, True
-        self.start()
-
-    def run(self):
-        while self.goes_on:
-            self.looks.append((time.monotonic(), self.look()))
-            time.sleep(SCAN)
-
-    def look(self):
-        seen, alive = {}, set()
-        for name in os.listdir("/proc"):
-            if not name.isdecimal():
-                continue
-            alive.add(name)
-            if self.sightings.get(name, 0) > 20:  # not ours, since long
-                continue
-            self.sightings[name] = self.sightings.get(name, 0) + 1
-            words = processes.environment(name)
-            if any(word.startswith(self.mark) for word in words):
-                self.sightings[name] = 0
-                of = dict(word.decode().split("=", 1) for word in words if word.startswith(b"SEBRAKT_"))
-                if of.get("SEBRAKT_ID"):
-                    seen.setdefault(of["SEBRAKT_ID"], set()).add((int(name), of["SEBRAKT_NODE"]))
-        self.sightings = {name: count for name, count in self.sightings.items() if name in alive}
-        return seen
-
-    def now(self):
-        """The newest look, and when it was."""
-        return self.looks[-1] if self.looks else (0, {})
-
-    def since(self, began):
-        return [look for look in self.looks if look[0] >= began]
-
-    def longest(self, began, ident, wrong):
-        """The longest time in which every look had `wrong` many processes of a child, from the first such look to the next other one."""
-        longest, first = 0, None
-        for moment, seen in self.since(began):
-            if wrong(len(seen.get(ident, ()))):
-                first = moment if first is None else first
-                longest = max(longest, moment - first)
-            else:
-                longest = max(longest, moment - first) if first is not None else longest
-                first = None
-        return longest
-
-    def stop(self):
-        self.goes_on = False
-        self.join(5)
+def closed_port(test):
+    """A port at which nobody listens as long as a test lasts."""
+    taken = socket.socket()
+    test.addCleanup(taken.close)
+    taken.bind(("127.0.0.1", 0))
+    return taken.getsockname()[1]
 
 
 class Machines:
-    """Agents with some names, over TCP or over a Redis server of the test's own."""
+    """Agents with some names, over TCP or over a server of the test's own."""
 
-    def __init__(self, names, redis=None, options=(), secret=True, addresses=None):
-        self.names, self.redis, self.options = names, redis, list(options)
+    def __init__(self, names, via=None, options=(), secret=True, addresses=None):
+        self.names, self.via, self.vias, self.options = names, via, {}, list(options)  # `vias` of some machines another server
         self.folder = tempfile.mkdtemp(prefix="sebrakt-agents-")
         self.ports, self.agents, self.supd = dict(zip(names, free_ports(len(names)))), {}, {}
-        self.addresses = addresses or (lambda sender, to: f"127.0.0.1:{self.ports[to]}")
-        self.secret = SECRET if secret else None
+        self.addresses = addresses or (lambda sender, to: "{}:{}".format(*self.address(to)))
+        self.secret, self.secrets = SECRET if secret else None, {}  # of some machines the file of another secret
         with open(self.path("kinds.json"), "w") as file:
             json.dump(KINDS, file)
         with open(self.path("secret"), "wb") as file:
             os.chmod(file.fileno(), 0o600)
             file.write(SECRET)
-        self.watcher = Watcher(self.folder)
+        self.watcher, self.asked = Watcher(self.folder), []  # `asked`: the children that were to run once when it was asked for last
+        judges.append(self)
         atexit.register(self.end)
 
     def path(self, name):
         return os.path.join(self.folder, name)
 
+    def address(self, name):
+        return "127.0.0.1", self.ports[name]
+
     def words(self, name):
         words = [sys.executable, AGENT, "run", "--name", name, "--image", self.path(name + ".image"), "--kinds", self.path("kinds.json"),
-                 "--listen", f"127.0.0.1:{self.ports[name]}", "--supd", self.supd.get(name, SUPD), 
-                  "--silent", str(1.5 * PACE), "--every", str(0.25 * PACE), "--grace", str(1.5 * PACE)]
-        words += ["--secret", self.path("secret")] if self.secret else []
-        if self.redis:
-            words += ["--via", self.redis]
+                 "--listen", "{}:{}".format(*self.address(name)), "--supd", self.supd.get(name, SUPD),
+                 "--logs", self.path(name + ".image.logs"),  # also where there is a journal
+                 "--silent", str(1.5 * PACE), "--every", str(0.25 * PACE), "--grace", str(1.5 * PACE)]
+        words += ["--secret", self.secrets.get(name, self.path("secret"))] if self.secret else []
+        if self.via:
+            words += ["--via", self.vias.get(name, self.via)]
         else:
             words += [word for other in self.names if other != name for word in ("--peer", f"{other}={self.addresses(name, other)}")]
         return words + self.options
@@ -193,19 +141,34 @@ class Machines:
 
     # -- asking
 
-    def ask(self, name, line, patience=30):
-        """What an agent answers, once it is there."""
-        end = time.monotonic() + patience
+    def ask(self, name, line):
+        """What an agent answers, once it is there and takes commands."""
+        end = time.monotonic() + 30 * PACE
         while True:
             try:
-                return client.ask(("127.0.0.1", self.ports[name]), self.secret, line)
+                told = client.ask(self.address(name), self.secret, line, 10 * PACE)
+                if not groups.is_early(told) or time.monotonic() > end:
+                    return told
             except client.NoAnswer:
                 if time.monotonic() > end or self.agents[name].poll() is not None:
                     raise
-                time.sleep(0.05)
+            time.sleep(0.05)
+
+    def child(self, name, ident):
+        """What an agent tells of a child, once it knows it."""
+        found = []
+        until(10, lambda: found.extend(child for child in self.status(name)["children"] if child["id"] == ident) or found, f"{name} knows {ident}")
+        return found[0]
+
+    def hindered(self, name, of):
+        """What hinders a machine, as an agent tells it; "" also where it isn't there."""
+        try:
+            return next((machine["hinders"] for machine in self.status(name)["machines"] if machine["name"] == of), "")
+        except client.NoAnswer:
+            return ""
 
     def status(self, name):
-        return client.status(("127.0.0.1", self.ports[name]), self.secret)
+        return client.status(self.address(name), self.secret, 10 * PACE)
 
     def members(self, name):
         return [line.split(" ")[1] for line in self.ask(name, "members") if line.startswith("member ")]
@@ -227,8 +190,9 @@ class Machines:
 
     def each_once(self, idents):
         """Whether at the newest look each of these children has one process."""
+        self.asked = idents
         moment, seen = self.watcher.now()
-        return time.monotonic() - moment < 1 and all(len(seen.get(ident, ())) == 1 for ident in idents)
+        return time.monotonic() - moment < bound(1, moment) and all(len(seen.get(ident, ())) == 1 for ident in idents)
 
     def where(self, idents):
         """Of each of these children the machine that runs it."""
@@ -244,11 +208,79 @@ class Machines:
     def both(self, began, idents):
         return max(self.watcher.longest(began, ident, lambda count: count > 1) for ident in idents)
 
+    # -- what real children rely on
+
+    def need_one_at_most(self, began, idents):
+        """No child has two processes at once."""
+        longest = {ident: self.watcher.longest(began, ident, lambda count: count > 1) for ident in idents}
+        need(max(longest.values()) < 0.001, f"two processes of a child at once, of each for so many seconds: {longest}")
+
+    def need_one_at_least(self, began, idents):
+        """No child is down."""
+        longest = {ident: self.watcher.longest(began, ident, lambda count: count == 0) for ident in idents}
+        need(max(longest.values()) == 0, f"a child was down, each for so many seconds: {longest}")
+
+    def need_same(self, before):
+        """Children go on as the same processes, as a look has shown them."""
+        seen = self.watcher.now()[1]
+        need({ident: seen.get(ident) for ident in before} == before, f"a child that should go on is another process: {before}, now {seen}")
+
+    def need_each_once(self, idents):
+        """Each child runs, once."""
+        seen = self.watcher.now()[1]
+        need(all(len(seen.get(ident, ())) == 1 for ident in idents), f"a child is lost or runs twice: {seen}")
+
+    def begin_look(self):
+        """From here on all is seen in one look, so that parts of a condition are of one moment."""
+        self.asked = self.asked if self.watcher.held else []
+        self.watcher.held.append(None)
+
+    def end_look(self):
+        self.watcher.held.pop()
+
+    def broken(self):
+        """Which promises are broken of the children that were asked for last: there are two processes of one still, or no machine knows it any more."""
+        seen = self.watcher.now()[1] if self.asked else {}
+        twice = [f"{ident} runs twice: {sorted(seen[ident])}" for ident in self.asked if len(seen.get(ident, ())) > 1]
+        known = self.known() if self.asked else None
+        return twice + [f"{ident} is lost: no machine knows it" for ident in self.asked if known is not None and ident not in known]
+
+    def known(self):
+        """The children that a machine knows; None where none tells."""
+        known = None
+        for name in self.names:
+            try:
+                rows = client.ask(self.address(name), self.secret, "show")
+            except client.NoAnswer:
+                continue
+            if any(row.startswith("node ") for row in rows):
+                known = (known or set()) | {row.split(" ")[1] for row in rows if row.startswith("child ")}
+        return known
+
     # -- ending
 
     def kill(self, name):
         self.agents[name].kill()
         self.agents[name].wait()
+
+    def kill_child(self, process):
+        """Kills a process of a child, unless it has ended; no other one, that was given its number."""
+        try:
+            handle = os.pidfd_open(process)
+        except OSError:
+            return
+        try:
+            if self.watcher.is_marked(leftovers.environment(process)):
+                signal.pidfd_send_signal(handle, signal.SIGKILL)
+        except OSError:
+            pass
+        finally:
+            os.close(handle)
+
+    def wait(self, name, seconds=20):
+        """The status with which an agent ends."""
+        until(seconds, lambda: self.agents[name].poll() is not None, f"the agent of {name} ends")
+        return self.agents[name].returncode
 
     def node(self, name, group=None):
         """The process of a machine's node, of one group where there are more; None where it has none now."""
@@ -256,20 +288,27 @@ class Machines:
         agent = self.agents[name].pid
         for other in os.listdir("/proc"):
             try:
-                if other.isdecimal() and parent(other) == agent and image in command(other):
+                if other.isdecimal() and parent(other) == agent and image in command(other) and not is_agent(command(other)):
                     return int(other)
             except (OSError, IndexError):
                 pass
         return None
 
+    def has_proved_node(self):
+        """Whether the nodes are `supd`, and not what stands in for it."""
+        return not SUPD.endswith(".py")
+
     def kill_node(self, name):
         node = self.node(name)
         if node is not None:
-            os.kill(node, signal.SIGKILL)
+            with contextlib.suppress(ProcessLookupError):
+                os.kill(node, signal.SIGKILL)
 
     def end(self):
         """Ends all, and gives the folder back; it stays where $KEEP is set. Once is enough."""
         atexit.unregister(self.end)
+        if self in judges:
+            judges.remove(self)
         for agent in self.agents.values():
             if agent.poll() is None:
                 agent.send_signal(signal.SIGCONT)
@@ -279,75 +318,58 @@ class Machines:
         self.watcher.stop()
         for name in self.names:
             for number in range(self.count()):
-                processes.end_marked(groups.image_of(self.path(name + ".image"), number, self.count()))
+                leftovers.end(groups.image_of(self.path(name + ".image"), number, self.count()))
         if os.environ.get("KEEP"):
             print("kept:", self.folder)
         else:
             shutil.rmtree(self.folder, ignore_errors=True)
 
 
-class Redis:
-    """A Redis server of the test's own, that keeps nothing. FileNotFoundError where there is none on this machine."""
-
-    def __init__(self):
-        self.port = free_ports(1)[0]
-        self.folder = tempfile.mkdtemp(prefix="sebrakt-redis-")
-        self.url = f"redis://127.0.0.1:{self.port}"
-        self.begin()
-
-    def begin(self):
-        self.process = begin(["redis-server", "--port", str(self.port), "--bind", "127.0.0.1", "--save", "", "--appendonly", "no",
-                                         "--dir", self.folder], stdout=subprocess.DEVNULL)
-        until(10, self.answers, "the Redis server answers")
-
-    def answers(self):
-        try:
-            socket.create_connection(("127.0.0.1", self.port), 1).close()
-            return True
-        except OSError:
-            return False
-
-    def stop(self):
-        end_process(self.process)
-
-    def end(self):
-        self.stop()
-        shutil.rmtree(self.folder, ignore_errors=True)
+def is_agent(words):
+    """Whether these are an agent's own, as a process shows them that it has begun and that hasn't become its program yet."""
+    return any(os.path.basename(word) == os.path.basename(AGENT) for word in words)
 
 
-class Proxy:
-    """Brings lines from one machine to another, or drops them: each line with some chance, or all while it is cut."""
+def each_once_in(clusters, idents):
+    """Whether at the newest looks each of these children has one process in all clusters together."""
+    looks = [cluster.watcher.now()[1] for cluster in clusters]
+    return all(sum(len(seen.get(ident, ())) for seen in looks) == 1 for ident in idents)
 
-    def __init__(self, to, port):
-        self.to, self.port, self.loss, self.cut, self.chance = to, port, 0, False, random.Random(to)
-        self.links, self.silent, self.brought = set(), set(), 0
-        self.server = socket.create_server(("127.0.0.1", port))
-        threading.Thread(target=self.accept, daemon=True).start()
 
-    def accept(self):
-        while True:
-            try:
-                link, _ = self.server.accept()
-                other = socket.create_connection(("127.0.0.1", self.to), 2)
-            except OSError:
-                if self.server.fileno() < 0:
-                    return
-                link.close()
-                continue
-            self.links.add(link)
-            for come, leave in ((link, other), (other, link)):
-                threading.Thread(target=self.pump, args=(link, come, leave), daemon=True).start()
+def tell(test, **figures):
+    """Prints what was measured, in seconds where nothing else is said."""
+    print(f"    {test}: " + ", ".join(f"{what.replace('_', ' ')} {round(figure, 3) if isinstance(figure, float) else figure}" for what, figure in figures.items()), flush=True)
 
-    def forget(self):
-        """From now on brings nothing over the connections that there are; new ones are as ever."""
-        self.silent = set(self.links)
 
-    def pump(self, link, come, leave):
-        with come, leave, come.makefile("rb") as lines:
-            try:
-                for line in lines:
-                    self.brought += len(line)
-                    if not self.cut and link not in self.silent and (line.startswith(b"hello ") or self.chance.random() >= self.loss):
-                        leave.sendall(line)
-            except OSError:
-                pass
+class OfMachines(unittest.TestCase):
+    """A test of some machines, which end with it."""
+
+    def machines(self, names=("a", "b", "c"), **options):
+        machines = Machines(list(names), **options)
+        self.addCleanup(machines.end)
+        return machines
+
+    def begun(self, **options):
+        """Three machines with six children, each of which runs once."""
+        machines = self.machines(**options)
+        machines.begin_all()
+        machines.start("a", IDS)
+        self.settle(machines)
+        return machines
+
+    def alone(self, **options):
+        """One machine with six children."""
+        machines = self.machines(names=["a"], **options)
+        machines.begin_all()
+        machines.start("a", IDS)
+        until(10, lambda: machines.each_once(IDS), "all run")
+        return machines
+
+    def settle(self, machines, seconds=30):
+        """How long it took until each child runs once, at its place, and the machines know the same."""
+        def settled():
+            if not (machines.each_once(IDS) and machines.tables_equal()):
+                return False
+            places = {child["id"]: child["place"] for child in machines.status(machines.names[0])["children"]}
+            return {ident: place for ident, place in machines.where(IDS).items()} == {ident: places.get(ident) for ident in IDS}
+        return until(seconds, settled, "each child runs once, at its place, and tables are equal")

@@ -11,8 +11,10 @@ import os
 import threading
 import time
 
-import machines as tests
-from machines import Machines, until
+from machines import Machines
+from pulse import until
+from servers import Proxy
+from watcher import children_of
 
 import client
 import groups
@@ -25,13 +27,12 @@ class Counted:
     """What passes between machines: proxies of all connections from agent to agent, which count their bytes."""
 
     def __init__(self):
-        self.proxies, self.ports = {}, {}
+        self.proxies = {}
 
     def address(self, machines, sender, to):
         if (sender, to) not in self.proxies:
-            self.ports[sender, to] = tests.free_ports(1)[0]
-            self.proxies[sender, to] = tests.Proxy(machines.ports[to], self.ports[sender, to])
-        return f"127.0.0.1:{self.ports[sender, to]}"
+            self.proxies[sender, to] = Proxy(machines.ports[to])
+        return f"127.0.0.1:{self.proxies[sender, to].port}"
 
     def bytes(self):
         return sum(proxy.brought for proxy in self.proxies.values())
@@ -41,7 +42,7 @@ def begin(count):
     """Three machines with so many groups, and what counts their bytes."""
     counted = Counted()
     machines = Machines(["a", "b", "c"], addresses=lambda sender, to: counted.address(machines, sender, to),
-                        options=["--groups", str(count), "--silent", str(SILENT), "--every", "2", "--grace", "20", "--patience", "60"])
+                        options=["--groups", str(count), "--silent", str(SILENT), "--every", "2", "--grace", "20", "--patience", "15"])
     machines.watcher.stop()
     with open(machines.path("kinds.json"), "w") as file:
         json.dump({"noted": []}, file)
@@ -77,7 +78,7 @@ def processor_seconds(machines):
     used = {}
     for agent in machines.agents.values():
         try:
-            for process in [agent.pid, *map(int, tests.children_of(agent.pid))]:
+            for process in [agent.pid, *map(int, children_of(agent.pid))]:
                 with open(f"/proc/{process}/stat") as file:
                     used[process] = sum(map(int, file.read().rsplit(")", 1)[1].split()[11:13])) / os.sysconf("SC_CLK_TCK")
         except OSError:

@@ -1,18 +1,23 @@
 """The commands of agent/README.md, as they stand there but for ports and folders: a newcomer's cluster of three on one machine."""
+import contextlib
 import os
 import re
 import shutil
+import signal
 import subprocess
 import tempfile
 import time
 import unittest
 
-from machines import SUPD, Watcher, begin, end_process, free_ports, until
+from machines import SUPD, begin, end_process, free_ports
+from pulse import until
+from watcher import Watcher, children_of
 
-import processes
+import leftovers
 
 TOP = os.path.dirname(os.path.dirname(os.path.dirname(os.path.abspath(__file__))))
 IDS = ["w1", "w2", "w3"]
+WAIT = 5  # seconds for which `agent.py ask` waits for an agent that begins yet
 
 
 def commands():
@@ -31,8 +36,20 @@ class Docs(unittest.TestCase):
         self.addCleanup(self.watcher.stop)
         self.ports = dict(zip(("7001", "7002", "7003"), map(str, free_ports(3))))
         self.shell = begin(["bash"], stdin=subprocess.PIPE, stdout=subprocess.PIPE, text=True, cwd=TOP, env={**os.environ, "SUPD": SUPD})
+        self.addCleanup(self.end_agents)
         self.addCleanup(end_process, self.shell)
         self.addCleanup(self.shell.stdout.close)
+        self.addCleanup(self.kill_agents)
+
+    def kill_agents(self):
+        """Those of the shell that are left where the test has failed."""
+        with contextlib.suppress(OSError):
+            for process in children_of(self.shell.pid):
+                os.kill(int(process), signal.SIGKILL)
+
+    def end_agents(self):
+        for name in "abc":
+            leftovers.end(os.path.join(self.folder, name + ".image"))
 
     def say(self, command):
         """Gives the shell a command, and tells what it prints until it is done."""
@@ -47,6 +64,13 @@ class Docs(unittest.TestCase):
             told.append(line.rstrip("\n"))
         self.fail("the shell has ended")
 
+    def start(self, command):
+        """Starts the children; again, where agents of a busy machine began for longer than a command waits for them."""
+        began, told = time.monotonic(), self.say(command)
+        if [line[:2] for line in told] != ["ok"] * 3:
+            self.assertGreater(time.monotonic() - began, WAIT, told)
+            until(20, lambda: len([line for line in self.say(command) if line.startswith("ok") or "AlreadyPresent" in line]) == 3, "they are started")
+
     def where(self):
         """Where each child runs that runs once."""
         seen = self.watcher.now()[1]
@@ -57,17 +81,17 @@ class Docs(unittest.TestCase):
         homes = {"w1": "c", "w2": "b", "w3": "b"}
         self.say(peers)
         self.say(run)
-        until(60, lambda: len([line for line in self.say(status) if " open " in line]) == 3, "three are members")
-        self.assertEqual([line[:2] for line in self.say(start)], ["ok"] * 3)
-        until(10, lambda: self.where() == homes, "each runs at its place")
+        self.start(start)  # pasted at once: the agents begin yet
         told = self.say(status)
-        self.assertEqual([line.split() for line in told if line.startswith(("machine", "child"))],
-                         ["machine member last contact label".split(), "child place runs on run process restarts last exit kind arg".split()])
+        until(20, lambda: len([line for line in self.say(status) if " open " in line]) == 3, "three are members")
+        until(10, lambda: self.where() == homes, "each runs at its place")
+        self.assertEqual([line.split() for line in told if line.split(" ")[0] in ("machine", "child")],
+                         ["machine member last contact label".split(), "child state place runs on run process for restarts last exit kind arg".split()])
         began = time.monotonic()
         self.say(kill)
         until(30, lambda: self.where() == {ident: "c" for ident in IDS}, "all run on c")
         away = time.monotonic() - began
-        self.assertIn("out", [line.split()[1] for line in self.say(status) if line.startswith("b ")])
+        until(10, lambda: "out" in [line.split()[1] for line in self.say(status) if line.startswith("b ")], "b is out")
         began = time.monotonic()
         self.say(again)
         until(30, lambda: self.where() == homes, "all are home")
@@ -75,8 +99,6 @@ class Docs(unittest.TestCase):
         self.say("kill $(jobs -p); wait")
         until(10, lambda: not self.watcher.now()[1], "all has ended")
         print(f"    the page's commands: on c {away:.1f} s after the kill, home {home:.1f} s after the return", flush=True)
-        for name in "abc":
-            processes.end_marked(os.path.join(self.folder, name + ".image"))
 
 
 if __name__ == "__main__":

@@ -7,24 +7,21 @@ import time
 import unittest
 import unittest.mock
 
-from machines import AGENT, PACE, SUPD, Machines, free_ports, until
+from machines import AGENT, SUPD, Machines, free_ports, tell
+from promises import need
+from pulse import PACE, until
 
 import client
 import groups
 import move
 import page
 
-MANY = ["--intensity", "1000", "--period", "1"]
 IDS = [f"w{number}" for number in range(1, 13)]
-
-
-def tell(test, **figures):
-    print(f"    {test}: " + ", ".join(f"{what.replace('_', ' ')} {round(figure, 3) if isinstance(figure, float) else figure}" for what, figure in figures.items()), flush=True)
 
 
 class OfGroups(unittest.TestCase):
     def machines(self, names=("a", "b", "c"), count=3, **options):
-        machines = Machines(list(names), options=MANY + ["--groups", str(count)], **options)
+        machines = Machines(list(names), options=["--groups", str(count)], **options)
         self.addCleanup(machines.end)
         return machines
 
@@ -47,7 +44,7 @@ class OfGroups(unittest.TestCase):
         shown, began = machines.ask("b", "show"), time.monotonic()
         for number in range(3):
             part = "\n".join(shown).split(f"group {number}/3\n")[1].split("group ")[0]
-            self.assertEqual({ident for ident in IDS if f"child {ident} " in part}, {ident for ident in IDS if groups.group_of(ident, 3) == number})
+            need({ident for ident in IDS if f"child {ident} " in part} == {ident for ident in IDS if groups.group_of(ident, 3) == number}, f"each id is its group's: {shown}")
         homes = machines.where(IDS)
         machines.kill("b")
         away = until(15, lambda: machines.each_once(IDS) and "b" not in machines.where(IDS).values(), "all run elsewhere")
@@ -55,7 +52,7 @@ class OfGroups(unittest.TestCase):
         until(20, lambda: machines.where(IDS) == homes, "all are home")
         self.settle(machines)
         tell("three groups, a machine is killed and comes back", elsewhere_after=away, longest_silence=machines.gap(began, IDS), two_at_once=machines.both(began, IDS))
-        self.assertLess(machines.both(began, IDS), 0.001)
+        machines.need_one_at_most(began, IDS)
 
     def test_a_drain_and_a_stop_are_of_all_groups(self):
         machines = self.begun()
@@ -63,9 +60,9 @@ class OfGroups(unittest.TestCase):
         self.assertTrue(groups.is_done(machines.ask("b", "drain b")))
         until(15, lambda: machines.each_once(IDS) and "b" not in machines.where(IDS).values(), "all have moved")
         machines.agents["b"].terminate()
-        self.assertEqual(machines.agents["b"].wait(20), 0)
+        self.assertEqual(machines.wait("b"), 0)
         until(10, lambda: machines.members("a") == ["a", "c"] * 3, "it has left each group")
-        self.assertLess(machines.both(began, IDS), 0.001)
+        machines.need_one_at_most(began, IDS)
 
     def test_a_node_that_stays_away_moves_the_children_of_its_group_alone(self):
         machines = self.machines(names=["a", "b"])
@@ -79,17 +76,18 @@ class OfGroups(unittest.TestCase):
         homes, began = machines.where(IDS), time.monotonic()
         moved = {ident for ident in IDS if homes[ident] == "b" and groups.group_of(ident, 3) == 1}
         self.assertNotIn(len(moved), (0, sum(home == "b" for home in homes.values())))
-        kept = {ident: machines.process(ident) for ident in IDS if ident not in moved}
+        seen = machines.watcher.now()[1]
+        kept = {ident: seen[ident] for ident in IDS if ident not in moved}
         with open(machines.path("closed"), "w"):
             pass
         os.kill(machines.node("b", "1-of-3"), signal.SIGKILL)
         until(20, lambda: machines.where(IDS) == {ident: "a" if ident in moved else home for ident, home in homes.items()}, "they run elsewhere")
-        self.assertEqual({ident: machines.process(ident) for ident in kept}, kept)
+        machines.need_same(kept)
         self.assertIn("gone in 1", machines.status("b")["node"])
         os.unlink(machines.path("closed"))
         until(30, lambda: machines.each_once(IDS) and machines.where(IDS) == homes, "they are home")
         tell("a node of three stays away", two_at_once=machines.both(began, IDS))
-        self.assertLess(machines.both(began, IDS), 0.001)
+        machines.need_one_at_most(began, IDS)
 
     def test_names_and_members_are_asked_of_all_groups(self):
         machines = self.machines(names=["a"])
@@ -109,30 +107,36 @@ class OfGroups(unittest.TestCase):
     def test_the_page_shows_and_drains_all_groups_as_one(self):
         machines = self.begun(names=["a", "b"])
         view = page.View(("127.0.0.1", machines.ports["a"]), machines.secret, "key")
-        shown = view.tables()
+        shown = view.part("/", {})[1]
         for ident in IDS:
-            self.assertRegex(shown, rf"<code>{ident}</code> <span class=quiet>group {groups.group_of(ident, 3)}</span></td><td><code>[ab]")
-        self.assertEqual(shown.count("<code>b</code></td><td>open</td>"), 1)
+            self.assertRegex(shown, rf'<code>{ident}</code></a> <span class="quiet">group {groups.group_of(ident, 3)}</span></td>')
+        self.assertEqual(shown.count('<code>b</code></td><td data-head="member"><span class="good">open</span>'), 1)
         self.assertRegex(view.do({"verb": "drain", "id": "b"}), r"^drain b: ok \(a,\d+\) removed \(b,1\)(, ok \(a,\d+\) removed \(b,1\))*$")
-        until(10, lambda: "b</code></td><td>draining</td>" in view.tables(), "it is draining in each group")
-        self.assertEqual(view.do({"verb": "drain", "id": "nobody"}), "drain nobody: refused 7 NotMember")
+        until(10, lambda: '<code>b</code></td><td data-head="member"><span class="bad">draining</span>' in view.part("/", {})[1], "it is draining in each group")
+        self.assertEqual(view.do({"do": "drain nobody"}), "drain nobody: refused 7 NotMember\nno member is named nobody")
 
-    def test_machines_of_another_count_are_strangers(self):
+    def test_a_machine_of_another_count_runs_nothing_and_says_why(self):
         machines = self.machines(names=["a", "b"])
         machines.begin("a")
-        machines.options[-1] = "2"
+        until(10, lambda: machines.ask("a", "begin alone")[1::2] == ["ok begins alone"] * 3, "it begins alone")
+        until(20, lambda: machines.members("a") == ["a"] * 3, "the first goes on")
+        machines.options = ["--groups", "2"]
         machines.begin("b")
-        until(10, lambda: machines.members("a") == ["a"] * 3 and machines.members("b") == ["b"] * 2, "each is alone")
-        until(10, lambda: all("a line of another group" in machines.status(name)["refused"] for name in "ab"), "their lines are refused")
+        until(10, lambda: "setting" in machines.hindered("b", "b"), "the other one says why it runs nothing")
+        machines.start("a", IDS)
+        until(10, lambda: machines.each_once(IDS) and set(machines.where(IDS).values()) == {"a"}, "each child runs at the first")
         time.sleep(PACE)
-        self.assertEqual((machines.members("a"), machines.members("b")), (["a"] * 3, ["b"] * 2))
+        machines.need_each_once(IDS)
+        self.assertEqual(machines.members("b"), [])
+        self.assertTrue(all(told["how"].startswith("another setting: 2 groups") for told in machines.status("a")["machines"] if told["name"] == "b"))
+        machines.need_each_once(IDS)
 
 
 class Moves(unittest.TestCase):
     """How the count of groups is changed: a second agent on each machine, on other ports, to which all children move."""
 
     def setUp(self):
-        self.machines = Machines(["a", "b"], options=MANY)
+        self.machines = Machines(["a", "b"])
         self.addCleanup(self.machines.end)
         self.machines.begin_all()
         self.old = dict(self.machines.ports)
@@ -141,7 +145,7 @@ class Moves(unittest.TestCase):
         """Agents of the same machines, images and all, but for ports and the count of groups."""
         machines = self.machines
         machines.ports = dict(zip(machines.names, free_ports(2)))
-        machines.options = MANY + ["--groups", "4"]
+        machines.options = ["--groups", "4"]
         self.others, self.agents = machines.ports, dict(machines.agents)
         machines.begin(*machines.names)
         self.addCleanup(lambda: [agent.terminate() for agent in self.agents.values()])
@@ -164,15 +168,17 @@ class Moves(unittest.TestCase):
         self.assertIn("start w3 kind=sleep arg=100000 restart=permanent shutdown=5000\nregister www w3", told.stdout)
         until(15, lambda: machines.each_once(IDS), "each runs once again")
         tell("12 children move to four groups", after=time.monotonic() - began, longest_silence=machines.gap(began, IDS), two_at_once=machines.both(began, IDS))
-        self.assertLess(machines.both(began, IDS), 0.001)
+        machines.need_one_at_most(began, IDS)
         self.assertRegex(machines.ask("a", "where www")[0], "www w3 on [ab]")
         self.assertEqual([child["id"] for child in client.status(("127.0.0.1", self.old["a"]), machines.secret)["children"]], [])
-        before = {ident: machines.process(ident) for ident in IDS}
+        seen = machines.watcher.now()[1]
+        before = {ident: seen[ident] for ident in IDS}
         for agent in self.agents.values():
             agent.terminate()
-            self.assertEqual(agent.wait(20), 0)
+            until(20, lambda: agent.poll() is not None, "it ends")
+            self.assertEqual(agent.returncode, 0)
         time.sleep(0.5)
-        self.assertEqual({ident: machines.process(ident) for ident in IDS}, before)
+        machines.need_same(before)
 
     def test_what_both_clusters_have_stays_where_it_is(self):
         machines = self.machines
@@ -186,7 +192,7 @@ class Moves(unittest.TestCase):
     def test_a_machine_that_is_away_keeps_all_where_they_are(self):
         """Once it is back it would be alone in the first cluster, and run all."""
         status = {"machines": [{"name": "a", "heard": 0}, {"name": "b", "heard": None}, {"name": "c", "heard": 11}], "children": [], "names": [], "ending": []}
-        with unittest.mock.patch.object(client, "status", lambda *_: status):
+        with unittest.mock.patch.object(client, "status", lambda *_, **__: status):
             with self.assertRaises(move.NotMoved) as fault:
                 move.move("here", "there", None, print, ["b"])
             self.assertEqual(str(fault.exception), "away: c")
@@ -201,7 +207,7 @@ class Moves(unittest.TestCase):
                 raise client.NoAnswer("gone")
         child = {"kind": "sleep", "arg": "1", "restart": "", "shutdown": ""}
         status = {"machines": [], "children": [{"id": "w1", **child}, {"id": "w2", **child}], "names": ["www (a,3) w2 on a"], "ending": []}
-        with unittest.mock.patch.multiple(move, do=do), unittest.mock.patch.object(client, "status", lambda at, _: status if at == "here" else {"children": []}):
+        with unittest.mock.patch.multiple(move, do=do), unittest.mock.patch.object(client, "status", lambda at, *_, **__: status if at == "here" else {"children": []}):
             with self.assertRaises(move.NotMoved) as fault:
                 move.move("here", "there", None, lambda lines: None)
         self.assertEqual(asked, ["delete w1", "delete w2", "start w1 kind=sleep arg=1", "start w2 kind=sleep arg=1"])

@@ -5,17 +5,22 @@ ghost use Rattle.std.specs.Process.{exit_status};
 ghost use Rattle.sup_program.specs.Runs.{ExitsBy};
 ghost use Rattle.supdraw.specs.Started.{RunsStarted};
 
+mod asking;
+
+use asking::run_asking;
 use std::alloc::Global;
 use std::env::{self, Args};
 use std::io::{self, Read, Write};
 use std::process::ExitCode;
+use sup_about::SystemBeside;
 use sup_jobs::{DeviceFault, Ended};
 use sup_supdraw::{run_with, words_of};
 
 fn main(rt: HostRuntime) -> ExitCode {
-    let (code, _told) = run_started(
+    let (code, _told) = run_asking(
         rt.alloc(),
         env::args(&rt),
+        SystemBeside { rt: &rt },
         &mut rt.stdin(),
         &mut rt.stdout(),
         &mut rt.stderr(),

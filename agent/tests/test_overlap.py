@@ -1,0 +1,121 @@
+"""Kinds that overlap: a child that moves has its next run ready before the earlier one ends; one that is deleted or replaced ends as others do."""
+import json
+import os
+import signal
+import time
+import unittest
+
+from machines import OfMachines, tell
+from promises import need
+from pulse import PACE, until
+
+import upgrade
+
+WEB = {"command": ["sleep", "{arg}"], "overlap": True, "ready": {"command": ["sh", "-c", "test -e $HOME/ready.$SEBRAKT_NODE"], "period": 0.1}}
+
+
+class Overlaps(OfMachines):
+    refused = 0  # lines that tell that a newer program takes too long
+
+    def begun_with(self, *names, **options):
+        machines = self.machines(names=list(names), **options)
+        with open(machines.path("kinds.json"), "w") as file:
+            json.dump({"web": {**WEB, "environment": {"HOME": machines.folder}}, "sleep": ["sleep", "{arg}"]}, file)
+        machines.begin_all()
+        for name in names:
+            self.make_ready(machines, name)
+        machines.start("a", ["w1"], kind="web")
+        until(20, lambda: machines.child("a", "w1")["state"] == "running" and not machines.child("a", "w1")["health"], "it runs, and is ready")
+        home = machines.child("a", "w1")["place"]
+        return machines, home, next(name for name in names if name != home)
+
+    def make_ready(self, machines, name, is_ready=True):
+        path = machines.path("ready." + name)
+        open(path, "w").close() if is_ready else os.unlink(path)
+
+    def runs(self, machines):
+        """The processes of the child, as (number, machine)."""
+        return sorted(machines.watcher.now()[1].get("w1", ()), key=lambda run: run[1])
+
+    def processes(self, machines):
+        return {name: process for process, name in self.runs(machines)}
+
+    def test_the_earlier_run_ends_once_the_next_one_is_ready(self):
+        machines, home, other = self.begun_with("a", "b")
+        self.make_ready(machines, other, False)
+        before, began = self.processes(machines), time.monotonic()
+        machines.ask(home, f"drain {home}")
+        until(20, lambda: len(self.processes(machines)) == 2, "both run")
+        time.sleep(1 * PACE)
+        self.assertEqual((self.processes(machines)[home], machines.child(home, "w1")["place"]), (before[home], other))
+        self.make_ready(machines, other)
+        until(20, lambda: list(self.processes(machines)) == [other], "the earlier one has ended")
+        tell("a child of a kind that overlaps moves", silence=machines.gap(began, ["w1"]), two_at_once=machines.both(began, ["w1"]))
+        machines.need_one_at_least(began, ["w1"])
+
+    def test_a_machine_that_is_stopped_goes_once_it_has_moved(self):
+        machines, home, other = self.begun_with("a", "b")
+        self.make_ready(machines, other, False)
+        before, began = self.processes(machines), time.monotonic()
+        machines.agents[home].terminate()
+        until(20, lambda: len(self.processes(machines)) == 2, "both run")
+        time.sleep(1 * PACE)
+        self.assertEqual((self.processes(machines)[home], machines.agents[home].poll()), (before[home], None))
+        self.make_ready(machines, other)
+        self.assertEqual(machines.wait(home), 0)
+        self.assertEqual(list(self.processes(machines)), [other])
+        machines.need_one_at_least(began, ["w1"])
+
+    def test_one_that_comes_home_meanwhile_has_never_ended(self):
+        machines, home, other = self.begun_with("a", "b")
+        self.make_ready(machines, other, False)
+        before, began = self.processes(machines), time.monotonic()
+        machines.ask(home, f"drain {home}")
+        until(20, lambda: len(self.processes(machines)) == 2, "both run")
+        machines.ask(home, f"leave {home}")
+        until(20, lambda: list(self.processes(machines)) == [home], "it is home")
+        until(20, lambda: machines.child(home, "w1")["runs"] and machines.child(home, "w1")["runs"][0][:1] + machines.child(home, "w1")["runs"][0][2:3] == [home, before[home]], "as it was")
+        machines.need_one_at_least(began, ["w1"])
+        need(self.processes(machines) == before, "it goes on as the same process")
+        os.kill(before[home], signal.SIGKILL)
+        until(20, lambda: self.processes(machines).get(home, before[home]) != before[home], "it is kept alive as before")
+
+    def test_one_that_is_deleted_or_replaced_ends_as_others_do(self):
+        machines, home, _ = self.begun_with("a", "b")
+        before, began = self.processes(machines), time.monotonic()
+        self.assertTrue(machines.ask(home, "replace w1 kind=web arg=200000")[0].startswith("ok"))
+        until(20, lambda: self.processes(machines) and self.processes(machines) != before, "another run has begun")
+        self.assertEqual(list(self.processes(machines)), [home])
+        machines.need_one_at_most(began, ["w1"])
+        self.assertTrue(machines.ask(home, "delete w1")[0].startswith("ok"))
+        until(10, lambda: not self.processes(machines), "it has ended")
+        self.assertEqual(machines.status(home)["children"], [])
+
+    def test_one_that_is_deleted_while_it_moves_ends_on_both(self):
+        machines, home, other = self.begun_with("a", "b")
+        self.make_ready(machines, other, False)
+        machines.ask(home, f"drain {home}")
+        until(20, lambda: len(self.processes(machines)) == 2, "both run")
+        self.assertTrue(machines.ask(home, "delete w1")[0].startswith("ok"))
+        until(10, lambda: not self.processes(machines), "both have ended")
+
+    def test_an_upgrade_waits_for_it_and_then_ends_the_earlier_run(self):
+        machines, home, other = self.begun_with("a", "b")
+        self.make_ready(machines, other, False)
+        machines.ask(home, f"drain {home}")
+        until(20, lambda: len(self.processes(machines)) == 2, "both run")
+        machines.agents[home].send_signal(signal.SIGUSR2)
+        until(60, lambda: self.has_become(machines, home), "it becomes its newer program")
+        until(20, lambda: list(self.processes(machines)) == [other], "the earlier one has ended")
+
+    def has_become(self, machines, home):
+        """Whether an agent is its newer program; one that takes too long for the others on a busy machine is asked to again."""
+        told = [line for line in machines.log(home).splitlines() if "newer program" in line]
+        if told and upgrade.SLOW in told[-1] and len(told) > self.refused:
+            self.refused = len(told)
+            machines.agents[home].send_signal(signal.SIGUSR2)
+        return any("becomes its newer program" in line for line in told)
+
+
+if __name__ == "__main__":
+    unittest.main()

@@ -1,0 +1,1 @@
+"""Builds the programs of crates/, proved or not."""

@@ -1,0 +1,5 @@
+pub mod Askings
+pub mod Helps
+pub mod Versions
+pub mod Looks
+pub mod Answers

@@ -1,0 +1,5 @@
+pub mod LineLaws
+pub mod OnlyBeginLaws
+pub mod OrderLaws
+pub mod ReadingLaws
+pub mod WholeLaws

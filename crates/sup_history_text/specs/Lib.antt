@@ -1,0 +1,5 @@
+pub mod Histories
+pub mod Kinds
+pub mod Lines
+pub mod Readings
+pub mod Sessions

@@ -1,0 +1,14 @@
+use Rattle.std.proofs.Common.{◌≡◌, ◌-◌, ◌≤◌, take}
+use Rattle.sup_journal.proofs.common.common_front.Given as goal
+
+abbrev pub invariant-loop-count : goal.invariant-loop-count
+invariant-loop-count l = (l.count ≤ l.most) × (take l.count l.left ≡ take l.count l.right)
+
+abbrev pub decreases-loop-count : goal.decreases-loop-count
+decreases-loop-count l = l.most - l.count
+
+abbrev pub invariant-loop-count-2 : goal.invariant-loop-count-2
+invariant-loop-count-2 l = (l.count ≤ l.most) × (take l.count l.left ≡ take l.count l.right)
+
+abbrev pub decreases-loop-count-2 : goal.decreases-loop-count-2
+decreases-loop-count-2 l = l.most - l.count

@@ -1,0 +1,1 @@
+"""Makes packages of the programs and the agent."""
