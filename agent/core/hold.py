@@ -12,7 +12,7 @@ class Hold:
         self.own, self.whole = None, frozenset()   # its newest dot; whose whole state it has taken up
         self.is_empty, self.is_old = False, False  # whether its image knows nothing; whether others knew more than it
         self.was_there = False                # whether it has run children before it met what hinders it now
-        self.is_sure = False                  # whether it has begun: by then it knew what those knew that it heard
+        self.is_sure = False                  # whether it has begun
         self.unsealed, self.minds_secrets = set(), True  # the peers that it reached, and whose lines are sealed by another secret; whether that hinders it
         self.refused_from = self.refused_at = None  # since when the disk keeps nothing, and when it was tried last
 
@@ -43,9 +43,10 @@ class Hold:
             return word.EMPTY
         if not self.is_image_good():
             return word.OLD
-        if now < self.ends() and (self.may_meet_any and (self.is_empty or not self.members.others) or self.untold()):
+        unheard = self.unheard(now)
+        if now < self.ends() and (self.may_meet_any and (self.is_empty or not self.members.others) or self.untold() or unheard):
             return word.BEGINS
-        if not self.is_sure and self.unheard(now):
+        if unheard:
             return word.UNHEARD
         return word.FULL if self.is_full() else word.LATER if self.comes_later(now) else ""
 
@@ -57,7 +58,10 @@ class Hold:
         return [name for name in sorted(self.members.others) if self.sight.echo.get(name, 0) < self.first_word or name not in self.whole]
 
     def unheard(self, now):
-        """Those that it hears, that haven't told all that they know, and don't tell to have heard what it says: no time passes over them."""
+        """Those that it hears, that haven't told all that they know, and don't tell to have heard what it says: no time passes over them. Who has begun knew
+        what those knew that it heard."""
+        if self.is_sure:
+            return set()
         said, echo, lately = self.sight.said, self.sight.echo, self.since + self.options.grace / 3
         return {name for name in self.sight.heard(now) - self.whole if said.get(echo[name], float("-inf")) < lately}
 

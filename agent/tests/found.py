@@ -138,6 +138,18 @@ at 12 swap-image a 1 copy
 at 13.16 cut 8 a>b b>a
 end 24
 """
+NAMED_BY_TWO = """
+flavour seeds
+machines a b c
+chance 1561381647
+at 0 names a
+at 0 names b a
+at 0 names c a
+at 0 begin a
+at 0 begin b
+at 0 begin c
+end 8
+"""
 FOUND = {  # as the simulator made them small, or as they were told
     "in a ring of lines in one direction each child runs once": RING,
     "an older image waits for all that those know to which there is no link yet": OLDER,
@@ -147,5 +159,6 @@ FOUND = {  # as the simulator made them small, or as they were told
     "where six directions of four machines are cut at once no child begins beside its run": SIX_DIRECTIONS,
     "an older image isn't gone on with beside a machine that is heard, and doesn't hear": UNHEARD,
     "a machine that is heard for a moment, and may be dead then, is waited for no longer": CUT_OFF_AT_ITS_BEGIN,
+    "two machines that name the same third one alone, and begin at once, become members": NAMED_BY_TWO,
     "behind a broker a machine that took all others out waits for those that it may meet when it comes back": BEHIND_A_BROKER,
 }

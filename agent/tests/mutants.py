@@ -66,7 +66,13 @@ def take_no_runs(runs, table):
     runs.keys = table["keys"]
 
 
-TAKE, TAKE_LETTER, TAKE_NEWS = shell.Shell.take, letters.Letters.take, telling.Telling.take_news
+def misses_words_that_cannot_have_come_yet(self, now):
+    state = WHY(self, now)
+    has_begun = self.own is not None and self.members.others is not None and not self.sight.has_rival()
+    return word.UNHEARD if state == word.BEGINS and has_begun and not self.untold() and self.unheard(now) else state
+
+
+TAKE, TAKE_LETTER, TAKE_NEWS, WHY = shell.Shell.take, letters.Letters.take, telling.Telling.take_news, hold.Hold.why
 MUTANTS = [
     # as agents once were
     Mutant("a cut between two of three makes children jump", "cut", ("settles under a cut that stands",),
@@ -110,6 +116,8 @@ MUTANTS = [
     Mutant("whom a machine hears straight no more, and whom it hears again, is told with its next word", "one-way", ("once while all hear one another",),
            {(telling.Telling, "sees_until"): lambda *words: float("inf"), (telling.Telling, "take_news"): tell_news_with_the_next_word}, found.SIX_DIRECTIONS),
     Mutant("who begins goes on beside machines that don't hear it", "image", ("no dot is given twice",), {(hold.Hold, "unheard"): lambda *words: set()}, found.UNHEARD),
+    Mutant("who begins misses words of others that can't have come yet", "seeds", (promises.WELL,), {(hold.Hold, "why"): misses_words_that_cannot_have_come_yet},
+           found.NAMED_BY_TWO),
     Mutant("letters are taken of whose sender's whole state nothing is known", "image", ("no dot is given twice",), {(letters.Letters, "take"): take_any_letter},
            found.CUT_OFF_AT_ITS_BEGIN),
 ]

@@ -77,6 +77,18 @@ class Begins(unittest.TestCase):
         machine.hear_for(1)
         self.assertEqual(machine.begun(), ["w"])
 
+    def test_who_begins_beside_one_that_it_does_not_name_goes_on_once_that_one_has_heard_it(self):
+        machine = Machine(["b"])
+        machine.take("link", "b", True)
+        machine.core.hold.whole |= {"b"}
+        states = set()
+        for _ in range(8):  # c comes by b, and can't send what it knows
+            machine.hear("c", whole=frozenset())
+            machine.hear()
+            machine.wait(0.25)
+            states.add(machine.core.state)
+        self.assertEqual((machine.begun(), states), (["w"], {word.BEGINS, ""}))
+
     def test_who_does_not_hear_a_machine_that_began_is_waited_for_no_longer_once_it_is_silent(self):
         machine = Machine(["b"])
         machine.hear_for(5, heard={})

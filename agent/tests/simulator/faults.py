@@ -1,5 +1,5 @@
 """What the steps of a script do to a world. Each fault ends by itself after the seconds that it is given, or when `heal` ends them all."""
-from simulator import machines
+from simulator import machines, script
 
 
 def pairs_of(words):
@@ -32,6 +32,11 @@ def delay(world, seconds, late, *pairs):
 
 
 # -- agents and machines
+
+def names(world, name, *peers):
+    """names A B.. : the words of A name these machines alone, and not all."""
+    world.machines[name].peers = list(peers)
+
 
 def begin(world, name):
     world.machines[name].begin_agent()
@@ -194,14 +199,14 @@ def kill_child(world, number):
         live[int(number) % len(live)].end(-9)
 
 
-DO = {"begin": begin, "cut": cut, "lose": lose, "delay": delay, "kill-agent": kill_agent, "lose-power": lose_power, "stop-agent": stop_agent,
+DO = {"names": names, "begin": begin, "cut": cut, "lose": lose, "delay": delay, "kill-agent": kill_agent, "lose-power": lose_power, "stop-agent": stop_agent,
       "upgrade-agent": upgrade_agent, "hold-agent": hold_agent, "hold-machine": hold_machine, "hold-clock": hold_clock, "jump-clock": jump_clock, "kill-node": kill_node,
       "hold-node": hold_node, "slow-node": slow_node, "fill-disk": fill_disk, "copy-image": copy_image, "swap-image": swap_image, "twin": twin,
       "estrange": estrange, "ask": ask, "kill-child": kill_child}
 
 
 def do(world, step):
-    if step.verb not in ("begin", "ask"):
+    if step.verb not in script.NO_FAULTS:
         world.note("FAULT", step)
     DO[step.verb](world, *step.words)
 

@@ -78,7 +78,11 @@ class Network:
                     self.world.after(wait, self.link, one, one.agent, other)
 
     def is_linked(self, one, other):
-        return other.agent is not None and (one.name, other.name) not in self.cuts
+        return other.agent is not None and (one.name, other.name) not in self.cuts and self.is_connected(one, other)
+
+    def is_connected(self, one, other):
+        """Whether either of them knows the other one: lines go both ways over a connection."""
+        return one.knows(other.name) or other.knows(one.name)
 
     def link(self, one, agent, other):
         if one.agent is not agent:
@@ -109,7 +113,8 @@ class Network:
         return all(reach(names, pairs) == set(names) for pairs in (lambda a, b: self.is_good((a, b)), lambda a, b: self.is_good((b, a)))) if names else True
 
     def is_good(self, pair):
-        return pair not in self.cuts and self.loss.get(pair, 0) <= LOSSY and self.slow.get(pair, 0) <= SLOW
+        one, other = map(self.world.machines.get, pair)
+        return self.is_connected(one, other) and pair not in self.cuts and self.loss.get(pair, 0) <= LOSSY and self.slow.get(pair, 0) <= SLOW
 
 
 def reach(names, has_line):

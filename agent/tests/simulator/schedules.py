@@ -83,6 +83,14 @@ class Schedule:
         self.options["knows_peers"] = 0
         self.go_wrong(self.chance.randint(1, 5), ["cut_all_lines", "cut_all_lines", "cut_all_of_one", "kill_agent", "lose_power", "stop_agent", "kill_node"])
 
+    def of_seeds(self):
+        """Each machine names one that was there before it, the first one nobody or any other, and they hear of the rest by members' labels."""
+        first = self.chance.choice([[], [self.chance.choice(self.names[1:])]])
+        named = [first, *([self.chance.choice(self.names[:place])] for place in range(1, len(self.names)))]
+        self.steps = [*(script.step(0, "names", name, *peers) for name, peers in zip(self.names, named)), *self.steps]
+        if self.chance.random() < 0.7:
+            self.go_wrong(self.chance.randint(1, 4), ["kill_agent", "lose_power", "stop_agent", "kill_node", "cut_some_lines"])
+
     def of_crashes(self):
         self.options["intensity"] = self.chance.choice([1, 1000])
         for _ in range(self.chance.randint(1, 3)):
@@ -290,8 +298,8 @@ def is_whole(names, gone):
     return len(reached) == len(back) == len(names)
 
 
-FLAVOURS = {"any": "of_all", "clock": "of_clocks", "image": "of_images", "broker": "of_a_broker", "crash": "of_crashes", "late": "of_late_machines",
+FLAVOURS = {"any": "of_all", "clock": "of_clocks", "image": "of_images", "broker": "of_a_broker", "seeds": "of_seeds", "crash": "of_crashes", "late": "of_late_machines",
             "slow": "of_slow_nodes", "cut": "of_cuts", "one-way": "of_one_way_cuts", "least": "of_minorities", "partition": "of_partitions",
             "deaf": "of_the_deaf", "mute": "of_the_mute", "twin": "of_twins", "stranger": "of_strangers", "heir": "of_heirs", "full": "of_full_disks", "alone": "of_one_alone",
             "upgrade": "of_upgrades", "upgrade-any": "of_upgrades_and_faults"}
-ANY_SIZE = ("any", "clock", "image", "broker", "crash", "late", "slow", "partition", "stranger", "heir", "full", "alone", "upgrade", "upgrade-any")  # two machines are enough
+ANY_SIZE = ("any", "clock", "image", "broker", "seeds", "crash", "late", "slow", "partition", "stranger", "heir", "full", "alone", "upgrade", "upgrade-any")  # two machines are enough

@@ -13,6 +13,9 @@ What the script leaves open (how late each line and each end of a process is) co
 from typing import NamedTuple
 
 
+NO_FAULTS = "names", "begin", "ask"  # verbs
+
+
 class Step(NamedTuple):
     at: float
     verb: str
@@ -35,7 +38,7 @@ class Script(NamedTuple):
                           *(f"option {name} {value}" for name, value in self.options.items()), *map(str, self.steps), f"end {self.end:g}"])
 
     def faults(self):
-        return [step for step in self.steps if step.verb not in ("begin", "ask")]
+        return [step for step in self.steps if step.verb not in NO_FAULTS]
 
 
 def step(at, verb, *words):

@@ -16,9 +16,10 @@ class Shell:
     def __init__(self, machine, before=None):
         """`before` is the shell of the program whose runs this one goes on with."""
         self.machine, self.world, self.node, self.processes, self.tick_at, self.lines, self.is_open = machine, machine.world, None, {}, None, [], True
+        self.members = set()  # to which it connects, as it was looked at last
         options = types.SimpleNamespace(**{**vars(self.world.options), "setting": machine.setting or self.world.options.setting})
         others = [name for name, other in self.world.machines.items() if name != machine.name and not other.is_twin]
-        peers = others if options.knows_peers else None
+        peers = (others if machine.peers is None else machine.peers) if options.knows_peers else None
         mark = before.core.sight.session[1] if before else f"{self.world.chance.getrandbits(64):016x}"
         self.core = core.Core(machine.name, mark, options, peers, machine.clock(), self.whole)
         self.has_text, self.late = options.text, None  # ends that are told once there is a node, None where they are told at once
@@ -64,6 +65,9 @@ class Shell:
                 return
         for action in getattr(self.core, what)(*words, self.machine.clock()):
             getattr(self, DO.get(action[0], action[0]))(*action[1:])
+        if self.machine.peers is not None and self.core.members.since.keys() != self.members:
+            self.members = set(self.core.members.since)
+            self.world.network.relink()
         self.look_again()
 
     def look_again(self):
