@@ -85,7 +85,7 @@ class Core:
             before, was_stale = self.sight.words.get(one.name), self.sight.is_stale(one.name, self.now)
             if self.sight.hear(one, self.now, one.name == sender):
                 self.telling.take_news(one, before, was_stale)
-                self.letters.send_whole(one)
+                self.letters.take_word(one, before)
 
     @event
     def letter(self, sender, session, text):

@@ -70,10 +70,18 @@ class Letters:
         elif told.reply.startswith("refused 12"):
             self.has_all[name] = changes
 
+    def take_word(self, one, before):
+        """A word that was news: its sender may lack this machine's whole state, or have it since, and take now what it was sent before and had to refuse."""
+        name, had_whole = self.core.name, before and before.session == one.session and self.core.name in before.whole
+        if name not in one.whole:
+            self.send_whole(one)
+        elif not had_whole and self.shipped.pop(one.name, None) is not None:
+            self.ship_at = self.core.now
+
     def send_whole(self, one):
-        """Sends all to a machine whose word tells that it lacks this one's whole state, and has heard this one, of which it takes letters then."""
+        """Sends all to a machine that lacks this one's whole state, and has heard this one, of which it takes letters then."""
         core, last = self.core, self.sent_whole.get(one.name, ((), 0))
-        is_asked_for = one.name in core.up and core.name not in one.whole and core.sight.echo[one.name] > 0
+        is_asked_for = one.name in core.up and core.sight.echo[one.name] > 0
         if is_asked_for and (last[0] != one.session or core.now - last[1] > 2 * core.options.every):
             self.sent_whole[one.name] = one.session, core.now
             core.ask("image", lambda told: core.act("letter", one.name, core.sight.session, WHOLE + self.whole_letter(told.reply, core.name, one.name)))

@@ -150,6 +150,17 @@ at 0 begin b
 at 0 begin c
 end 8
 """
+STARTED_BEHIND_A_JOIN = """
+flavour slow
+machines a b c
+chance 44110086
+option every 0.9
+at 0.000 begin a
+at 0.000 begin c
+at 1.777 begin b
+at 3.552 ask a start g2 kind=good shutdown=1000
+end 23.5
+"""
 FOUND = {  # as the simulator made them small, or as they were told
     "in a ring of lines in one direction each child runs once": RING,
     "an older image waits for all that those know to which there is no link yet": OLDER,
@@ -160,5 +171,6 @@ FOUND = {  # as the simulator made them small, or as they were told
     "an older image isn't gone on with beside a machine that is heard, and doesn't hear": UNHEARD,
     "a machine that is heard for a moment, and may be dead then, is waited for no longer": CUT_OFF_AT_ITS_BEGIN,
     "two machines that name the same third one alone, and begin at once, become members": NAMED_BY_TWO,
+    "a child that is started right behind a join begins at its place": STARTED_BEHIND_A_JOIN,
     "behind a broker a machine that took all others out waits for those that it may meet when it comes back": BEHIND_A_BROKER,
 }

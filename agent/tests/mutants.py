@@ -66,6 +66,11 @@ def take_no_runs(runs, table):
     runs.keys = table["keys"]
 
 
+def tell_a_join_with_the_next_turn(self, one, before):
+    if self.core.name not in one.whole:
+        self.send_whole(one)
+
+
 def misses_words_that_cannot_have_come_yet(self, now):
     state = WHY(self, now)
     has_begun = self.own is not None and self.members.others is not None and not self.sight.has_rival()
@@ -118,6 +123,8 @@ MUTANTS = [
     Mutant("who begins goes on beside machines that don't hear it", "image", ("no dot is given twice",), {(hold.Hold, "unheard"): lambda *words: set()}, found.UNHEARD),
     Mutant("who begins misses words of others that can't have come yet", "seeds", (promises.WELL,), {(hold.Hold, "why"): misses_words_that_cannot_have_come_yet},
            found.NAMED_BY_TWO),
+    Mutant("what who begins had to refuse is sent again with the next turn alone", "slow", ("nobody pays",),
+           {(letters.Letters, "take_word"): tell_a_join_with_the_next_turn}, found.STARTED_BEHIND_A_JOIN),
     Mutant("letters are taken of whose sender's whole state nothing is known", "image", ("no dot is given twice",), {(letters.Letters, "take"): take_any_letter},
            found.CUT_OFF_AT_ITS_BEGIN),
 ]

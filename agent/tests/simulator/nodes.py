@@ -27,7 +27,7 @@ class RulesNode:
     def __init__(self, machine):
         if machine.is_full:
             raise NoNode("device")
-        options, self.letters = machine.world.options, machine.world.letters
+        options, self.world = machine.world.options, machine.world
         self.machine, self.node = machine, rules.Node(machine.name, Setting("sha256", options.intensity, options.period, 64))
         if machine.image is not None:
             boot, self.node.count, state = machine.image
@@ -68,7 +68,7 @@ class RulesNode:
         saves, before = not self.machine.is_full, self.node.count
         try:
             if verb == "deliver":
-                sender, letter = self.letters[int(words[0][1:])]
+                sender, letter = self.world.letter_of(words[0])
                 lines, letter = self.node.deliver(sender, letter, True, saves)
             else:
                 lines, letter = self.node.act(verb, words, now, saves)
@@ -87,9 +87,8 @@ class RulesNode:
         return f"  stop {ident} {run}" if verb == "stop" else f"  start {ident} {run} {self.node.state.rows[self.node.kept[ident][0]][2]}"
 
     def token(self, letter):
-        self.letters.append((self.machine.name, letter))
-        return f"L{len(self.letters) - 1}"
+        return self.world.letter_token((self.machine.name, letter))
 
     def whole(self, image, sender, to):
         """A letter with all that an image has."""
-        return self.token((to, "push", (None, self.letters[int(image[1:])][1][2][1])))
+        return self.token((to, "push", (None, self.world.letter_of(image)[1][2][1])))

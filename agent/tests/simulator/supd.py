@@ -53,7 +53,7 @@ class Supds:
 
 class SupdNode:
     def __init__(self, machine, program, folder):
-        self.machine, self.folder, options = machine, folder, machine.world.options
+        self.machine, self.world, self.folder, options = machine, machine.world, folder, machine.world.options
         words = [program, machine.name, "--image", os.path.join(folder, "image"), "--intensity", str(options.intensity), "--period", str(options.period)]
         self.process = subprocess.Popen(words, stdin=subprocess.PIPE, stdout=subprocess.PIPE, text=True)
         self.first = self.lines()
@@ -83,6 +83,8 @@ class SupdNode:
         return state
 
     def answer(self, line):
+        if line.startswith("deliver "):
+            line = "deliver " + self.world.letter_of(line.split(" ")[1])
         away = self.folder + " away"
         if self.machine.is_full:
             os.rename(self.folder, away)  # it can keep nothing
@@ -91,8 +93,14 @@ class SupdNode:
             os.rename(away, self.folder)
         if lines and lines[0].startswith(KEPT):
             self.machine.image.state = self.look()
-        return lines
+        return [self.told(line) for line in lines]
 
-    @staticmethod
-    def whole(image, sender, to):
-        return answer.whole_letter(image, sender, to)
+    def told(self, line):
+        """A line of an answer. A token stands for a letter, as where nodes go by the rules."""
+        if not line.startswith("  send "):
+            return line
+        _, _, verb, to, letter = line.split(" ", 4)
+        return f"  {verb} {to} {self.world.letter_token(letter)}"
+
+    def whole(self, image, sender, to):
+        return self.world.letter_token(answer.whole_letter(image, sender, to))

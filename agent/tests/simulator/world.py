@@ -17,7 +17,7 @@ class World:
         self.begins, self.doubles = [], []    # what `promises.py` looks at
         self.given = set()                          # the dots that nodes gave to entries of theirs
         self.given_twice, self.unknowable = [], []  # those given again though others knew them: where the giver heard one of these, and where not
-        self.letters = []                         # what nodes by the rules have written; a letter is named by its place here
+        self.letters = []                         # what nodes have written
 
     # -- time
 
@@ -41,6 +41,16 @@ class World:
     def lines(self):
         """The log as text."""
         return [f"{moment:8.3f} " + " ".join(map(str, words)) for moment, words in self.log]
+
+    # -- letters
+
+    def letter_token(self, letter):
+        """What stands for a letter, as long for each: how long an agent rests behind a letter depends on that."""
+        self.letters.append(letter)
+        return f"L{len(self.letters) - 1:09}"
+
+    def letter_of(self, token):
+        return self.letters[int(token[1:])]
 
     # -- people
 
