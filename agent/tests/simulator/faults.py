@@ -57,7 +57,12 @@ def stop_agent(world, name, seconds):
     machine = world.machines[name]
     if machine.agent is not None and not machine.is_held:
         machine.agent.take("stop")
-    world.after(float(seconds), begin_again, machine)
+    world.after(float(seconds), begin_stopped, machine)
+
+
+def begin_stopped(machine):
+    if not machine.world.is_healed:
+        begin_again(machine)
 
 
 def begin_again(machine):
@@ -215,6 +220,7 @@ def do(world, step):
 
 def heal(world):
     world.note("all faults end")
+    world.is_healed = True
     world.network.mend_all()
     for machine in list(world.machines.values()):
         machine.is_full, machine.node_slow, machine.node_held_until = False, 0.0, 0.0

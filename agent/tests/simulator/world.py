@@ -10,7 +10,7 @@ class World:
         """`node_of(machine)` begins the node of a machine. `options` are those of each agent."""
         self.chance, self.now, self.heap, self.count = random.Random(chance), 0.0, [], 0
         self.options, self.node_of, self.log, self.replies, self.commands = options, node_of, [], {}, {}
-        self.network = network.Network(self)
+        self.network, self.is_healed = network.Network(self), False
         self.machines = {name: machines.Machine(self, name) for name in names}
         self.processes, self.live = 0, {}     # how many began; of each child the processes that live
         self.ran_of_twins = 0, 0              # the processes of two machines of one name, when the second one ended
