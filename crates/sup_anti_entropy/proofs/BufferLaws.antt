@@ -1,8 +1,11 @@
 -- The buffer: deltas joined one after another, and acknowledgements kept in a map.
-use Rattle.std.specs.Prelude.{ℕ, ◌≡◌, ◌+◌, ◌<◌, ◌≤◌, Bool, true, false, cond, List, [], ◌∷◌, length, drop, slice_get, Option, Some, None, refl, if◌then◌else◌}
+use Rattle.std.specs.Prelude.{ℕ, ◌≡◌, ◌+◌, ◌<◌, ◌≤◌, Bool, true, false, cond, max, List, [], ◌∷◌, length, drop, slice_get, Option, Some, None, refl, if◌then◌else◌}
 use Rattle.std.specs.Option.{unwrap_or}
 use Rattle.std.specs.Ordering.{eq_by_cmp}
-use Rattle.std.specs.BTreeMap.{BTreeMap, get, Updates}
+use Rattle.std.specs.BTreeMap.{BTreeMap, get, is_at, Updates}
+use Rattle.std.specs.Map.{lookup}
+use Rattle.std.specs.FinMap as map
+use Rattle.std.specs.FinMap.{find, from_entries, get-empty, get-from_entries, get-insert, same_map, slice_cmp-IsAntisymmetric, nat_cmp-IsAntisymmetric}
 use Rattle.std.proofs.Common.{sym, ap, ◌∙◌}
 use Rattle.std.proofs.lemmas.Cmp.{eq_by_cmp_equiv}
 use Rattle.std.proofs.lemmas.List.{at_drop_more}
@@ -13,6 +16,7 @@ use Rattle.sup_tables.specs.States.{State}
 use Rattle.sup_tables.specs.Joined.{IsTables, no_state, join_states}
 use Rattle.sup_tables.proofs.OneForm.{nothing_is_tables}
 use Rattle.sup_tables.proofs.StateJoins.{tables_both, states_commute, states_associate, nothing_more, covered_more}
+use Rattle.sup_anti_entropy.specs.Buffers.{Acknowledged, acknowledged_by, number_of}
 use Rattle.sup_anti_entropy.specs.Shipments.{joined_deltas, taken_in, IsEnough}
 
 pub taken_is : (s : State) (ds : List State) → IsTables s → taken_in s ds ≡ join_states s (joined_deltas ds)
@@ -25,17 +29,22 @@ joined_is_enough ds state base above is tb ta e =
     ∙ states_associate above base (joined_deltas ds)
     ∙ ap (join_states above) (sym (is ∙ taken_is base ds tb))
 
-value_of : (b : Bool) (v : ℕ) (o : Option ℕ) → unwrap_or (cond b (Some v) o) 0 ≡ (if b then v else unwrap_or o 0)
-value_of true v o = refl
-value_of false v o = refl
+find_looks : (q : Bytes) (es : List (Bytes × ℕ)) → find text_cmp q es ≡ lookup (is_at (text_cmp q)) es
+find_looks q [] = refl
+find_looks q (e ∷ es) = ap (cond (eq_by_cmp text_cmp q e.0) (Some e.1)) (find_looks q es)
 
--- what is read after a number was put at a peer
-pub acked_at : (old new : BTreeMap Bytes ℕ) (from : Bytes) (v : ℕ) → Updates text_cmp old new from (Some v)
-    → (peer : Bytes) → unwrap_or (get text_cmp new peer) 0 ≡ (if eq_by_cmp text_cmp peer from then v else unwrap_or (get text_cmp old peer) 0)
-acked_at old new from v updates peer =
-    ap (λ o. unwrap_or o 0) (updates.0 peer)
-    ∙ value_of _ v (get text_cmp old peer)
-    ∙ ap (λ b. if b then v else unwrap_or (get text_cmp old peer) 0) ((eq_by_cmp_equiv nat_list_cmp_total).symm from peer)
+-- the code's map and the finite map of its entries read alike
+pub reads_alike : (m : BTreeMap Bytes ℕ) (q : Bytes) → get text_cmp m q ≡ map.get (from_entries {R = text_cmp} m.entries) q
+reads_alike m q = sym (get-from_entries nat_list_cmp_total m.entries q ∙ find_looks q m.entries)
+
+-- the finite map of the entries after a number was put at a peer
+pub put_is : (old new : BTreeMap Bytes ℕ) (from : Bytes) (v : ℕ) → Updates text_cmp old new from (Some v)
+    → from_entries {R = text_cmp} new.entries ≡ map.insert (from_entries old.entries) from v
+put_is old new from v updates = same_map nat_list_cmp_total (slice_cmp-IsAntisymmetric nat_cmp-IsAntisymmetric) _ _ (λ q.
+    sym (reads_alike new q)
+    ∙ updates.0 q
+    ∙ (λ i. cond ((eq_by_cmp_equiv nat_list_cmp_total).symm from q i) (Some v) (reads_alike old q i))
+    ∙ sym (get-insert nat_list_cmp_total (from_entries old.entries) from v q))
 
 joined_tables : (ds : List State) → IsTables (joined_deltas ds)
 joined_tables [] = nothing_is_tables
@@ -54,3 +63,21 @@ next_taken s ds i d e =
 -- none is missing before the end
 pub none_missing : (ds : List State) (i : ℕ) → slice_get ds i ≡ None → i < length ds → ⊥
 none_missing ds i e h = let some = sym e ∙ slice_get-get_or ds i no_state h in absurd cc
+
+-- nobody has acknowledged anything
+pub none_of_peer : (q : Bytes) → number_of map.empty q ≡ 0
+none_of_peer q = ap (λ o. unwrap_or o 0) (get-empty text_cmp q)
+
+pub none_acked : ◌≡◌ {A = Bytes → ℕ} (λ q. number_of map.empty q) (λ q. 0)
+none_acked = λ i q. none_of_peer q i
+
+value_of : (b : Bool) (v : ℕ) (o : Option ℕ) → unwrap_or (cond b (Some v) o) 0 ≡ (if b then v else unwrap_or o 0)
+value_of true v o = refl
+value_of false v o = refl
+
+-- what is read after an acknowledgement
+pub number_after : (acked : Acknowledged) (from : Bytes) (n : ℕ) (q : Bytes)
+    → number_of (acknowledged_by acked from n) q ≡ (if eq_by_cmp text_cmp q from then max n (number_of acked from) else number_of acked q)
+number_after acked from n q =
+    ap (λ o. unwrap_or o 0) (get-insert nat_list_cmp_total acked from (max n (number_of acked from)) q)
+    ∙ value_of (eq_by_cmp text_cmp q from) (max n (number_of acked from)) (map.get acked q)

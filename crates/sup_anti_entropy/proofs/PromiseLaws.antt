@@ -6,8 +6,7 @@ use Rattle.std.proofs.lemmas.Bool.{leb-true, leb-false}
 use Rattle.std.specs.Cmp.Lexicographic.{bytes_decides}
 use mathlib.Core.Logic.{◌⊎◌, inl, inr}
 use Rattle.sup_anti_entropy.specs.Joins.{JoinLattice}
-use Rattle.sup_anti_entropy.specs.Buffers.{acknowledged_by}
-use Rattle.sup_anti_entropy.specs.Peers.{OccursIn, delta, push, ack, HasPast, GivesPast, PeersAreSound, forgets}
+use Rattle.sup_anti_entropy.specs.Peers.{acknowledged_in, OccursIn, delta, push, ack, HasPast, GivesPast, PeersAreSound, forgets}
 use Rattle.sup_anti_entropy.specs.Promises.{NamedPeer, missing, ShipsAreRight, IsChanged, Ships, Pushes, Acknowledges, HearsAcknowledgement, StepOf, StepsKeepSound, SettlingSettles}
 use Rattle.sup_anti_entropy.proofs.PeerLaws.{Moves, moves_sound}
 use Rattle.sup_anti_entropy.proofs.StepLaws.{moves_ack, moves_change, moves_forget, moves_send, moves_stay, up_to_date, part_gives, taken_has, whole_gives}
@@ -57,12 +56,12 @@ module _ {S : Type 0} (j : JoinLattice S) where
         ] refl
 
     hearing : HearsAcknowledgement j peers p r → Goes r
-    hearing h = subst Goes (sym h.is) (moves_ack j (OccursIn peers) p (acknowledged_by bytes_eq p.acked h.from.name h.n) sound here each)
+    hearing h = subst Goes (sym h.is) (moves_ack j (OccursIn peers) p (acknowledged_in bytes_eq p.acked h.from.name h.n) sound here each)
       where
         most : HasPast j p (max h.n (p.acked h.from.name)) h.from
         most = let b = sound.between p h.from here h.sender.there in has_max h.from h.n (p.acked h.from.name) (b.acks h.n h.came) b.acked
 
-        each : (q : NamedPeer S) → OccursIn peers q → HasPast j p (acknowledged_by bytes_eq p.acked h.from.name h.n q.name) q
+        each : (q : NamedPeer S) → OccursIn peers q → HasPast j p (acknowledged_in bytes_eq p.acked h.from.name h.n q.name) q
         each q wq =
             elim (bytes_eq q.name h.from.name) as (λ b. bytes_eq q.name h.from.name ≡ b → HasPast j p (if b then max h.n (p.acked h.from.name) else p.acked q.name) q) [
               | true ↦ λ e. subst (λ x. HasPast j p (max h.n (p.acked h.from.name)) x) (sym (h.sender.only q wq ((bytes_decides q.name h.from.name).0 e))) most

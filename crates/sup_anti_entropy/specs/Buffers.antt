@@ -1,14 +1,29 @@
 -- The buffer of a node's newest deltas, and what each peer has acknowledged: Almeida, Shoker, Baquero 2018, 6 (delta intervals), with
 -- this project's bound on the deltas held.
 use Rattle.std.specs.Prelude.{ℕ, ◌+◌, ◌-◌, ◌<◌, ◌==◌, Bool, true, false, max, nat_le, List, [], ◌∷◌, ◌++◌, length, Option, Some, None, if◌then◌else◌}
+use Rattle.std.specs.Option.{unwrap_or}
+use Rattle.std.specs.FinMap.{FinMap, code, empty, get, insert}
+use Rattle.std.specs.Coded.{Coded, coded_list, coded_ℕ}
+use Rattle.sup_specs.specs.Values.{Bytes, text_cmp}
 use Rattle.sup_anti_entropy.specs.Joins.{newest_of, joined}
 
--- at most `room` deltas, oldest first, of the changes that lead to the count; and by peer the count up to which it has them
-pub record Buffer (Id K : Type 0) : Type 0 where
+-- by peer, the count up to which it has the changes
+abbrev pub Acknowledged : Type 0
+Acknowledged = FinMap text_cmp ℕ
+
+abbrev pub acknowledged_code : Coded Acknowledged
+acknowledged_code = code (coded_list coded_ℕ) coded_ℕ
+
+-- of one peer: 0 where it has acknowledged nothing
+abbrev pub number_of : Acknowledged → Bytes → ℕ
+number_of acked peer = unwrap_or (get acked peer) 0
+
+-- at most `room` deltas, oldest first, of the changes that lead to the count; and what each peer has acknowledged of them
+pub record Buffer (K : Type 0) : Type 0 where
   pub room : ℕ
   pub count : ℕ
   pub held : List K
-  pub acked : Id → ℕ  -- 0 where the peer has acknowledged nothing
+  pub acked : Acknowledged
 
 -- what a peer is sent: with the count as its number, the newest changes or all that is known
 pub record Shipment (K : Type 0) : Type 0 where
@@ -28,31 +43,31 @@ shipment_of join nothing held count known missing =
     else Some (record { content = known; number = count; whole = true })
 
 -- an acknowledged number only rises
-abbrev pub acknowledged_by : {Id : Type 0} → (Id → Id → Bool) → (Id → ℕ) → Id → ℕ → Id → ℕ
-acknowledged_by same acked from n = λ q. if same q from then max n (acked from) else acked q
+abbrev pub acknowledged_by : Acknowledged → Bytes → ℕ → Acknowledged
+acknowledged_by acked from n = insert acked from (max n (number_of acked from))
 
-module _ {Id K : Type 0} where
-  abbrev pub noted : Buffer Id K → K → Buffer Id K
+module _ {K : Type 0} where
+  abbrev pub noted : Buffer K → K → Buffer K
   noted b delta = record b { count = b.count + 1; held = holds_more b.room b.held delta }
 
   -- how many changes the peer hasn't acknowledged
-  abbrev pub missing_of : Buffer Id K → Id → ℕ
-  missing_of b to = b.count - b.acked to
+  abbrev pub missing_of : Buffer K → Bytes → ℕ
+  missing_of b to = b.count - number_of b.acked to
 
   -- those of the deltas held that it hasn't acknowledged
-  abbrev pub deltas_for : Buffer Id K → Id → List K
+  abbrev pub deltas_for : Buffer K → Bytes → List K
   deltas_for b to = newest_of (missing_of b to) b.held
 
   -- more is missing to it than is held
-  abbrev pub IsBeyondHeld : Buffer Id K → Id → Type 0
+  abbrev pub IsBeyondHeld : Buffer K → Bytes → Type 0
   IsBeyondHeld b to = length b.held < missing_of b to
 
-  abbrev pub shipped : (K → K → K) → K → Buffer Id K → K → Id → Option (Shipment K)
+  abbrev pub shipped : (K → K → K) → K → Buffer K → K → Bytes → Option (Shipment K)
   shipped join nothing b known to = shipment_of join nothing b.held b.count known (missing_of b to)
 
-  abbrev pub acked_more : (Id → Id → Bool) → Buffer Id K → Id → ℕ → Buffer Id K
-  acked_more same b from n = record b { acked = acknowledged_by same b.acked from n }
+  abbrev pub acked_more : Buffer K → Bytes → ℕ → Buffer K
+  acked_more b from n = record b { acked = acknowledged_by b.acked from n }
 
   -- after a restart nothing is held and nothing acknowledged; the count goes on
-  abbrev pub restarted : Buffer Id K → ℕ → Buffer Id K
-  restarted b count = record b { count = count; held = []; acked = λ q. 0 }
+  abbrev pub restarted : Buffer K → ℕ → Buffer K
+  restarted b count = record b { count = count; held = []; acked = empty }

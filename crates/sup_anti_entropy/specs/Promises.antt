@@ -3,9 +3,8 @@
 use Rattle.std.specs.Prelude.{ℕ, ◌≡◌, ◌-◌, ◌≤◌, List, ◌∷◌, length}
 use Rattle.std.specs.Str.{bytes_eq}
 use mathlib.Core.Logic.{◌⊎◌}
-use Rattle.sup_anti_entropy.specs.Buffers.{acknowledged_by}
 use Rattle.sup_anti_entropy.specs.Joins.{JoinLattice, newest_of, joined}
-use Rattle.sup_anti_entropy.specs.Peers.{OccursIn, delta, push, ack, Peer, GivesPast, PeersAreSound, Change, changed, sends, forgets}
+use Rattle.sup_anti_entropy.specs.Peers.{acknowledged_in, OccursIn, delta, push, ack, Peer, GivesPast, PeersAreSound, Change, changed, sends, forgets}
 use Rattle.sup_anti_entropy.specs.Settling.{GathersOthers, SpreadsToOthers, StatesAlike, AllStatesAlike}
 
 -- peers are named by texts
@@ -67,7 +66,7 @@ module _ {S : Type 0} (j : JoinLattice S) where
     pub sender : IsOnePeer peers from
     pub n : ℕ
     pub came : OccursIn from.sent (ack p.name n)
-    pub is : r ≡ record p { acked = acknowledged_by bytes_eq p.acked from.name n }
+    pub is : r ≡ record p { acked = acknowledged_in bytes_eq p.acked from.name n }
 
   -- a step of p, one of the peers, that leaves it as r; a stop and a restart forget
   abbrev pub StepOf : List (NamedPeer S) → NamedPeer S → NamedPeer S → Type 0

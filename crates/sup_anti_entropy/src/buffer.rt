@@ -1,14 +1,14 @@
 //! The newest deltas of a node, and what its peers have acknowledged.
 ghost use Rattle.std.specs.Prelude.{◌≡◌, ◌↔◌, ◌≤◌, [], length, IsTrue, IsErr, IsNone, IfOk, IfSome, OnOk, OnErr};
 ghost use Rattle.std.specs.Option.{unwrap_or, option_map};
-ghost use Rattle.std.specs.Ordering.{eq_by_cmp};
+ghost use Rattle.std.specs.FinMap.{empty};
 ghost use Rattle.std.specs.BTreeMap.{get};
 ghost use Rattle.std.proofs.Props.{props};
 ghost use Rattle.sup_specs.specs.Values.{Bytes, text_cmp};
 ghost use Rattle.sup_specs.specs.declared.limits.TheConstants.{MAX};
 ghost use Rattle.sup_tables.specs.Joined.{no_state, join_states};
 ghost use Rattle.sup_anti_entropy.specs.Joins.{newest_of};
-ghost use Rattle.sup_anti_entropy.specs.Buffers.{noted, deltas_for, IsBeyondHeld, shipped, acked_more, restarted};
+ghost use Rattle.sup_anti_entropy.specs.Buffers.{noted, deltas_for, number_of, IsBeyondHeld, shipped, acked_more, restarted};
 ghost use Rattle.sup_anti_entropy.specs.Shipments.{joined_deltas, IsEnough};
 
 use crate::fault::NoteFault;
@@ -16,6 +16,7 @@ use crate::shipment::Shipment;
 use circular_buffer::HeapCircularBuffer;
 use std::alloc::{AllocError, Global};
 use std::collections::BTreeMap;
+use std::marker::Model;
 use sup_causal::Lattice;
 use sup_specs::{MAX, NodeName};
 use sup_tables::Tables;
@@ -33,14 +34,27 @@ pub struct Buffer {
     pub ghost within: { (peer : Bytes) → unwrap_or (get text_cmp acknowledged peer) 0 ≤ count } by { Prim.hlevel props },
 }
 
+impl Model for Buffer {
+    ghost use Rattle.std.specs.Coded.{codes};
+    ghost use Rattle.std.specs.FinMap.{from_entries};
+    ghost use Rattle.sup_tables.specs.States.{State};
+    ghost use Rattle.sup_anti_entropy.specs.Buffers.{Buffer, acknowledged_code};
+
+    ghost Value = { Buffer State };
+
+    ghost coded = { Prim.hlevel (codes, acknowledged_code) };
+
+    ghost view = { λ b. record { room = b.deltas.capacity; count = b.count; held = b.deltas.items; acked = from_entries b.acknowledged.entries } };
+}
+
 impl Buffer {
-    ghost use Rattle.sup_anti_entropy.specs.Contents.{buffer_of, shipment_of};
+    ghost use Rattle.sup_anti_entropy.specs.Contents.{shipment_of};
 
     /// A buffer that holds nothing, with room for `capacity` deltas, 1 to 1024. All the room that `note` needs is taken
     /// here, and an `Err` says that it was refused.
     pub fn new(alloc: Global, capacity: usize) -> Result<Buffer, AllocError>
         requires limits { (1 ≤ capacity) × (capacity ≤ 1024) }
-        ensures { IfOk result (λ b. buffer_of b ≡ record { room = capacity; count = 0; held = []; acked = λ peer. 0 }) }
+        ensures { IfOk result (λ b. b ≡ record { room = capacity; count = 0; held = []; acked = empty }) }
     {
         Ok(Buffer {
             count: 0,
@@ -56,9 +70,9 @@ impl Buffer {
     ///
     /// `NoteFault::CountSpent` where the count is `MAX`. The buffer is unchanged then.
     pub fn note(&mut self, delta: Tables) -> Result<(), NoteFault>
-        ensures ok { OnOk result (buffer_of self.new ≡ noted (buffer_of self.old) delta) }
-        ensures spent { IsErr result ↔ ((buffer_of self.old).count ≡ MAX) }
-        ensures err { OnErr result (buffer_of self.new ≡ buffer_of self.old) }
+        ensures ok { OnOk result (self.new ≡ noted self.old delta) }
+        ensures spent { IsErr result ↔ (self.old.count ≡ MAX) }
+        ensures err { OnErr result (self.new ≡ self.old) }
     {
         if self.count == MAX {
             return Err(NoteFault::CountSpent);
@@ -75,10 +89,10 @@ impl Buffer {
     ///
     /// Refused only for memory.
     pub fn ship(&self, state: &Tables, to: &NodeName) -> Result<Option<Shipment>, AllocError>
-        ensures value { IfOk result (λ sent. option_map shipment_of sent ≡ shipped join_states no_state (buffer_of self.now) state.now to.now) }
-        ensures up_to_date { IfOk result (λ sent. IsNone sent ↔ ((buffer_of self.now).acked to.now ≡ (buffer_of self.now).count)) }
-        ensures whole { IfOk result (λ sent. IfSome sent (λ s. IsTrue s.whole ↔ IsBeyondHeld (buffer_of self.now) to.now)) }
-        ensures enough { IfOk result (λ sent. IfSome sent (λ s. IsEnough (deltas_for (buffer_of self.now) to.now) state.now s.delta)) }
+        ensures value { IfOk result (λ sent. option_map shipment_of sent ≡ shipped join_states no_state self.now state.now to.now) }
+        ensures up_to_date { IfOk result (λ sent. IsNone sent ↔ (number_of self.now.acked to.now ≡ self.now.count)) }
+        ensures whole { IfOk result (λ sent. IfSome sent (λ s. IsTrue s.whole ↔ IsBeyondHeld self.now to.now)) }
+        ensures enough { IfOk result (λ sent. IfSome sent (λ s. IsEnough (deltas_for self.now to.now) state.now s.delta)) }
     {
         let missing = self.count - self.acknowledged(to);
         if missing == 0 {
@@ -99,7 +113,7 @@ impl Buffer {
 
     // The newest deltas, joined.
     fn newest(&self, missing: usize) -> Result<Tables, AllocError>
-        ensures joined { IfOk result (λ delta. delta ≡ joined_deltas (newest_of missing (buffer_of self.now).held)) }
+        ensures joined { IfOk result (λ delta. delta ≡ joined_deltas (newest_of missing self.now.held)) }
     {
         let mut delta = Tables::empty(self.alloc);
         let first = self.deltas.len().saturating_sub(missing);
@@ -117,9 +131,9 @@ impl Buffer {
     ///
     /// Refused only for memory. The buffer is unchanged then.
     pub fn acked(&mut self, from: NodeName, n: u64) -> Result<(), AllocError>
-        requires counted { n ≤ (buffer_of self.old).count }
-        ensures ok { OnOk result (buffer_of self.new ≡ acked_more (eq_by_cmp text_cmp) (buffer_of self.old) from n) }
-        ensures err { OnErr result (buffer_of self.new ≡ buffer_of self.old) }
+        requires counted { n ≤ self.old.count }
+        ensures ok { OnOk result (self.new ≡ acked_more self.old from n) }
+        ensures err { OnErr result (self.new ≡ self.old) }
     {
         let greater = n.max(self.acknowledged(&from));
         self.acknowledged.insert(from, greater)?;
@@ -128,7 +142,7 @@ impl Buffer {
 
     /// How many changes there were.
     pub fn count(&self) -> u64
-        ensures value { result ≡ (buffer_of self.now).count }
+        ensures value { result ≡ self.now.count }
         ensures within { result ≤ MAX }
     {
         self.count
@@ -136,16 +150,16 @@ impl Buffer {
 
     /// How many deltas are held.
     pub fn held(&self) -> usize
-        ensures value { result ≡ length (buffer_of self.now).held }
-        ensures within { result ≤ (buffer_of self.now).room }
+        ensures value { result ≡ length self.now.held }
+        ensures within { result ≤ self.now.room }
     {
         self.deltas.len()
     }
 
     /// The number that a peer has acknowledged, 0 where it acknowledged none.
     pub fn acknowledged(&self, peer: &NodeName) -> u64
-        ensures value { result ≡ (buffer_of self.now).acked peer.now }
-        ensures within { result ≤ (buffer_of self.now).count }
+        ensures value { result ≡ number_of self.now.acked peer.now }
+        ensures within { result ≤ self.now.count }
     {
         self.acknowledged.get(peer).copied().unwrap_or(0)
     }
@@ -153,7 +167,7 @@ impl Buffer {
     /// Goes on from a count, as after a restart: no delta is held and nothing acknowledged.
     pub fn restart(&mut self, count: u64)
         requires limit { count ≤ MAX }
-        ensures { buffer_of self.new ≡ restarted (buffer_of self.old) count }
+        ensures { self.new ≡ restarted self.old count }
     {
         self.count = count;
         self.deltas.clear();

@@ -1,18 +1,12 @@
 -- What a keeper over a file keeps (this project).
-use Rattle.std.specs.Prelude.{ℕ, Bool, Option, Some, None, []}
+use Rattle.std.specs.Prelude.{ℕ, Bool, Option, Some, None}
 use Rattle.std.specs.Global.{Vec}
-use Rattle.sup_specs.specs.Values.{Bytes}
 use Rattle.sup_disk.specs.Crashes.{What}
 
 -- the bytes of a copy of what a file has
 abbrev pub copied : Option (Vec ℕ) → What
 copied None = None
 copied (Some bytes) = Some bytes.items
-
--- the bytes that are kept: none where there is no file yet
-abbrev pub kept_of : What → Bytes
-kept_of None = []
-kept_of (Some bytes) = bytes
 
 -- what a contract sees of a keeper over a disk
 pub record Filed (D : Type 0) : Type 0 where

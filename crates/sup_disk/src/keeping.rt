@@ -1,8 +1,9 @@
 //! A keeper over a disk.
 
-ghost use Rattle.std.specs.Prelude.{◌≡◌, ◌≢◌, ◌⊎◌, ◌↔◌, ◌+◌, Bool, true, false, Some, None, Err, IfErr, IfOk, OnOk, OnErr, IsErr, IsTrue};
+ghost use Rattle.std.specs.Prelude.{◌≡◌, ◌≢◌, ◌⊎◌, ◌↔◌, ◌+◌, true, false, Some, None, Err, IfErr, IfOk, OnOk, OnErr, IsErr, IsTrue};
 ghost use Rattle.std.proofs.Props.{props};
 ghost use Rattle.sup_keeper.specs.declared.keeper.KeepFault.TheVariants.{Failed, OutOfMemory};
+ghost use Rattle.sup_keeper.specs.Keepers.{bytes_found, kept};
 ghost use Rattle.sup_disk.specs.Crashes.{NoMore, OrThese, OnlyThis, WereFlushed};
 ghost use Rattle.sup_disk.specs.Copies.{copied};
 
@@ -15,16 +16,13 @@ use sup_keeper::{KeepFault, Keeper};
 
 /// A keeper that shows what it keeps, and tells whether other bytes may outlive it.
 pub trait ImageKeeper: Keeper {
-    // What outlives it may be other bytes than those that it keeps.
-    ghost lost: { Self → Bool };
-
     /// Whether what outlives it may be other bytes than those that it keeps.
     fn is_lost(&self) -> bool
-        ensures { result ≡ lost self.now };
+        ensures { result ≡ (Self.seen self.now).lost };
 
     /// The bytes that it keeps.
     fn stored(&self) -> &[u8]
-        ensures { result.now ≡ Self.kept self.now };
+        ensures { result.now ≡ kept (Self.seen self.now) };
 }
 
 /// Keeps bytes in a file, and a copy of them. As long as it isn't lost, a loss of power leaves the copy and nothing else; once it is, each
@@ -102,8 +100,6 @@ impl<D: Disk> DiskKeeper<D> {
 }
 
 impl<D: Disk> ImageKeeper for DiskKeeper<D> {
-    ghost lost = { λ k. k.lost };
-
     fn is_lost(&self) -> bool {
         self.lost
     }
@@ -118,21 +114,9 @@ impl<D: Disk> ImageKeeper for DiskKeeper<D> {
 
 impl<D: Disk> Keeper for DiskKeeper<D> {
     ghost use Rattle.std.specs.Prelude.{true, false};
-    ghost use Rattle.sup_disk.specs.Copies.{kept_of};
 
-    ghost kept = { λ k. kept_of k.copy };
-
-    ghost found = { λ k. k.copy };
-
-    ghost failures = { λ k. k.failures };
-
-    ghost failing = { λ k. k.lost };
-
-    // A disk may fail at any time.
-    ghost sound = { λ _. false };
-
-    // A load gives the copy.
-    ghost readable = { λ _. true };
+    // A disk may fail at any time, and a load gives the copy.
+    ghost seen = { λ k. record { found = k.copy; failures = k.failures; failing = k.lost; sound = false; readable = true; lost = k.lost } };
 
     fn save(&mut self, bytes: &[u8]) -> Result<(), KeepFault>
         ensures keeps { OnOk result (self.new.copy ≡ Some bytes.now) }
@@ -176,7 +160,7 @@ impl<D: Disk> Keeper for DiskKeeper<D> {
     }
 
     fn load(&mut self) -> Result<Vec<u8>, KeepFault>
-        ensures gives { IfOk result (λ bytes. bytes.items ≡ kept_of self.old.copy) }
+        ensures gives { IfOk result (λ bytes. bytes.items ≡ bytes_found self.old.copy) }
         ensures same { self.new ≡ self.old }
         ensures refused { result ≢ Err Failed }
     {

@@ -1,6 +1,6 @@
 //! A keeper in memory that fails at one call.
 ghost use Rattle.std.specs.Prelude.{◌≡◌, ◌≢◌, ◌≤◌, ◌+◌, true, false, Some, Err, MatchResult, IfOk};
-ghost use Rattle.sup_keeper.specs.Keeping.{Saves};
+ghost use Rattle.sup_keeper.specs.Keeping.{SavesInMemory};
 ghost use Rattle.sup_keeper.specs.Fuses.{burnt, to_come};
 ghost use Rattle.sup_keeper.specs.declared.keeper.KeepFault.TheVariants.{Failed};
 
@@ -71,22 +71,12 @@ impl FuseKeeper {
 impl Keeper for FuseKeeper {
     ghost use Rattle.std.specs.Prelude.{false, Some};
 
-    ghost kept = { λ k. k.inner.bytes };
-
-    ghost found = { λ k. Some k.inner.bytes };
-
-    ghost failures = { λ k. k.failures };
-
     // A load may fail where no save would be answered with success, so nothing can be said.
-    ghost failing = { λ _. false };
-
-    ghost sound = { λ _. false };
-
-    ghost readable = { λ _. false };
+    ghost seen = { λ k. record { found = Some k.inner.bytes; failures = k.failures; failing = false; sound = false; readable = false; lost = false } };
 
     fn save(&mut self, bytes: &[u8]) -> Result<(), KeepFault>
         ensures blows { self.old.left ≡ Some 0 → (result ≡ Err Failed) × (self.new.inner ≡ self.old.inner) }
-        ensures goes { self.old.left ≢ Some 0 → Saves self.old.inner bytes.now result self.new.inner }
+        ensures goes { self.old.left ≢ Some 0 → SavesInMemory self.old.inner bytes.now result self.new.inner }
         ensures counted { self.new.left ≡ burnt self.old.left }
         ensures failed { result ≡ Err Failed → self.new.failures ≡ self.old.failures + 1 }
         ensures uncounted { result ≢ Err Failed → self.new.failures ≡ self.old.failures }

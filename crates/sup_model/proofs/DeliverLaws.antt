@@ -35,6 +35,8 @@ use Rattle.sup_model.proofs.SimLaws.{kept_stands, reconciled_stands, changes_sam
 use Rattle.sup_model.proofs.ActLaws.{now_still, now_changed, notes_valid, change_of, Act, kept_after, kept_fits, trio_with, in-letters, noted_moves, still_moves}
 use Rattle.sup_model.proofs.MailLaws.{in-sites, through, none_fresh}
 use Rattle.sup_model.proofs.ShipLaws.{covers_below}
+use Rattle.sup_anti_entropy.specs.Buffers.{acknowledged_by, number_of}
+use Rattle.sup_anti_entropy.proofs.BufferLaws.{number_after}
 
 module _ {K : Type 0} (k : Knowledge K) (view : StateView K) (laws : StateLaws k view) where
   -- a content brings a node what a list of operations is
@@ -261,11 +263,11 @@ module _ {K : Type 0} (k : Knowledge K) (view : StateView K) (laws : StateLaws k
       → (let x : StationMove K = record { done = record { reply = Acked; effects = [] }; letter = None; station = acknowledged k t.post.station by n } in Act k view laws j t x (only t.site.node Acked [] None))
   ack_act j s t from by to n m h c named =
       let st = t.post.station in
-      let v = max n (st.acked by) in
+      let v = max n (number_of st.acked by) in
       let has = ack_has j s t from by to n m h c named in
-      let old : HasPast view.joins (peer view t) (st.acked by) (peer view s) =
-      subst (λ x. HasPast view.joins (peer view t) (st.acked x) (peer view s)) (sym c.stands.0) (h.sound.between (peer view t) (peer view s) (t, c.receiver, refl) (s, c.sender, refl)).acked in
-      let most = has_max (peer view t) (peer view s) n (st.acked by) has old in
+      let old : HasPast view.joins (peer view t) (number_of st.acked by) (peer view s) =
+      subst (λ x. HasPast view.joins (peer view t) (number_of st.acked x) (peer view s)) (sym c.stands.0) (h.sound.between (peer view t) (peer view s) (t, c.receiver, refl) (s, c.sender, refl)).acked in
+      let most = has_max (peer view t) (peer view s) n (number_of st.acked by) has old in
       record {
         past = t.past;
         kept = λ n h. refl;
@@ -278,8 +280,8 @@ module _ {K : Type 0} (k : Knowledge K) (view : StateView K) (laws : StateLaws k
         effects = refl;
         letter = tt;
         fresh = λ x e. none_fresh k view laws (ArePeersOf view j.trios) (peer view (trio_with k view laws t (acknowledged k st by n) t.site.node t.past None None)) x e;
-        moves = moves_ack view.joins (ArePeersOf view j.trios) (peer view t) (λ q. if is_named q by then v else st.acked q) h.sound (t, c.receiver, refl) (λ q w.
-            (elim (eq_by_cmp text_cmp q.name by) as (λ b. eq_by_cmp text_cmp q.name by ≡ b → HasPast view.joins (peer view t) (if b then v else st.acked q.name) q) [
+        moves = moves_ack view.joins (ArePeersOf view j.trios) (peer view t) (λ q. number_of (acknowledged_by st.acked by n) q) h.sound (t, c.receiver, refl) (λ q w.
+            subst (λ x. HasPast view.joins (peer view t) x q) (sym (number_after st.acked by n q.name)) (elim (eq_by_cmp text_cmp q.name by) as (λ b. eq_by_cmp text_cmp q.name by ≡ b → HasPast view.joins (peer view t) (if b then v else number_of st.acked q.name) q) [
               | true ↦ λ e. subst (λ y. HasPast view.joins (peer view t) v y) (sym (is_sender j s h c.sender q w (sym c.stands.0 ∙ sym (same_text q.name by e)))) most
               | false ↦ λ _. (h.sound.between (peer view t) q (t, c.receiver, refl) w).acked
             ] refl));

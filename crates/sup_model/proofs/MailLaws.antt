@@ -31,6 +31,7 @@ use Rattle.sup_model.specs.Stands.{MessageStands, OutcomeStands, DoneTogether, B
 use Rattle.sup_model.specs.Joint.{NodeTrio, JointWorld, real_of, letter_of, peer, ArePeersOf, MailStands, JointHolds}
 use Rattle.sup_model.proofs.SimLaws.{act_stands, kept_stands}
 use Rattle.sup_model.proofs.ActLaws.{IsOwn, now_still, Act, Moved, of_moved, own_act, kept_after, kept_fits, trio_with}
+use Rattle.sup_anti_entropy.proofs.BufferLaws.{none_acked}
 
 pub in-sites : {K : Type 0} (trios : List (NodeTrio K)) (t : NodeTrio K) → OccursIn trios t → OccursIn (map (λ (u : NodeTrio K). u.site) trios) t.site
 in-sites [] t h = h
@@ -116,7 +117,7 @@ module _ {K : Type 0} (k : Knowledge K) (view : StateView K) (laws : StateLaws k
   rest_act j t h here o p s v fits =
       let st = t.post.station in
       let same : forgets (peer view t) ≡ peer view (trio_with k view laws t (volatile k st o.node) p.node t.past None None) =
-      λ i. record { name = sym v.name i; state = view.sem (sym v.known i); count = sym v.count i; past = λ n. view.sem (t.past n); held = []; acked = λ q. 0; sent = map (letter_of view) t.post.sent } in
+      λ i. record { name = sym v.name i; state = view.sem (sym v.known i); count = sym v.count i; past = λ n. view.sem (t.past n); held = []; acked = sym none_acked i; sent = map (letter_of view) t.post.sent } in
       record {
         past = t.past;
         kept = λ n h. refl;

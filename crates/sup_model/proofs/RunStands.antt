@@ -25,6 +25,8 @@ use Rattle.sup_model.proofs.CleanWorld.{new_clean}
 use Rattle.sup_model.proofs.MailLaws.{Answers}
 use Rattle.sup_model.proofs.DeliverLaws.{Comes, brought, delta_arrival, push_arrival}
 use Rattle.sup_model.proofs.StepStands.{Stepping, step_stands}
+use Rattle.std.specs.FinMap.{empty}
+use Rattle.sup_anti_entropy.proofs.BufferLaws.{none_of_peer}
 
 map-map : {X Y Z : Type 0} (f : Y → Z) (g : X → Y) (xs : List X) → map f (map g xs) ≡ map (λ x. f (g x)) xs
 map-map f g [] = refl
@@ -91,7 +93,7 @@ module _ {K : Type 0} (k : Knowledge K) (view : StateView K) (laws : StateLaws k
   -- a new world
   abbrev pub new_trio : WorldSetting → ℕ → Bytes → NodeTrio K
   new_trio setting room name = record {
-    post = record { station = record { node = fresh k name setting.intensity setting.period; held = []; room = room; acked = λ q. 0 }; sent = [] };
+    post = record { station = record { node = fresh k name setting.intensity setting.period; held = []; room = room; acked = empty }; sent = [] };
     site = record { node = fresh by_operations name setting.intensity setting.period; sent = [] };
     past = λ n. k.nothing;
   }
@@ -129,7 +131,7 @@ module _ {K : Type 0} (k : Knowledge K) (view : StateView K) (laws : StateLaws k
 
   new_between : (setting : WorldSetting) (room : ℕ) (a b : Bytes) → IsSoundBetween view.joins (peer view (new_trio setting room a)) (peer view (new_trio setting room b))
   new_between setting room a b = record {
-    acked = record { counted = omega arith; has = view.joins.itself (view.sem k.nothing) };
+    acked = record { counted = omega (arith, none_of_peer b); has = view.joins.itself (view.sem k.nothing) };
     acks = λ n h. absurd h;
     deltas = λ n content h. absurd h;
   }

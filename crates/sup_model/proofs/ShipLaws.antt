@@ -22,7 +22,7 @@ use Rattle.sup_anti_entropy.proofs.PeerLaws.{Fresh}
 use Rattle.sup_anti_entropy.proofs.StepLaws.{moves_stay, up_to_date, part_gives, whole_gives}
 use Rattle.sup_model.specs.Laws.{StateView, StateLaws}
 use Rattle.sup_replica.specs.Stations.{Mail, a_delta, StationMove, mail_of_shipment, shipped, ship_step, station_step}
-use Rattle.sup_anti_entropy.specs.Buffers.{Shipment}
+use Rattle.sup_anti_entropy.specs.Buffers.{Shipment, number_of}
 use Rattle.sup_model.specs.Joint.{NodeTrio, JointWorld, model_of, letter_of, peer, ArePeersOf, AllStatesValid, JointHolds}
 use Rattle.sup_model.proofs.TopLaws.{Covers_of_alike}
 use Rattle.sup_model.proofs.IssueLaws.{some_same}
@@ -123,7 +123,7 @@ module _ {K : Type 0} (k : Knowledge K) (view : StateView K) (laws : StateLaws k
   ship_inner j t u h here there to named =
       let st = t.post.station in
       let C = OperationsCover u.site.node.known t.site.node.known in
-      let missing = st.node.count - st.acked to in
+      let missing = st.node.count - number_of st.acked to in
       let W = ArePeersOf view j.trios in
       let wp : W (peer view t) = (t, here, refl) in
       let newest = newest_of missing st.held in
@@ -133,7 +133,7 @@ module _ {K : Type 0} (k : Knowledge K) (view : StateView K) (laws : StateLaws k
       let mail = mail_of_shipment st.node.name to in
       elim (missing == 0) as (λ b. (missing == 0) ≡ b → Shipping j t to C (mail (if b then None else if nat_le missing (length st.held) then Some part else Some all))) [
         | true ↦ λ e.
-            let none : st.node.count - st.acked u.post.station.node.name ≡ 0 = subst (λ n. st.node.count - st.acked n ≡ 0) named (eqb-true missing 0 e) in
+            let none : st.node.count - number_of st.acked u.post.station.node.name ≡ 0 = subst (λ n. st.node.count - number_of st.acked n ≡ 0) named (eqb-true missing 0 e) in
             let below = up_to_date view.joins W (peer view t) (peer view u) h.sound wp (u, there, refl) none in
             (refl, covers_below u.post.station.node.known st.node.known u.site.node.known t.site.node.known (h.each u there).node.state (h.each t here).node.state (pair_clear j u t h there here) below)
         | false ↦ λ _.

@@ -5,7 +5,7 @@ use Rattle.std.proofs.lemmas.Option.{none-some}
 use Rattle.sup_specs.specs.Values.{Bytes}
 use Rattle.sup_tables.specs.States.{State}
 use Rattle.sup_tables.specs.Operations.{NoClash, covers}
-use Rattle.sup_anti_entropy.specs.Buffers.{Shipment, shipment_of}
+use Rattle.sup_anti_entropy.specs.Buffers.{Shipment, number_of, shipment_of}
 use Rattle.sup_placement.specs.Place.{Weigher}
 use Rattle.sup_replica.specs.declared.event.Event.TheVariants.{Join, Leave, Drain, Start, Replace, Delete, Register, Unregister, Exit, Ship, Push, Deliver}
 use Rattle.sup_replica.specs.declared.event.Act.{Act}
@@ -113,12 +113,12 @@ pub ships_stand : ShipsStand
 ships_stand codec g s m to now saves h fits =
     let o = only m Sent [] (Some (record { to = to; kind = delta; content = m.known })) in
     let ok : Result (ActOutcome Ops) Refusal = Ok o in
-    let all = (s.node.count - s.acked to) == 0 in
+    let all = (s.node.count - number_of s.acked to) == 0 in
     let x = ship_step by_tables s (shipped by_tables s to) in
     let y = kept_by saves (refused_if (not m.up) Down (refused_if (is_named to m.name) UnknownNode ok)) in
     subst (λ b. ShipStands all (refused_if (not b) Down (refused_if (is_named to s.node.name) UnknownNode x)) y) (sym h.up)
     (subst (λ b. ShipStands all (refused_if (not m.up) Down (refused_if b UnknownNode x)) y) (sym (ap (is_named to) h.name))
-    (ship_checked m.up (is_named to m.name) saves all x o fits refl (shipment_stands s m to h all (shipment_of by_tables.with_more by_tables.nothing s.held s.node.count s.node.known (s.node.count - s.acked to)) (none_of _ _ _ _))))
+    (ship_checked m.up (is_named to m.name) saves all x o fits refl (shipment_stands s m to h all (shipment_of by_tables.with_more by_tables.nothing s.held s.node.count s.node.known (s.node.count - number_of s.acked to)) (none_of _ _ _ _))))
 
 -- mail that brings operations
 abbrev Answered : Bytes → Kind → ActOutcome Ops → Type 0

@@ -11,6 +11,7 @@ use Rattle.sup_replica.specs.Stations.{MailCodec, Mail, a_delta, a_push, an_ack}
 use Rattle.sup_model.specs.Posts.{StationPost, RealWorld, RealAnswer, reads}
 use Rattle.sup_model.specs.Stands.{NodeStands}
 use Rattle.sup_model.specs.Clean.{HasCleanRows}
+use Rattle.sup_anti_entropy.specs.Buffers.{number_of}
 
 -- one node: what the code keeps, the model's node, and, for proofs alone, the state that it had at each count
 pub record NodeTrio (K : Type 0) : Type 0 where
@@ -43,7 +44,7 @@ module _ {K : Type 0} (view : StateView K) where
     count = t.post.station.node.count;
     past = λ n. view.sem (t.past n);
     held = map view.sem t.post.station.held;
-    acked = t.post.station.acked;
+    acked = λ q. number_of t.post.station.acked q;
     sent = map letter_of t.post.sent;
   }
 

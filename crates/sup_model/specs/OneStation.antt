@@ -18,6 +18,7 @@ use Rattle.sup_replica.specs.Steps.{passes_greatest}
 use Rattle.sup_model.specs.Stands.{BothOrNone, DoneTogether, NodeStands}
 use Rattle.sup_model.specs.TableViews.{table_view}
 use Rattle.sup_model.specs.Worlds.{Ops}
+use Rattle.sup_anti_entropy.specs.Buffers.{number_of}
 
 -- a letter beside a message: for the same node. A push stands for its operations; which deltas a ship sends is the buffer's matter
 abbrev pub LetterStands : Mail State → Message Ops → Type 0
@@ -53,7 +54,7 @@ ShipStands acknowledged (Ok move) (Err q) = ⊥
 abbrev pub ShipsStand : Type 0
 ShipsStand =
     (codec : MailCodec State) (g : Weigher) (s : Station State) (m : Node Ops) (to : Bytes) (now : ℕ) (saves : Bool) → NodeStands table_view s.node m → passes_greatest m ≡ false
-    → ShipStands ((s.node.count - s.acked to) == 0) (station_step by_tables codec g s (Of (Ship to)) now saves) (kept_by saves (act_step by_operations g m (Of (Ship to)) now))
+    → ShipStands ((s.node.count - number_of s.acked to) == 0) (station_step by_tables codec g s (Of (Ship to)) now saves) (kept_by saves (act_step by_operations g m (Of (Ship to)) now))
 
 -- mail beside a message: its content stands for the message's operations. An acknowledged number is no greater than the count
 abbrev pub MailStandsFor : Station State → Mail State → Message Ops → Type 0

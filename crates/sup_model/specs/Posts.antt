@@ -15,6 +15,7 @@ use Rattle.sup_replica.specs.Nodes.{Knowledge, is_named, fresh}
 use Rattle.sup_model.specs.declared.step.Step.{Step}
 use Rattle.sup_model.specs.declared.step.Step.TheVariants.{Node as AtNode, Deliver as Delivery, Raw}
 use Rattle.sup_replica.specs.Stations.{Station, Mail, MailCodec, StationMove, receiver_of, station_step, mail_step}
+use Rattle.std.specs.FinMap.{empty}
 
 -- a station with all that it ever sent, oldest first
 pub record StationPost (K : Type 0) : Type 0 where
@@ -105,4 +106,4 @@ module _ {K : Type 0} (k : Knowledge K) where
 
   abbrev pub real_new : WorldSetting → ℕ → MailCodec K → List Bytes → RealWorld K
   real_new setting room codec names =
-      record { weigher = setting.weigher; codec = codec; posts = map (λ name. record { station = record { node = fresh k name setting.intensity setting.period; held = []; room = room; acked = λ q. 0 }; sent = [] }) names }
+      record { weigher = setting.weigher; codec = codec; posts = map (λ name. record { station = record { node = fresh k name setting.intensity setting.period; held = []; room = room; acked = empty }; sent = [] }) names }

@@ -4,7 +4,8 @@
 use Rattle.std.specs.Prelude.{ℕ, ◌-◌, Bool, true, not, nat_lt, List, [], Option, Some, None, Result, Ok, Err, if◌then◌else◌}
 use Rattle.std.specs.Option.{unwrap_or}
 use Rattle.sup_specs.specs.Values.{Bytes}
-use Rattle.sup_anti_entropy.specs.Buffers.{Shipment, holds_more, shipment_of, acknowledged_by}
+use Rattle.std.specs.FinMap.{empty}
+use Rattle.sup_anti_entropy.specs.Buffers.{Acknowledged, Shipment, holds_more, shipment_of, acknowledged_by, number_of}
 use Rattle.sup_placement.specs.Place.{Weigher}
 use Rattle.sup_replica.specs.declared.event.Event.TheVariants.{Ship, Deliver}
 use Rattle.sup_replica.specs.declared.event.Act.{Act}
@@ -22,7 +23,7 @@ pub record Station (K : Type 0) : Type 0 where
   pub node : Node K
   pub held : List K  -- the newest deltas, oldest first, at most `room`
   pub room : ℕ
-  pub acked : Bytes → ℕ  -- by peer, 0 where none
+  pub acked : Acknowledged
 
 -- what leaves: a delta with its number, a push, an acknowledgement; `from` is who sent it
 pub data Mail (K : Type 0) : Type 0 where
@@ -60,7 +61,7 @@ module _ {K : Type 0} where
 module _ {K : Type 0} (k : Knowledge K) where
   -- what a ship to a peer sends, if it isn't up to date
   abbrev pub shipped : Station K → Bytes → Option (Mail K)
-  shipped s to = mail_of_shipment s.node.name to (shipment_of k.with_more k.nothing s.held s.node.count s.node.known (s.node.count - s.acked to))
+  shipped s to = mail_of_shipment s.node.name to (shipment_of k.with_more k.nothing s.held s.node.count s.node.known (s.node.count - number_of s.acked to))
 
   -- a counted change puts its delta behind the held ones
   abbrev pub notes : Station K → Node K → K → Station K
@@ -68,7 +69,7 @@ module _ {K : Type 0} (k : Knowledge K) where
 
   -- a stop or a restart forgets what is volatile
   abbrev pub volatile : Station K → Node K → Station K
-  volatile s n = record s { node = n; held = []; acked = λ q. 0 }
+  volatile s n = record s { node = n; held = []; acked = empty }
 
   abbrev pub pushed : Bytes → Option (Message K) → Option (Mail K)
   pushed from None = None
@@ -98,7 +99,7 @@ module _ {K : Type 0} (k : Knowledge K) where
 
   -- an acknowledged number only rises
   abbrev pub acknowledged : Station K → Bytes → ℕ → Station K
-  acknowledged s from n = record s { acked = acknowledged_by is_named s.acked from n }
+  acknowledged s from n = record s { acked = acknowledged_by s.acked from n }
 
   -- a letter is taken; a delta is answered by an acknowledgement of its number
   abbrev pub mail_step : Weigher → Station K → Mail K → Bool → Result (StationMove K) Refusal

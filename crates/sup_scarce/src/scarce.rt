@@ -1,6 +1,6 @@
 //! A keeper that lacks memory at one call.
 ghost use Rattle.std.specs.Prelude.{◌≡◌, ◌≢◌, true, false, Some, is_none, Err, IfOk};
-ghost use Rattle.sup_keeper.specs.Keeping.{Saves};
+ghost use Rattle.sup_keeper.specs.Keeping.{SavesInMemory};
 ghost use Rattle.sup_keeper.specs.Fuses.{burnt};
 ghost use Rattle.sup_keeper.specs.declared.keeper.KeepFault.TheVariants.{Failed, OutOfMemory};
 
@@ -71,23 +71,13 @@ impl Scarce {
 }
 
 impl Keeper for Scarce {
-    ghost use Rattle.std.specs.Prelude.{not, true, Some};
+    ghost use Rattle.sup_keeper.specs.Keeping.{memory_seen};
 
-    ghost kept = { λ k. k.inner.bytes };
-
-    ghost found = { λ k. Some k.inner.bytes };
-
-    ghost failures = { λ k. k.inner.failures };
-
-    ghost failing = { λ k. k.inner.failing };
-
-    ghost sound = { λ k. not k.inner.failing };
-
-    ghost readable = { λ _. true };
+    ghost seen = { λ k. memory_seen k.inner };
 
     fn save(&mut self, bytes: &[u8]) -> Result<(), KeepFault>
         ensures lacks { self.old.left ≡ Some 0 → (result ≡ Err OutOfMemory) × (self.new.inner ≡ self.old.inner) }
-        ensures goes { self.old.left ≢ Some 0 → Saves self.old.inner bytes.now result self.new.inner }
+        ensures goes { self.old.left ≢ Some 0 → SavesInMemory self.old.inner bytes.now result self.new.inner }
         ensures counted { self.new.left ≡ burnt self.old.left }
     {
         if self.refuses() {

@@ -1,7 +1,6 @@
 -- An act that a station has made ready, and what becomes of the station once that is committed (the rule of durability).
-use Rattle.std.specs.Prelude.{◌≡◌, ◌≢◌, ◌≤◌, ℕ, Bool, true, false, List, Option, Some, None, Result, Ok, Err, MatchResult}
+use Rattle.std.specs.Prelude.{◌≡◌, ◌≢◌, ◌≤◌, ℕ, Bool, true, false, List, Option, Some, None, Result, Ok, Err}
 use mathlib.Core.Logic.{◌⊎◌}
-use Rattle.sup_specs.specs.Values.{Bytes}
 use Rattle.sup_tables.specs.declared.row.Row.{Row}
 use Rattle.sup_tables.specs.States.{State}
 use Rattle.sup_array_text.specs.Arrays.{ArrayShown}
@@ -11,6 +10,7 @@ use Rattle.sup_wire.specs.RowTexts.{AreTextsOf}
 use Rattle.sup_wire.specs.ImageTexts.{IsTextFor}
 use Rattle.sup_placement.specs.Place.{Weigher}
 use Rattle.sup_replica.specs.declared.event.Act.{Act}
+use Rattle.sup_replica.specs.declared.event.Act.TheVariants.{Restart}
 use Rattle.sup_replica.specs.declared.done.Done.{Done}
 use Rattle.sup_replica.specs.declared.refusal.Refusal.{Refusal}
 use Rattle.sup_replica.specs.declared.refusal.Refusal.TheVariants.{KeepFailed, OutOfMemory}
@@ -19,8 +19,9 @@ use Rattle.sup_node.specs.Changes.{saves, station_after}
 use Rattle.sup_node.specs.NodeStates.{station_in}
 use Rattle.sup_node.specs.NodeSteps.{IsPlanNow}
 use Rattle.sup_node.specs.Placed.{keeps_placed}
+use Rattle.sup_keeper.specs.Keepers.{KeeperSeen, SaveFailed, LoadFailed}
 use Rattle.sup_station.specs.Boots.{rows_known}
-use Rattle.sup_station.specs.KeptStations.{KeptStation, AnswersAct, RefusesAct, FailsToSave, ComesToSave}
+use Rattle.sup_station.specs.KeptStations.{StationSeen, AnswersAct, RefusesAct, FailsToSave, ComesToSave}
 use Rattle.sup_station.specs.declared.prepared.Prepared.{Prepared}
 use Rattle.sup_station.specs.declared.prepared.Next.{Next}
 use Rattle.sup_station.specs.declared.prepared.Next.TheVariants.{Changes, Stops, Runs}
@@ -63,9 +64,9 @@ node_after (Some n) (Changes p) = Some (station_after n p.change)
 node_after n (Stops done) = None
 node_after n (Runs state done) = Some (station_in state)
 
-abbrev pub kept_after : Bytes → Option ArrayShown → Bytes
-kept_after kept None = kept
-kept_after kept (Some text) = text.text
+abbrev pub keeper_after : KeeperSeen → Option ArrayShown → KeeperSeen
+keeper_after k None = k
+keeper_after k (Some text) = record k { found = Some text.text }
 
 -- a text that is kept of an image, with the texts of its rows
 pub record IsKept (text : ArrayShown) (image : Image) : Type 0 where
@@ -85,8 +86,8 @@ SavesRows rows None = Unit {0}
 SavesRows rows (Some text) = AreTextsOf rows (Some text)
 
 -- the station once it is committed
-abbrev pub after : KeptStation → Prepared → KeptStation
-after s p = record s { node = node_after s.node p.next; kept = kept_after s.kept p.text }
+abbrev pub after : StationSeen → Prepared → StationSeen
+after s p = record s { node = node_after s.node p.next; keeper = keeper_after s.keeper p.text }
 
 -- what a change asks of the node: that it is a plan of it as it is
 abbrev pub IsPlanFor : Weigher → Option (Station State) → Next → Type 0
@@ -95,35 +96,49 @@ IsPlanFor g (Some n) (Changes p) = IsPlanNow g n p
 IsPlanFor g n (Stops done) = Unit {0}
 IsPlanFor g n (Runs state done) = (1 ≤ (station_in state).node.supervisor.boot) × (keeps_placed g (station_in state).node ≡ true)
 
--- what a commit asks of the station: it answers some act so
-pub record IsReadyFor (g : Weigher) (s : KeptStation) (p : Prepared) : Type 0 where
+-- it has no save, or that can be answered with success
+abbrev pub CanSave : StationSeen → Prepared → Type 0
+CanSave s p = is_saved p ≡ true → s.keeper.failing ≡ false
+
+-- what a commit asks of the station: it answers some act so, where its save can hold
+pub record IsReadyFor (g : Weigher) (s : StationSeen) (p : Prepared) : Type 0 where
   pub plan : IsPlanFor g s.node p.next
   pub saved : saves_in p.next ≡ is_saved p
   pub rows : SavesRows (rows_known (node_after s.node p.next)) p.text
-  pub answer : (act : Act) × (now : ℕ) × AnswersAct g s act now (Ok (done_of p)) (after s p)
+  pub answer : (act : Act) × (now : ℕ) × (CanSave s p → AnswersAct g s act now (Ok (done_of p)) (after s p))
 
 -- what is made ready of an act: its answer, what the station becomes, and what it may be refused for yet
-pub record IsPreparedFor (g : Weigher) (s : KeptStation) (act : Act) (now : ℕ) (p : Prepared) : Type 0 where
-  pub goes : AnswersAct g s act now (Ok (done_of p)) (after s p)
+pub record IsPreparedFor (g : Weigher) (s : StationSeen) (act : Act) (now : ℕ) (p : Prepared) : Type 0 where
+  pub goes : CanSave s p → AnswersAct g s act now (Ok (done_of p)) (after s p)
   pub ready : IsReadyFor g s p
   pub saves : ComesToSave g s s.node act now → is_saved p ≡ true
   pub unsaved : is_saved p ≡ true → FailsToSave g s s.node act now
   pub lacks : takes_memory p ≡ true → RefusesAct g s s.node act now OutOfMemory
 
 -- what is made ready, or a refusal that no failure of the keeper is the reason of
-abbrev pub PreparesAct : Weigher → KeptStation → Act → ℕ → Result Prepared Refusal → Type 0
+abbrev pub PreparesAct : Weigher → StationSeen → Act → ℕ → Result Prepared Refusal → Type 0
 PreparesAct g s act now (Ok p) = IsPreparedFor g s act now p
 PreparesAct g s act now (Err r) = (r ≢ KeepFailed) × RefusesAct g s s.node act now r
 
--- what is made ready, or a refusal, whatever the reason
-abbrev pub IsPreparedOrRefused : Weigher → KeptStation → Act → ℕ → Result Prepared Refusal → Type 0
-IsPreparedOrRefused g s act now result = MatchResult result (IsPreparedFor g s act now) (RefusesAct g s s.node act now)
+-- a restart's load fails, and nothing else of the station is new
+pub record LoadFails (s : StationSeen) (act : Act) (t : StationSeen) : Type 0 where
+  pub restart : act ≡ Restart
+  pub stopped : s.node ≡ None
+  pub same : t ≡ record s { keeper = t.keeper }
+  pub fails : LoadFailed s.keeper t.keeper
 
--- why a commit is refused: its save fails, or for memory
-abbrev pub RefusesCommit : Prepared → Refusal → Type 0
-RefusesCommit p r = ((r ≡ KeepFailed) × (is_saved p ≡ true)) ⊎ ((r ≡ OutOfMemory) × (takes_memory p ≡ true))
+-- what is made ready, and the station, which is unchanged but for a load that fails
+abbrev pub Prepares : Weigher → StationSeen → Act → ℕ → Result Prepared Refusal → StationSeen → Type 0
+Prepares g s act now (Ok p) t = (t ≡ s) × IsPreparedFor g s act now p
+Prepares g s act now (Err r) t = ((r ≡ KeepFailed) × LoadFails s act t) ⊎ ((r ≢ KeepFailed) × (t ≡ s) × RefusesAct g s s.node act now r)
+
+-- the save of what is ready fails, and nothing else of the station is new
+pub record SaveFails (s : StationSeen) (p : Prepared) (t : StationSeen) : Type 0 where
+  pub saved : is_saved p ≡ true
+  pub same : t ≡ record s { keeper = t.keeper }
+  pub fails : SaveFailed s.keeper t.keeper
 
 -- the answer of a commit, and what the station is after it
-abbrev pub CommitsPrepared : KeptStation → Prepared → Result Done Refusal → KeptStation → Type 0
-CommitsPrepared s p (Ok done) t = (done ≡ done_of p) × (t ≡ after s p)
-CommitsPrepared s p (Err r) t = (t ≡ s) × RefusesCommit p r
+abbrev pub CommitsPrepared : StationSeen → Prepared → Result Done Refusal → StationSeen → Type 0
+CommitsPrepared s p (Ok done) t = (done ≡ done_of p) × CanSave s p × (t ≡ after s p)
+CommitsPrepared s p (Err r) t = ((r ≡ KeepFailed) × SaveFails s p t) ⊎ ((r ≡ OutOfMemory) × (takes_memory p ≡ true) × (t ≡ s))

@@ -1,13 +1,12 @@
 //! What a station is asked.
-ghost use Rattle.std.specs.Prelude.{◌≡◌, ◌≢◌, ◌<◌, ◌≤◌, ◌+◌, true, false, Some, None, IsErr, IfErr, IfOk, OnOk, OnErr};
+ghost use Rattle.std.specs.Prelude.{◌≡◌, None, IfErr, IfOk};
 ghost use Rattle.std.specs.Option.{option_map, option_copied};
 ghost use Rattle.sup_node.specs.Contents.{station_of};
-ghost use Rattle.sup_replica.specs.declared.event.Act.TheVariants.{Restart};
-ghost use Rattle.sup_replica.specs.declared.refusal.Refusal.TheVariants.{KeepFailed};
-ghost use Rattle.sup_keeper.specs.Keeping.{failing_next};
-ghost use Rattle.sup_station.specs.OpenedStations.{OpensStation, IsKeepRefusal, kept_by};
-ghost use Rattle.sup_station.specs.PreparedActs.{IsPreparedOrRefused, IsReadyFor, CommitsPrepared, is_saved};
-ghost use Rattle.sup_station.specs.KeptStations.{kept_station_of, keeper_of, AnswersAct, FailsActBySave, BringsActToSave, IsFailingOrSound, IsUnsaved};
+ghost use Rattle.sup_keeper.specs.Keeping.{failing_next, memory_seen};
+ghost use Rattle.sup_station.specs.OpenedStations.{OpensStation};
+ghost use Rattle.sup_station.specs.SavedKeepers.{RefusesSave};
+ghost use Rattle.sup_station.specs.PreparedActs.{Prepares, IsReadyFor, CommitsPrepared};
+ghost use Rattle.sup_station.specs.KeptStations.{station_seen, keeper_of, AnswersAct};
 
 use crate::prepared::Prepared;
 use crate::station::becoming::{change_to, save_and_change};
@@ -35,21 +34,8 @@ impl<K: Keeper, W: Weigh> Station<K, W> {
         config: Config,
         keeper: K,
     ) -> Result<Station<K, W>, Refused<K>>
-        ensures opens { IfOk result (λ s. OpensStation name config (kept_station_of K.kept s)) }
-        ensures refused { IfErr result (λ r. K.kept r.keeper ≡ K.kept keeper) }
-        ensures unput { IfErr result (λ r. K.found r.keeper ≡ K.found keeper) }
-        ensures reason { IfErr result (λ r. IsKeepRefusal r.reason) }
-        ensures rose { IfErr result (λ r. r.reason ≡ KeepFailed → K.failures keeper < K.failures r.keeper) }
-        ensures told { IfErr result (λ r. K.failures keeper < K.failures r.keeper → r.reason ≡ KeepFailed) }
-        ensures never_falls { IfErr result (λ r. K.failures keeper ≤ K.failures r.keeper) }
-        ensures by_one { IfErr result (λ r. K.failures r.keeper ≤ K.failures keeper + 1) }
-        ensures uncounted { IfOk result (λ s. K.failures (keeper_of s) ≡ K.failures keeper) }
-        ensures failing { K.failing keeper ≡ true → IsErr result }
-        ensures sound { IfErr result (λ r. K.sound keeper ≡ true → r.reason ≢ KeepFailed) }
-        ensures stays_sound { IfOk result (λ s. K.sound keeper ≡ true → K.sound (keeper_of s) ≡ true) }
-        ensures stays_readable { IfOk result (λ s. K.readable keeper ≡ true → K.readable (keeper_of s) ≡ true) }
-        ensures still_sound { IfErr result (λ r. K.sound keeper ≡ true → K.sound r.keeper ≡ true) }
-        ensures still_readable { IfErr result (λ r. K.readable keeper ≡ true → K.readable r.keeper ≡ true) }
+        ensures opens { IfOk result (λ s. OpensStation name config (K.seen keeper) (station_seen K.seen s)) }
+        ensures refused { IfErr result (λ r. RefusesSave r.reason (K.seen keeper) (K.seen r.keeper)) }
     {
         let mut keeper = keeper;
         match open(alloc, name, config, &mut keeper) {
@@ -68,7 +54,7 @@ impl<K: Keeper, W: Weigh> Station<K, W> {
 
     /// A station whose node is stopped. A restart goes on from what the keeper keeps.
     pub fn stopped(alloc: Global, name: NodeName, config: Config, keeper: K) -> Station<K, W>
-        ensures still { kept_station_of K.kept result ≡ record { name = name; config = config; node = None; kept = K.kept keeper } }
+        ensures still { station_seen K.seen result ≡ record { name = name; config = config; node = None; keeper = K.seen keeper } }
         ensures keeper { keeper_of result ≡ keeper }
     {
         let node = None;
@@ -85,7 +71,7 @@ impl<K: Keeper, W: Weigh> Station<K, W> {
 
     /// Its node, or none while it is stopped.
     pub fn node(&self) -> Option<&Node<W>>
-        ensures { option_map station_of (option_copied result) ≡ (kept_station_of K.kept self.now).node }
+        ensures { option_map station_of (option_copied result) ≡ (station_seen K.seen self.now).node }
     {
         self.node.as_ref()
     }
@@ -106,22 +92,7 @@ impl<K: Keeper, W: Weigh> Station<K, W> {
     /// refused as its node's plan is. A restart is refused with `KeepFailed` where the load fails, `BadMessage` where the
     /// bytes are no image of this node, `CountSpent` where the boot would pass `MAX`, and `OutOfMemory`.
     pub fn prepare(&mut self, act: &Act, now: u64, weigher: &W) -> Result<Prepared, Refusal>
-        ensures same { kept_station_of K.kept self.new ≡ kept_station_of K.kept self.old }
-        ensures found { K.found (keeper_of self.new) ≡ K.found (keeper_of self.old) }
-        ensures answer { IsPreparedOrRefused W.weight_of (kept_station_of K.kept self.old) act.now now result }
-        ensures loads { act.now ≢ Restart → (keeper_of self.new ≡ keeper_of self.old) × (result ≢ Err KeepFailed) }
-        ensures rose { result ≡ Err KeepFailed → K.failures (keeper_of self.old) < K.failures (keeper_of self.new) }
-        ensures told { K.failures (keeper_of self.old) < K.failures (keeper_of self.new) → result ≡ Err KeepFailed }
-        ensures never_falls { K.failures (keeper_of self.old) ≤ K.failures (keeper_of self.new) }
-        ensures by_one { K.failures (keeper_of self.new) ≤ K.failures (keeper_of self.old) + 1 }
-        ensures uncounted { OnOk result (K.failures (keeper_of self.new) ≡ K.failures (keeper_of self.old)) }
-        ensures stays_failing { K.failing (keeper_of self.new) ≡ K.failing (keeper_of self.old) }
-        ensures stays_sound { K.sound (keeper_of self.new) ≡ K.sound (keeper_of self.old) }
-        ensures stays_readable { K.readable (keeper_of self.new) ≡ K.readable (keeper_of self.old) }
-        ensures sound { K.sound (keeper_of self.old) ≡ true → result ≢ Err KeepFailed }
-        ensures failing { K.failing (keeper_of self.old) ≡ true → result ≢ Err KeepFailed }
-        ensures readable { K.readable (keeper_of self.old) ≡ true → result ≢ Err KeepFailed }
-        ensures steady { IsFailingOrSound K.failing K.sound self.old → K.failures (keeper_of self.new) ≡ K.failures (keeper_of self.old) }
+        ensures { Prepares W.weight_of (station_seen K.seen self.old) act.now now result (station_seen K.seen self.new) }
     {
         match act {
             Act::Event(event) => {
@@ -144,20 +115,8 @@ impl<K: Keeper, W: Weigh> Station<K, W> {
     /// `KeepFailed` where the save fails; `OutOfMemory`, but not of a stop. The station is unchanged then, but for the
     /// keeper's count of failures.
     pub fn commit(&mut self, prepared: Prepared) -> Result<Done, Refusal>
-        requires { IsReadyFor W.weight_of (kept_station_of K.kept self.old) prepared }
-        ensures answer { CommitsPrepared (kept_station_of K.kept self.old) prepared result (kept_station_of K.kept self.new) }
-        ensures unput { OnErr result (K.found (keeper_of self.new) ≡ K.found (keeper_of self.old)) }
-        ensures rose { result ≡ Err KeepFailed → K.failures (keeper_of self.old) < K.failures (keeper_of self.new) }
-        ensures told { K.failures (keeper_of self.old) < K.failures (keeper_of self.new) → result ≡ Err KeepFailed }
-        ensures never_falls { K.failures (keeper_of self.old) ≤ K.failures (keeper_of self.new) }
-        ensures by_one { K.failures (keeper_of self.new) ≤ K.failures (keeper_of self.old) + 1 }
-        ensures uncounted { OnOk result (K.failures (keeper_of self.new) ≡ K.failures (keeper_of self.old)) }
-        ensures idle { is_saved prepared ≡ false → keeper_of self.new ≡ keeper_of self.old }
-        ensures failing { K.failing (keeper_of self.old) ≡ true → is_saved prepared ≡ true → IsErr result }
-        ensures sound { K.sound (keeper_of self.old) ≡ true → result ≢ Err KeepFailed }
-        ensures stays_sound { K.sound (keeper_of self.old) ≡ true → K.sound (keeper_of self.new) ≡ true }
-        ensures stays_readable { K.readable (keeper_of self.old) ≡ true → K.readable (keeper_of self.new) ≡ true }
-        ensures steady { K.sound (keeper_of self.old) ≡ true → K.failures (keeper_of self.new) ≡ K.failures (keeper_of self.old) }
+        requires { IsReadyFor W.weight_of (station_seen K.seen self.old) prepared }
+        ensures { CommitsPrepared (station_seen K.seen self.old) prepared result (station_seen K.seen self.new) }
     {
         let Prepared { next, text } = prepared;
         match text {
@@ -186,21 +145,7 @@ impl<K: Keeper, W: Weigh> Station<K, W> {
     ///
     /// As these two tell. The station is unchanged then, but for the keeper's count of failures.
     pub fn step(&mut self, act: Act, now: u64, weigher: &W) -> Result<Done, Refusal>
-        ensures goes { AnswersAct W.weight_of (kept_station_of K.kept self.old) act now result (kept_station_of K.kept self.new) }
-        ensures unput { OnErr result (K.found (keeper_of self.new) ≡ K.found (keeper_of self.old)) }
-        ensures rose { result ≡ Err KeepFailed → K.failures (keeper_of self.old) < K.failures (keeper_of self.new) }
-        ensures told { K.failures (keeper_of self.old) < K.failures (keeper_of self.new) → result ≡ Err KeepFailed }
-        ensures never_falls { K.failures (keeper_of self.old) ≤ K.failures (keeper_of self.new) }
-        ensures by_one { K.failures (keeper_of self.new) ≤ K.failures (keeper_of self.old) + 1 }
-        ensures uncounted { OnOk result (K.failures (keeper_of self.new) ≡ K.failures (keeper_of self.old)) }
-        ensures failing { K.failing (keeper_of self.old) ≡ true → BringsActToSave K.kept W.weight_of self.old act now → IsUnsaved result }
-        ensures sound { K.sound (keeper_of self.old) ≡ true → result ≢ Err KeepFailed }
-        ensures unsaved { IsFailingOrSound K.failing K.sound self.old → result ≡ Err KeepFailed → FailsActBySave K.kept W.weight_of self.old act now }
-        ensures order { K.readable (keeper_of self.old) ≡ true → result ≡ Err KeepFailed → FailsActBySave K.kept W.weight_of self.old act now }
-        ensures idle { act ≢ Restart → ¬ FailsActBySave K.kept W.weight_of self.old act now → keeper_of self.new ≡ keeper_of self.old }
-        ensures stays_sound { K.sound (keeper_of self.old) ≡ true → K.sound (keeper_of self.new) ≡ true }
-        ensures stays_readable { K.readable (keeper_of self.old) ≡ true → K.readable (keeper_of self.new) ≡ true }
-        ensures steady { K.sound (keeper_of self.old) ≡ true → K.failures (keeper_of self.new) ≡ K.failures (keeper_of self.old) }
+        ensures { AnswersAct W.weight_of (station_seen K.seen self.old) act now result (station_seen K.seen self.new) }
     {
         let prepared = self.prepare(&act, now, weigher)?;
         self.commit(prepared)
@@ -210,8 +155,7 @@ impl<K: Keeper, W: Weigh> Station<K, W> {
 impl<W: Weigh> Station<MemKeeper, W> {
     /// Whether the next save of its keeper fails. None does once `u64::MAX` have.
     pub fn fail_next(&mut self, fails: bool)
-        ensures keeper { keeper_of self.new ≡ failing_next (keeper_of self.old) fails }
-        ensures still { kept_station_of kept_by self.new ≡ kept_station_of kept_by self.old }
+        ensures { station_seen memory_seen self.new ≡ record (station_seen memory_seen self.old) { keeper = memory_seen (failing_next (keeper_of self.old) fails) } }
     {
         self.keeper.fail_next(fails);
     }

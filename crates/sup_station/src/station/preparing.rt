@@ -6,9 +6,9 @@ ghost use Rattle.sup_wire.specs.RowTexts.{AreRows};
 ghost use Rattle.sup_node.specs.Changes.{image_after};
 ghost use Rattle.sup_node.specs.Contents.{station_of};
 ghost use Rattle.sup_node.specs.NodeSteps.{IsPlanNow};
-ghost use Rattle.sup_station.specs.Counts.{CountsLoad};
-ghost use Rattle.sup_station.specs.PreparedActs.{IsPreparedOrRefused, PreparesAct, IsKept, IsKeptOf};
-ghost use Rattle.sup_station.specs.KeptStations.{kept_station_of, keeper_of, IsOwnImage, ReadsOwnImage};
+ghost use Rattle.sup_keeper.specs.Keepers.{kept};
+ghost use Rattle.sup_station.specs.PreparedActs.{Prepares, PreparesAct, IsKept, IsKeptOf};
+ghost use Rattle.sup_station.specs.KeptStations.{station_seen, keeper_of, IsOwnImage, ReadsOwnImage};
 
 use crate::prepared::{Next, Prepared};
 use crate::station::Station;
@@ -33,7 +33,7 @@ impl<K: Keeper, W: Weigh> Station<K, W> {
         weigher: &W,
         room: &mut Room,
     ) -> Result<Prepared, Refusal>
-        ensures { PreparesAct W.weight_of (kept_station_of K.kept self.now) (Of event.now) now result }
+        ensures { PreparesAct W.weight_of (station_seen K.seen self.now) (Of event.now) now result }
     {
         let Some(node) = &self.node else {
             return Err(Refusal::Down);
@@ -53,7 +53,7 @@ impl<K: Keeper, W: Weigh> Station<K, W> {
         planned: &Planned,
         room: &mut Room,
     ) -> Result<Option<ArrayText>, AllocError>
-        requires here { (kept_station_of K.kept self.now).node ≡ Some (station_of node.now) }
+        requires here { (station_seen K.seen self.now).node ≡ Some (station_of node.now) }
         requires plan { IsPlanNow W.weight_of (station_of node.now) planned.now }
         ensures { IfOk result (λ text. IsKeptOf (image_after (station_of node.now).node planned.now.change) text) }
     {
@@ -67,7 +67,7 @@ impl<K: Keeper, W: Weigh> Station<K, W> {
 
     // The texts of the rows that its node knows.
     fn texts_of(&self, node: &Node<W>) -> &ArrayText
-        requires { (kept_station_of K.kept self.now).node ≡ Some (station_of node.now) }
+        requires { (station_seen K.seen self.now).node ≡ Some (station_of node.now) }
         ensures { AreRows (station_of node.now).node.known.rows result.now.items }
     {
         let Some(texts) = &self.texts else {
@@ -78,7 +78,7 @@ impl<K: Keeper, W: Weigh> Station<K, W> {
 
     // Makes a stop ready.
     pub(super) fn prepare_stop(&self, now: u64) -> Result<Prepared, Refusal>
-        ensures { PreparesAct W.weight_of (kept_station_of K.kept self.now) Stop now result }
+        ensures { PreparesAct W.weight_of (station_seen K.seen self.now) Stop now result }
     {
         if self.node.is_none() {
             return Err(Refusal::Down);
@@ -96,10 +96,7 @@ impl<K: Keeper, W: Weigh> Station<K, W> {
 
     // Makes a restart ready.
     pub(super) fn prepare_restart(&mut self, now: u64, weigher: &W) -> Result<Prepared, Refusal>
-        ensures same { kept_station_of K.kept self.new ≡ kept_station_of K.kept self.old }
-        ensures found { K.found (keeper_of self.new) ≡ K.found (keeper_of self.old) }
-        ensures answer { IsPreparedOrRefused W.weight_of (kept_station_of K.kept self.old) Restart now result }
-        ensures counts { CountsLoad K.failures K.failing K.sound K.readable (keeper_of self.old) (keeper_of self.new) result }
+        ensures { Prepares W.weight_of (station_seen K.seen self.old) Restart now result (station_seen K.seen self.new) }
     {
         if self.node.is_some() {
             return Err(Refusal::AlreadyUp);
@@ -112,9 +109,9 @@ impl<K: Keeper, W: Weigh> Station<K, W> {
 
     // Makes a restart from these bytes ready, which the keeper keeps.
     fn restart_from(&self, bytes: &[u8], now: u64, weigher: &W) -> Result<Prepared, Refusal>
-        requires stopped { (kept_station_of K.kept self.now).node ≡ None }
-        requires kept { bytes.now ≡ (kept_station_of K.kept self.now).kept }
-        ensures { PreparesAct W.weight_of (kept_station_of K.kept self.now) Restart now result }
+        requires stopped { (station_seen K.seen self.now).node ≡ None }
+        requires kept { bytes.now ≡ kept (K.seen (keeper_of self.now)) }
+        ensures { PreparesAct W.weight_of (station_seen K.seen self.now) Restart now result }
     {
         let image = self.own_image(bytes)?;
         self.restart_by(image, now, weigher)
@@ -122,7 +119,7 @@ impl<K: Keeper, W: Weigh> Station<K, W> {
 
     // The image of this node that the bytes are read as.
     fn own_image(&self, bytes: &[u8]) -> Result<Image, Refusal>
-        ensures { ReadsOwnImage (kept_station_of K.kept self.now).name bytes.now result }
+        ensures { ReadsOwnImage (station_seen K.seen self.now).name bytes.now result }
     {
         match decode_image(self.alloc, bytes) {
             Ok(image) => {
@@ -138,9 +135,9 @@ impl<K: Keeper, W: Weigh> Station<K, W> {
 
     // Makes a restart from an image ready.
     fn restart_by(&self, image: Image, now: u64, weigher: &W) -> Result<Prepared, Refusal>
-        requires stopped { (kept_station_of K.kept self.now).node ≡ None }
-        requires own { IsOwnImage (kept_station_of K.kept self.now).name (kept_station_of K.kept self.now).kept image }
-        ensures { PreparesAct W.weight_of (kept_station_of K.kept self.now) Restart now result }
+        requires stopped { (station_seen K.seen self.now).node ≡ None }
+        requires own { IsOwnImage (station_seen K.seen self.now).name (kept (K.seen (keeper_of self.now))) image }
+        ensures { PreparesAct W.weight_of (station_seen K.seen self.now) Restart now result }
     {
         let boot = image.boot + 1;
         let (image, text) = with_next_boot(self.alloc, image)?;

@@ -1,7 +1,7 @@
 //! Saves of an image.
-ghost use Rattle.std.specs.Prelude.{◌≡◌, IfErr, IfOk, OnOk, OnErr};
-ghost use Rattle.sup_station.specs.Counts.{CountsSave};
-ghost use Rattle.sup_station.specs.OpenedStations.{IsKeepRefusal, refusal_of};
+ghost use Rattle.std.specs.Prelude.{◌≡◌, IfOk};
+ghost use Rattle.sup_station.specs.OpenedStations.{refusal_of};
+ghost use Rattle.sup_station.specs.SavedKeepers.{SavesText};
 ghost use Rattle.sup_station.specs.PreparedActs.{IsKept};
 
 use std::alloc::{AllocError, Global};
@@ -30,11 +30,7 @@ pub(super) fn text_of(alloc: Global, image: &Image) -> Result<ArrayText, AllocEr
 
 // Saves a text.
 pub(super) fn save_text<K: Keeper>(keeper: &mut K, text: &[u8]) -> Result<(), Refusal>
-    ensures leaves { OnOk result (K.kept keeper.new ≡ text.now) }
-    ensures refused { OnErr result (K.kept keeper.new ≡ K.kept keeper.old) }
-    ensures unput { OnErr result (K.found keeper.new ≡ K.found keeper.old) }
-    ensures reason { IfErr result (λ r. IsKeepRefusal r) }
-    ensures counts { CountsSave K.failures K.failing K.sound K.readable keeper.old keeper.new result }
+    ensures { SavesText text.now result (K.seen keeper.old) (K.seen keeper.new) }
 {
     match keeper.save(text) {
         Ok(()) => Ok(()),

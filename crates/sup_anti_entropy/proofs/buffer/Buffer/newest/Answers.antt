@@ -7,14 +7,14 @@ use Rattle.sup_anti_entropy.proofs.buffer.Buffer.newest.Goals.{in-Some+in_ok-joi
 
 pub loop-place-init : goal.loop-place-init
 loop-place-init c =
-    let items = c.args.self.now.deltas.items in
+    let items = c.self.inside.deltas.items in
     ap (λ s. taken_in s (drop c.saturating_sub-first.result items)) c.empty-delta.ensures.state
     ∙ ap (λ n. taken_in _ (drop n items)) (c.saturating_sub-first.ensures ∙ ap (λ n. n - c.args.missing) c.len.ensures.len)
     ∙ taken_alone (newest_of c.args.missing items)
 
 pub loop-place-preserved : goal.loop-place-preserved
 loop-place-preserved c =
-    let items = c.args.self.now.deltas.items in
+    let items = c.self.inside.deltas.items in
     elim c.match-get.branch [
       | in-Some+in_ok-join_from w ↦
           ap (λ s. taken_in s (drop (c.loop-place.place + 1) items)) (w.delta-is ∙ w.in_ok-join_from.ensures.state)
