@@ -64,24 +64,24 @@ once_at (s ∷ old) [] h e name = absurd h
 once_at (s ∷ old) (t ∷ new) h e name =
     let same : is_named name s.name ≡ is_named name t.name = ap (is_named name) (sym (same_first t.name s.name (named_in new) (named_in old) e)) in
     let rest = once_at old new h.1 (same_rest t.name s.name (named_in new) (named_in old) e) name in
-    subst (λ b. unwrap_or (option_map (λ (x : SeenNode). x.failures) (cond (is_named name t.name) (Some t) (find (λ (x : SeenNode). is_named name x.name) new))) 0
-    ≤ unwrap_or (option_map (λ (x : SeenNode). x.failures) (cond b (Some s) (find (λ (x : SeenNode). is_named name x.name) old))) 0 + 1) (sym same)
-    (elim (is_named name t.name) as (λ b. unwrap_or (option_map (λ (x : SeenNode). x.failures) (cond b (Some t) (find (λ (x : SeenNode). is_named name x.name) new))) 0
-    ≤ unwrap_or (option_map (λ (x : SeenNode). x.failures) (cond b (Some s) (find (λ (x : SeenNode). is_named name x.name) old))) 0 + 1) [ true ↦ h.0.1 | false ↦ rest ])
+    subst (λ b. unwrap_or (option_map (λ (x : SeenNode). x.kept_station.keeper.failures) (cond (is_named name t.name) (Some t) (find (λ (x : SeenNode). is_named name x.name) new))) 0
+    ≤ unwrap_or (option_map (λ (x : SeenNode). x.kept_station.keeper.failures) (cond b (Some s) (find (λ (x : SeenNode). is_named name x.name) old))) 0 + 1) (sym same)
+    (elim (is_named name t.name) as (λ b. unwrap_or (option_map (λ (x : SeenNode). x.kept_station.keeper.failures) (cond b (Some t) (find (λ (x : SeenNode). is_named name x.name) new))) 0
+    ≤ unwrap_or (option_map (λ (x : SeenNode). x.kept_station.keeper.failures) (cond b (Some s) (find (λ (x : SeenNode). is_named name x.name) old))) 0 + 1) [ true ↦ h.0.1 | false ↦ rest ])
 
 abbrev pub FailedBy : List PlacedEntry → List SeenNode → Type 0
 FailedBy order sites = (name : Bytes) → failures_at sites name ≤ length (of_node name order)
 
-none_failed : (sites : List SeenNode) → AllByRecursion (λ (s : SeenNode). s.failures ≡ 0) sites → (name : Bytes) → failures_at sites name ≤ 0
+none_failed : (sites : List SeenNode) → AllByRecursion (λ (s : SeenNode). s.kept_station.keeper.failures ≡ 0) sites → (name : Bytes) → failures_at sites name ≤ 0
 none_failed [] h name = omega arith
 none_failed (s ∷ sites) h name =
-    elim (is_named name s.name) as (λ b. unwrap_or (option_map (λ (x : SeenNode). x.failures) (cond b (Some s) (find (λ (x : SeenNode). is_named name x.name) sites))) 0 ≤ 0) [
+    elim (is_named name s.name) as (λ b. unwrap_or (option_map (λ (x : SeenNode). x.kept_station.keeper.failures) (cond b (Some s) (find (λ (x : SeenNode). is_named name x.name) sites))) 0 ≤ 0) [
       | true ↦ omega (arith, h.0)
       | false ↦ none_failed sites h.1 name
     ]
 
-pub failed_new : (sites : List SeenNode) → All (λ (s : SeenNode). s.failures ≡ 0) sites → FailedBy [] sites
-failed_new sites h name = none_failed sites (recursion_from_All (λ (s : SeenNode). s.failures ≡ 0) sites h) name
+pub failed_new : (sites : List SeenNode) → All (λ (s : SeenNode). s.kept_station.keeper.failures ≡ 0) sites → FailedBy [] sites
+failed_new sites h name = none_failed sites (recursion_from_All (λ (s : SeenNode). s.kept_station.keeper.failures ≡ 0) sites h) name
 
 pub failed_more : (order : List PlacedEntry) (p : PlacedEntry) (old new : List SeenNode) (step : Step) → IsStepOf old p step → FailedBy order old → AllZip FailedOnceAtMost old new → named_in new ≡ named_in old
     → ((name : Bytes) → is_named name (comes_to old step) ≡ false → seen_at new name ≡ seen_at old name) → FailedBy (order ++ p ∷ []) new
@@ -97,7 +97,7 @@ failed_more order p old new step s failed once same others name =
           let all : length (of_node name (order ++ p ∷ [])) ≡ length (of_node name order) + 0 =
           ap length (of_node_both name order (p ∷ []) ∙ ap (λ es. of_node name order ++ es) (of_none name p t)) ∙ length-append (of_node name order) [] in
           let kept : failures_at new name ≡ failures_at old name =
-          ap (λ o. unwrap_or (option_map (λ (x : SeenNode). x.failures) o) 0) (others name (ap (is_named name) (comes_here old p step s) ∙ t)) in
+          ap (λ o. unwrap_or (option_map (λ (x : SeenNode). x.kept_station.keeper.failures) o) 0) (others name (ap (is_named name) (comes_here old p step s) ∙ t)) in
           let few = failed name in
           omega (arith, all, kept, few)
     ] refl

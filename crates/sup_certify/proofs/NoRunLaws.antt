@@ -1,5 +1,6 @@
 -- Where a replay is stuck, or the world answers otherwise, no order is a run.
 use Rattle.std.specs.Prelude.{◌≡◌, ◌≢◌, ◌≤◌, ◌<◌, ℕ, true, false, ◌||◌, List, [], ◌∷◌, ◌++◌, length, map, take, drop, slice_get, slice_index, Some, None, refl}
+use Rattle.std.specs.FinMap.{empty}
 use Prim.Native.Nat.{zero, suc}
 use Rattle.std.specs.List.{AllZip, AllByRecursion, list_any}
 use Rattle.std.proofs.Common.{sym, ap, ◌∙◌, subst, arith}
@@ -158,7 +159,7 @@ all_among hs names e (p ∷ order) h = (ap (list_any (is_named p.node)) (sym e) 
 -- ---- the two runs
 abbrev new_post : WorldSetting → ℕ → Bytes → StationPost State
 new_post setting room name =
-    record { station = record { node = fresh by_tables name setting.intensity setting.period; held = []; room = room; acked = λ q. 0 }; sent = [] }
+    record { station = record { node = fresh by_tables name setting.intensity setting.period; held = []; room = room; acked = empty }; sent = [] }
 
 names_new : (setting : WorldSetting) (room : ℕ) (names : List Bytes) → map (λ (p : StationPost State). p.station.node.name) (map (new_post setting room) names) ≡ names
 names_new setting room [] = refl

@@ -1,8 +1,7 @@
 //! What the tests are given.
 ghost use Rattle.std.specs.Prelude.{◌≡◌};
 ghost use Rattle.sup_node_gate.specs.Gates.{IsOf};
-ghost use Rattle.sup_node_gate.specs.InMemory.{failures_by, sound_by};
-ghost use Rattle.sup_station.specs.OpenedStations.{kept_by};
+ghost use Rattle.sup_keeper.specs.Keeping.{memory_seen};
 
 use std::process::Abort;
 use sup_keeper::MemKeeper;
@@ -23,7 +22,7 @@ pub(crate) fn node(rt: &impl Abort, name: &str) -> NodeName {
 
 /// A gate over a node that was just made.
 pub(crate) fn gate(rt: &(impl Abort + AllocGlobal), name: &str) -> (Gate, Caller)
-    ensures { IsOf kept_by failures_by sound_by result.0 result.1 }
+    ensures { IsOf memory_seen result.0 result.1 }
 {
     let keeper = MemKeeper::new(rt.alloc());
     let Ok(station) = Station::new(rt.alloc(), node(rt, name), Config::default(), keeper) else {

@@ -1,8 +1,7 @@
 //! Histories that gates made on one thread.
 ghost use Rattle.std.specs.Prelude.{◌≡◌};
 ghost use Rattle.sup_node_gate.specs.Gates.{IsOf};
-ghost use Rattle.sup_node_gate.specs.InMemory.{failures_by, sound_by};
-ghost use Rattle.sup_station.specs.OpenedStations.{kept_by};
+ghost use Rattle.sup_keeper.specs.Keeping.{memory_seen};
 
 use crate::given::{Caller, Gate, comes, drain, gate, join, push, ship, start};
 use std::process::Abort;
@@ -12,8 +11,8 @@ use sup_replica::{Act, Done};
 
 // What the node answers, which doesn't refuse.
 fn done(rt: &(impl Abort + AllocGlobal), at: &Gate, pass: &mut Caller, act: Act) -> Done
-    requires { IsOf kept_by failures_by sound_by at.now pass.old }
-    ensures { IsOf kept_by failures_by sound_by at.now pass.new }
+    requires { IsOf memory_seen at.now pass.old }
+    ensures { IsOf memory_seen at.now pass.new }
 {
     match at.try_call(pass, act, 0, &FlatWeigh) {
         Ok(Ok(done)) => done,
@@ -34,7 +33,7 @@ fn letter(rt: &(impl Abort + AllocGlobal), done: &Done) -> Vec<u8> {
 }
 
 fn closed(rt: &impl Abort, at: Gate, pass: Caller) -> Vec<Entry>
-    requires { IsOf kept_by failures_by sound_by at pass }
+    requires { IsOf memory_seen at pass }
 {
     match at.close(pass) {
         Some(closed) => closed.history,

@@ -13,13 +13,13 @@ use Rattle.sup_placement.specs.Place.{Weigher}
 use Rattle.sup_placement.specs.declared.weigh.Weigh.{Ghosts as WeighGhosts}
 use Rattle.sup_local_sup.specs.declared.effect.Effect.{Effect}
 use Rattle.sup_replica.specs.Configs.{Config}
-use Rattle.sup_station.specs.OpenedStations.{OpensStation, kept_by}
-use Rattle.sup_node_gate.specs.Gates.{opening_of, view_of}
+use Rattle.sup_keeper.specs.Keepers.{KeeperSeen}
+use Rattle.sup_station.specs.OpenedStations.{OpensStation}
+use Rattle.sup_node_gate.specs.Gates.{view_of}
 use Rattle.sup_node_gate.specs.Histories.{AllSaved}
 use Rattle.sup_node_gate.specs.Shares.{IsWhole}
 use Rattle.sup_node_gate.specs.Shuffles.{IsShuffleOf}
 use Rattle.sup_node_gate.specs.Views.{calls_of}
-use Rattle.sup_node_gate.specs.InMemory.{failures_by, sound_by}
 use Rattle.sup_node_gate.specs.declared.entry.Entry.{Entry}
 use Rattle.sup_links.specs.Image.{image}
 use Rattle.sup_links.specs.Ends.{script_of}
@@ -40,7 +40,7 @@ use Rattle.sup_posts.specs.declared.jobs.Driven.{Driven}
 use Rattle.sup_posts.specs.declared.jobs.Arrived.{Arrived}
 use Rattle.sup_cluster.specs.Runs.{HasRun, IsDrivenFront, RanCommands, CameFrom, IsRunOf, AllStoodBy, carried, in_a_row}
 use Rattle.sup_posts.proofs.ItemLaws.{zip_append}
-use Rattle.sup_posts.specs.Drives.{IsFresh, IsLaneTo, IsDriveOf, LeadsToItsNode, others_of, places, passes_to, shares_of, dealt_by, HaveWhole, IsSharedNodeOf}
+use Rattle.sup_posts.specs.Drives.{IsFresh, IsLaneTo, IsDriveOf, LeadsToItsNode, new_keeper, opening_at, others_of, places, passes_to, shares_of, dealt_by, HaveWhole, IsSharedNodeOf}
 use Rattle.sup_run_ends.specs.Passes.{of_arrived, calls_by, AreMadeBy}
 use Rattle.sup_run_ends.specs.Steps.{BeginsWithSeen, IsHistoryOf, EndsHistory, AreFinished}
 use Rattle.sup_run_ends.proofs.DealtPassLaws.{places_at}
@@ -250,11 +250,11 @@ module _ {W : Type 0} {h : WeighGhosts W} (did : Bytes → Effect → Bool → T
         ran = all_at (HasRun g plan.config) all (λ i x e.
             let p = zip_right (IsHistoryOf g) posts all i x f.histories e in
             let n = zip_right (IsSharedNodeOf plan.config bound) plan.nodes.items posts i p.0 ps p.1 in
-            (opening_of kept_by failures_by sound_by p.0.gate, subst (λ name. OpensStation name plan.config (opening_of kept_by failures_by sound_by p.0.gate).kept_station) (sym (p.2.named ∙ n.2.named)) n.2.opens, n.2.unfailed, p.2.replays));
+            (opening_at p.0, subst (λ name. OpensStation name plan.config new_keeper (opening_at p.0)) (sym (p.2.named ∙ n.2.named)) n.2.opens, p.2.replays));
         saved = all_at (λ (k : History). AllSaved k.entries.items) all (λ i x e.
             let p = zip_right (IsHistoryOf g) posts all i x f.histories e in
             let n = zip_right (IsSharedNodeOf plan.config bound) plan.nodes.items posts i p.0 ps p.1 in
-            p.2.saves n.2.sound);
+            p.2.saves (ap (λ (k : KeeperSeen). k.sound) n.2.opens.keeps.2.1));
         drove = all_at (RanCommands did plan all) all (drove_at g plan posts drives f.driven all ds given f.histories f.own f.others);
         made = λ before x after e. (rounds_at g plan posts drives f.driven all ds given f.histories f.own at_places whole f.made before x after e).made;
       }

@@ -5,9 +5,10 @@ use Rattle.sup_specs.specs.Values.{Bytes}
 use Rattle.sup_placement.specs.Place.{Weigher}
 use Rattle.sup_local_sup.specs.declared.effect.Effect.{Effect}
 use Rattle.sup_replica.specs.Configs.{Config}
+use Rattle.sup_station.specs.KeptStations.{StationSeen}
 use Rattle.sup_station.specs.OpenedStations.{OpensStation}
 use Rattle.sup_node_gate.specs.declared.entry.Entry.{Entry}
-use Rattle.sup_node_gate.specs.Histories.{AllSaved, CountedStation, IsHistory, IsPrefix}
+use Rattle.sup_node_gate.specs.Histories.{AllSaved, IsHistory, IsPrefix}
 use Rattle.sup_node_gate.specs.Shuffles.{IsShuffleOf}
 use Rattle.sup_links.specs.Image.{image}
 use Rattle.sup_plan.specs.Calls.{asked, letters_to, deliveries}
@@ -16,11 +17,12 @@ use Rattle.sup_plan.specs.Sublists.{Sublist}
 use Rattle.sup_plan.specs.declared.histories.History.{History}
 use Rattle.sup_plan.specs.declared.plan.Command.{Command}
 use Rattle.sup_plan.specs.declared.plan.Plan.{Plan}
+use Rattle.sup_posts.specs.Drives.{new_keeper}
 use Rattle.sup_posts.specs.Rounds.{IsRound, StoodByAll, delivery}
 
--- the history replays from a station that was just made, whose keeper has not failed
+-- the history replays from a station that was just made with a new keeper, which is sound and has not failed
 abbrev pub HasRun : Weigher → Config → History → Type 0
-HasRun g config h = (s : CountedStation) × OpensStation h.node config s.kept_station × (s.failures ≡ 0) × IsHistory g s h.entries.items
+HasRun g config h = (s : StationSeen) × OpensStation h.node config new_keeper s × IsHistory g s h.entries.items
 
 -- rounds one behind the other
 abbrev pub in_a_row : List (List Entry) → List Entry

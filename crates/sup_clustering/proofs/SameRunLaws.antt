@@ -1,5 +1,6 @@
 -- All runs of the same histories lead to one world of the definitions.
 use Rattle.std.specs.Prelude.{◌≡◌, ℕ, true, false, cond, ◌||◌, List, [], ◌∷◌, map, find, Option, Some, None, refl}
+use Rattle.std.specs.FinMap.{empty}
 use Rattle.std.specs.List.{AllZip, AllByRecursion, list_any}
 use Rattle.std.proofs.Common.{sym, ap, ◌∙◌, subst, arith}
 use Rattle.std.proofs.lemmas.List.Elements.{recursion_from_All}
@@ -61,7 +62,7 @@ posts_same (p ∷ ps) (q ∷ qs) e d f =
 -- ---- two runs
 abbrev new_post : WorldSetting → ℕ → Bytes → StationPost State
 new_post setting room name =
-    record { station = record { node = fresh by_tables name setting.intensity setting.period; held = []; room = room; acked = λ q. 0 }; sent = [] }
+    record { station = record { node = fresh by_tables name setting.intensity setting.period; held = []; room = room; acked = empty }; sent = [] }
 
 names_new : (setting : WorldSetting) (room : ℕ) (names : List Bytes) → names_at (map (new_post setting room) names) ≡ names
 names_new setting room [] = refl

@@ -1,14 +1,16 @@
 -- The nodes of a plan before its run, and what their drivers are given.
-use Rattle.std.specs.Prelude.{◌≡◌, ◌≢◌, ◌==◌, not, ℕ, zero, suc, List, [], ◌∷◌, ◌++◌, length, All, Contains, map, flat_map, Some, slice_get}
+use Rattle.std.specs.Prelude.{◌≡◌, ◌≢◌, ◌==◌, not, false, ℕ, zero, suc, List, [], ◌∷◌, ◌++◌, length, All, Contains, map, flat_map, Some, slice_get}
 use Rattle.std.specs.List.{filter}
 use Rattle.std.specs.declared.alloc.Global.{Global}
 use Rattle.std.specs.declared.vec.Vec.{Vec}
 use Rattle.sup_specs.specs.Values.{Bytes}
 use Rattle.sup_placement.specs.declared.weigh.Weigh.{Ghosts as WeighGhosts}
 use Rattle.sup_replica.specs.Configs.{Config}
-use Rattle.sup_station.specs.OpenedStations.{OpensStation, kept_by}
-use Rattle.sup_node_gate.specs.Gates.{OpensSound, bound_of, opening_of, view_of}
-use Rattle.sup_node_gate.specs.InMemory.{failures_by, sound_by}
+use Rattle.sup_keeper.specs.Keepers.{KeeperSeen}
+use Rattle.sup_keeper.specs.Keeping.{memory_seen}
+use Rattle.sup_station.specs.KeptStations.{StationSeen}
+use Rattle.sup_station.specs.OpenedStations.{OpensStation}
+use Rattle.sup_node_gate.specs.Gates.{bound_of, opening_of, view_of}
 use Rattle.sup_node_gate.specs.Shares.{IsWhole}
 use Rattle.sup_links.specs.Ends.{script_of, room_of}
 use Rattle.sup_plan.specs.Parts.{commands_of, script_between}
@@ -32,13 +34,19 @@ places (suc n) = places n ++ n ∷ []
 abbrev pub others_of : ℕ → List ℕ → List ℕ
 others_of at = filter (λ j. not (j == at))
 
+-- a keeper in memory that keeps nothing yet: it is sound, and has not failed
+abbrev pub new_keeper : KeeperSeen
+new_keeper = memory_seen (record { bytes = []; failures = 0; failing = false })
+
 module _ {W : Type 0} {h : WeighGhosts W} where
-  -- a node before the run, whose history may have so many entries at most, and whose keeper is sound and has not failed
+  -- the station that the post's gate was opened with
+  abbrev pub opening_at : SharedNode W h → StationSeen
+  opening_at post = opening_of memory_seen post.gate
+
+  -- a node before the run, whose history may have so many entries at most, and which was made with a new keeper
   pub record IsSharedNodeOf (config : Config) (most : ℕ) (name : Bytes) (post : SharedNode W h) : Type 0 where
     pub named : post.name ≡ name
-    pub opens : OpensStation name config (opening_of kept_by failures_by sound_by post.gate).kept_station
-    pub sound : OpensSound sound_by post.gate
-    pub unfailed : (opening_of kept_by failures_by sound_by post.gate).failures ≡ 0
+    pub opens : OpensStation name config new_keeper (opening_at post)
     pub bound : bound_of post.gate ≡ most
 
   -- a pass that has called nothing yet

@@ -5,12 +5,10 @@ use Rattle.sup_specs.specs.Values.{Bytes}
 use Rattle.sup_placement.specs.declared.weigh.Weigh.{Ghosts as WeighGhosts}
 use Rattle.sup_local_sup.specs.declared.effect.Effect.{Effect}
 use Rattle.sup_keeper.specs.contracts.mem_keeper.MemKeeperKeeper.TheImpl as InMemory
-use Rattle.sup_keeper.specs.Keeping.{Kept}
-use Rattle.sup_station.specs.OpenedStations.{kept_by}
+use Rattle.sup_keeper.specs.Keeping.{Kept, memory_seen}
 use Rattle.sup_node_gate.specs.declared.gate.Pass.{Pass}
 use Rattle.sup_node_gate.specs.declared.entry.Entry.{Entry}
 use Rattle.sup_node_gate.specs.Gates.{IsOf, view_of}
-use Rattle.sup_node_gate.specs.InMemory.{failures_by, sound_by}
 use Rattle.sup_links.specs.Image.{image}
 use Rattle.sup_links.specs.Ends.{AreOneLink, script_of, put_of, is_closed, taken_of, has_ended}
 use Rattle.sup_plan.specs.Calls.{letters_to, deliveries}
@@ -30,7 +28,7 @@ Seat W h = Pass Kept W InMemory.ghosts h
 module _ {W : Type 0} {h : WeighGhosts W} where
   -- the pass is of the gate of the node at this place
   abbrev pub IsSeatAt : List (SharedNode W h) → ℕ → Seat W h → Type 0
-  IsSeatAt posts at seat = (post : SharedNode W h) × (slice_get posts at ≡ Some post) × IsOf kept_by failures_by sound_by post.gate seat
+  IsSeatAt posts at seat = (post : SharedNode W h) × (slice_get posts at ≡ Some post) × IsOf memory_seen post.gate seat
 
   -- a link that nothing went through yet, and a pass of the gate of the node that it leads to
   pub record IsLane (posts : List (SharedNode W h)) (lane : Lane W h) : Type 0 where
@@ -56,7 +54,7 @@ module _ {W : Type 0} {h : WeighGhosts W} where
     pub to : arrived.to ≡ lane.to
     pub post : SharedNode W h
     pub stands : slice_get posts lane.to ≡ Some post
-    pub seat : IsOf kept_by failures_by sound_by post.gate arrived.seat
+    pub seat : IsOf memory_seen post.gate arrived.seat
     pub delivered : Sublist (image (script_of lane.entry) (letters_to post.name entries)) (deliveries (view_of arrived.seat).seen)
     pub made : MakesCalls (did post.name) (view_of lane.seat) (map delivery (image (script_of lane.entry) (letters_to post.name entries))) (view_of arrived.seat)
 

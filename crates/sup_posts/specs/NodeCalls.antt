@@ -1,18 +1,20 @@
 -- What a call of a run's thread does to its pass.
-use Rattle.std.specs.Prelude.{◌≡◌, ℕ, Bool, true, List, [], ◌∷◌, ◌++◌, Err}
+use Rattle.std.specs.Prelude.{◌≡◌, ℕ, true, List, [], ◌∷◌, ◌++◌, Err}
 use mathlib.Core.Option.{some}
 use Rattle.sup_specs.specs.Values.{Bytes}
 use Rattle.sup_placement.specs.Place.{Weigher}
 use Rattle.sup_local_sup.specs.declared.effect.Effect.{Effect}
 use Rattle.sup_replica.specs.declared.event.Act.{Act}
 use Rattle.sup_replica.specs.declared.refusal.Refusal.TheVariants.{HistoryFull as Full, OutOfMemory as Wants}
+use Rattle.sup_keeper.specs.Keepers.{KeeperSeen}
+use Rattle.sup_station.specs.KeptStations.{StationSeen}
 use Rattle.sup_node_gate.specs.declared.entry.Entry.{Entry}
 use Rattle.sup_node_gate.specs.declared.view.View.{View}
 use Rattle.sup_node_gate.specs.declared.gate.NodeGate.{NodeGate}
 use Rattle.sup_node_gate.specs.declared.gate.Pass.{Pass}
 use Rattle.sup_node_gate.specs.Calls.{IsFull, HasNoMemory}
 use Rattle.sup_node_gate.specs.Gates.{opening_of, bound_of, view_of}
-use Rattle.sup_node_gate.specs.Histories.{StationAnswer, CountedStation, IsPrefix, entry, may_enter}
+use Rattle.sup_node_gate.specs.Histories.{StationAnswer, IsPrefix, entry, may_enter}
 use Rattle.sup_node_gate.specs.Views.{calls_of}
 use Rattle.sup_posts.specs.Rounds.{effects_of}
 use Rattle.sup_posts.specs.declared.thread_fault.ThreadFault.{ThreadFault}
@@ -37,11 +39,11 @@ IsFaultIn (Err Wants) fault = fault ≡ OutOfMemory
 IsFaultIn answer fault = ⊥
 
 -- what such a call leaves
-abbrev pub NotEntered : Weigher → CountedStation → ℕ → View → View → ThreadFault → Type 0
+abbrev pub NotEntered : Weigher → StationSeen → ℕ → View → View → ThreadFault → Type 0
 NotEntered g opening bound v v' HistoryFull = IsFull g opening bound v v'
 NotEntered g opening bound v v' LinkClosed = ⊥
 NotEntered g opening bound v v' OutOfMemory = HasNoMemory g opening bound v v'
 
--- the same of a gate and its passes, where this is what a keeper keeps, how often it has failed and whether it is sound
-abbrev pub NotEnteredAtGate : {K W : Type 0} {g : _} {h : _} → (K → Bytes) → (K → ℕ) → (K → Bool) → Weigher → NodeGate K W g h → Pass K W g h → Pass K W g h → ThreadFault → Type 0
-NotEnteredAtGate kept failures sound weigh gate pass pass' = NotEntered weigh (opening_of kept failures sound gate) (bound_of gate) (view_of pass) (view_of pass')
+-- the same of a gate and its passes, where this is seen of a keeper
+abbrev pub NotEnteredAtGate : {K W : Type 0} {g : _} {h : _} → (K → KeeperSeen) → Weigher → NodeGate K W g h → Pass K W g h → Pass K W g h → ThreadFault → Type 0
+NotEnteredAtGate seen weigh gate pass pass' = NotEntered weigh (opening_of seen gate) (bound_of gate) (view_of pass) (view_of pass')

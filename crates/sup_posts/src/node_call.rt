@@ -1,9 +1,8 @@
 //! A call at a node's gate.
 ghost use Rattle.std.specs.Prelude.{◌≡◌, true, IfOk, IfErr, OnOk};
 ghost use Rattle.sup_node_gate.specs.Gates.{IsOf, view_of};
-ghost use Rattle.sup_node_gate.specs.InMemory.{failures_by, sound_by};
 ghost use Rattle.sup_node_gate.specs.Histories.{may_enter};
-ghost use Rattle.sup_station.specs.OpenedStations.{kept_by};
+ghost use Rattle.sup_keeper.specs.Keeping.{memory_seen};
 ghost use Rattle.sup_posts.specs.NodeCalls.{MadeCall, IsFaultIn, NotEnteredAtGate};
 ghost use Rattle.sup_posts.specs.Rounds.{effects_of};
 
@@ -56,12 +55,12 @@ impl<W: Weigh> SharedNode<W> {
         now: u64,
         weigher: &W,
     ) -> Result<Requests, ThreadFault>
-        requires { IsOf kept_by failures_by sound_by self.now.gate seat.old }
-        ensures of { IsOf kept_by failures_by sound_by self.now.gate seat.new }
+        requires { IsOf memory_seen self.now.gate seat.old }
+        ensures of { IsOf memory_seen self.now.gate seat.new }
         ensures called { IfOk result (λ r. MadeCall (view_of seat.old) act now r.effects (view_of seat.new)) }
         ensures asks { IfOk result (λ r. r.node ≡ self.now.name) }
         ensures shares { (view_of seat.new).shares ≡ (view_of seat.old).shares }
-        ensures refused { IfErr result (NotEnteredAtGate kept_by failures_by sound_by W.weight_of self.now.gate seat.old seat.new) }
+        ensures refused { IfErr result (NotEnteredAtGate memory_seen W.weight_of self.now.gate seat.old seat.new) }
     {
         let answer = self.gate.call(rt, seat, act, now, weigher);
         entered(&answer)?;

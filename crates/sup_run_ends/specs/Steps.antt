@@ -3,9 +3,8 @@ use Rattle.std.specs.Prelude.{◌≡◌, ◌≤◌, ◌⊎◌, ℕ, List, [], �
 use Rattle.std.specs.List.{AllZip}
 use Rattle.sup_placement.specs.Place.{Weigher}
 use Rattle.sup_placement.specs.declared.weigh.Weigh.{Ghosts as WeighGhosts}
-use Rattle.sup_station.specs.OpenedStations.{kept_by}
-use Rattle.sup_node_gate.specs.Gates.{IsOf, OpensSound, bound_of, view_of, opening_of}
-use Rattle.sup_node_gate.specs.InMemory.{failures_by, sound_by}
+use Rattle.sup_keeper.specs.Keeping.{memory_seen}
+use Rattle.sup_node_gate.specs.Gates.{IsOf, OpensSound, bound_of, view_of}
 use Rattle.sup_node_gate.specs.Histories.{AllSaved, IsHistory, IsPrefix}
 use Rattle.sup_plan.specs.declared.histories.History.{History}
 use Rattle.sup_plan.specs.declared.plan.Plan.{Plan}
@@ -17,7 +16,7 @@ use Rattle.sup_posts.specs.declared.thread_fault.ThreadFault.{ThreadFault}
 use Rattle.sup_posts.specs.declared.thread_fault.ThreadFault.TheVariants.{OutOfMemory}
 use Rattle.sup_posts.specs.declared.jobs.Arrived.{Arrived}
 use Rattle.sup_posts.specs.declared.jobs.Driven.{Driven}
-use Rattle.sup_posts.specs.Drives.{IsFresh, LeadsToItsNode, ends_of, others_of, places}
+use Rattle.sup_posts.specs.Drives.{IsFresh, LeadsToItsNode, ends_of, opening_at, others_of, places}
 use Rattle.sup_run_ends.specs.Passes.{IsCutOff, AreMadeBy}
 
 -- the history begins with what the pass has seen
@@ -31,7 +30,7 @@ IsFaultOf results fault = IsGravest results fault ⊎ (All IsOk results × (faul
 module _ {W : Type 0} {h : WeighGhosts W} where
   -- the pass is of the post's gate
   abbrev pub IsSeatOf : SharedNode W h → Seat W h → Type 0
-  IsSeatOf post seat = IsOf kept_by failures_by sound_by post.gate seat
+  IsSeatOf post seat = IsOf memory_seen post.gate seat
 
   -- the pass was cut once, unless it is of the gate of the driver's own node, and what was cut off comes to the row
   pub record IsCutFor (post : SharedNode W h) (at to : ℕ) (seat kept : Seat W h) (old new : List (ℕ × Seat W h)) : Type 0 where
@@ -61,8 +60,8 @@ module _ {W : Type 0} {h : WeighGhosts W} where
   -- the history of a post's node, which has room for it; over a sound keeper no save failed
   pub record IsHistoryOf (g : Weigher) (post : SharedNode W h) (history : History) : Type 0 where
     pub named : history.node ≡ post.name
-    pub replays : IsHistory g (opening_of kept_by failures_by sound_by post.gate) history.entries.items
-    pub saves : OpensSound sound_by post.gate → AllSaved history.entries.items
+    pub replays : IsHistory g (opening_at post) history.entries.items
+    pub saves : OpensSound memory_seen post.gate → AllSaved history.entries.items
     pub within : length history.entries.items ≤ bound_of post.gate
 
   -- the second pass has seen what the first has
