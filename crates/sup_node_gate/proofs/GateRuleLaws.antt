@@ -10,18 +10,19 @@ use Rattle.atomic_table.specs.Table as T
 use Rattle.atomic_table.specs.Table.{State, Me, step, keeps, takes, gives, stepped, Allows, Valid, carried_after, homes_after}
 use Rattle.atomic_table.proofs.Lists.{at_set, set_here, exchanged}
 use Rattle.sup_placement.specs.Place.{Weigher}
-use Rattle.sup_node_gate.specs.Histories.{CountedStation}
+use Rattle.sup_station.specs.KeptStations.{StationSeen}
 use Rattle.sup_node_gate.specs.declared.entry.Entry.{Entry}
 use Rattle.sup_node_gate.specs.Histories.{AllSaved, ReplaysEntries, IsPrefix, entry}
 use Rattle.sup_node_gate.specs.declared.view.Holding.{Holding}
 use Rattle.sup_node_gate.specs.declared.view.Parts.{Parts}
 use Rattle.sup_node_gate.specs.declared.view.View.{View}
-use Rattle.sup_node_gate.specs.Parts.{counted_in, counted_at, IsLike}
+use Rattle.sup_node_gate.specs.Parts.{parts_seen, holding_seen, IsLike}
 use Rattle.sup_node_gate.specs.Views.{IsAmongPlaces, PlacesRise, newcomer, taking, losing, raising, freeing, looking}
 use Rattle.sup_node_gate.specs.Rule.{OpensAt, SavesAll, FitsView, HasTurn, IsHeldBy, AllApart, AllOwned, all_shares, RuleHolds, IsSeenAt, TriedAt, took, raised, gave_back, looked, HasUncountedEntry}
 use Rattle.sup_node_gate.specs.Shares.{IsWhole, is_shared}
 use Rattle.sup_node_gate.proofs.ShareLaws.{first_whole, true_false}
 use Rattle.sup_node_gate.proofs.ViewShareLaws.{whole_stays, taken_apart, sole_calls}
+use Rattle.sup_node_gate.proofs.StationPartLaws.{saves_answer}
 use Rattle.sup_node_gate.proofs.HistoryListLaws.{prefix_refl, prefix_longer, tried_longer, replays_one, saved_one, rises_more, rises_one, stands_below, stands_append, set_at, views_stay, apart_stays, held_stays, owned_stays, owned_one}
 
 opens_at : (o : P.Option Parts) (most : ℕ) (start : Parts) (bound : ℕ) (x : Parts) → OpensAt o most start bound → o ≡ Some x → (x ≡ start) × (most ≡ bound)
@@ -30,7 +31,7 @@ opens_at None most start bound x h e = absurd (cc)
 
 -- what is like a holding has saved as that has
 saves_like : (opening : Parts) (h k : Holding) → IsLike h k → SavesAll opening k → SavesAll opening h
-saves_like opening h k like all = λ s. (like.2 (all s).0, subst AllSaved (sym like.0) (all s).1)
+saves_like opening h k like all = λ s. (ap (λ (x : StationSeen). x.keeper.sound) like.1 ∙ (all s).0, subst AllSaved (sym like.0) (all s).1)
 
 turns_none : (held held' : Holding) (word word' holder holder' j : ℕ) (t : P.Option Holding) → word ≡ 0 → HasTurn held word holder j t → HasTurn held' word' holder' j t
 turns_none held held' word word' holder holder' j None z k = tt
@@ -107,7 +108,7 @@ module _ {H : Type 0} where
       f.1,
       f.2,
       f.3,
-      λ o e. subst (λ (x : Parts). ReplaysEntries g (counted_in x) r.held.history (counted_at r.held)) (sym (opens_at v.opening v.bound start bound o f.0 e).0) r.replays,
+      λ o e. subst (λ (x : Parts). ReplaysEntries g (parts_seen x) r.held.history (holding_seen r.held)) (sym (opens_at v.opening v.bound start bound o f.0 e).0) r.replays,
       λ o e. subst (λ (x : Parts). SavesAll x r.held) (sym (opens_at v.opening v.bound start bound o f.0 e).0) r.saves,
       λ o e. subst (λ (most : ℕ). length r.held.history ≤ most) (sym (opens_at v.opening v.bound start bound o f.0 e).1) r.within,
       λ whole placed. sole_calls s.views me v r.held.history at r.owned (λ j d there. (r.each_view j d there).4) r.whole whole f.1 f.3 placed,
@@ -119,7 +120,7 @@ module _ {H : Type 0} where
       subst (IsPrefix v.seen) (sym like.0) seen.0,
       subst (IsPrefix v.told) (sym like.0) seen.1,
       subst (λ (l : List Entry). PlacesRise 0 v.own (length l)) (sym like.0) seen.2,
-      λ o e. subst (λ (x : List Entry × CountedStation). ReplaysEntries g (counted_in o) x.0 x.1) (λ i. (sym like.0 i, sym like.1 i)) (seen.3 o e),
+      λ o e. subst (λ (x : List Entry × StationSeen). ReplaysEntries g (parts_seen o) x.0 x.1) (λ i. (sym like.0 i, sym like.1 i)) (seen.3 o e),
       λ o e. saves_like o h k like (seen.4 o e),
       λ o e. subst (λ (l : List Entry). length l ≤ v.bound) (sym like.0) (seen.5 o e),
       λ whole placed. seen.6 whole placed ∙ ap (map some) (sym like.0),
@@ -152,7 +153,7 @@ module _ {H : Type 0} where
             held = held;
             holder = id;
             two = length-set s.words 1 1 ∙ two;
-            replays = subst (λ (x : List Entry × CountedStation). ReplaysEntries g (counted_in start) x.0 x.1) (λ i. (sym like.0 i, sym like.1 i)) r.replays;
+            replays = subst (λ (x : List Entry × StationSeen). ReplaysEntries g (parts_seen start) x.0 x.1) (λ i. (sym like.0 i, sym like.1 i)) r.replays;
             saves = saves_like start held r.held like r.saves;
             within = subst (λ (l : List Entry). length l ≤ bound) (sym like.0) r.within;
             counted = get_or-set_other s.words 1 0 1 0 (λ e. omega arith) ∙ (r.counted ∙ ap length (sym like.0));
@@ -208,7 +209,7 @@ module _ {H : Type 0} where
 
     pub raises_count : (slots id : ℕ) (me : Me (P.Option H) View) → HasUncountedEntry sight g bound me → bound < 2 ^ 32 → Allows (RuleHolds sight g start bound) slots id me 0 (λ n. (n + 1) % 2 ^ 64) (raised sight (step slots 0 1 0 none) me)
     raises_count slots id me makes small s r count at _ =
-        let had = makes.0 in let h = makes.1 in let a = makes.2 in let now = makes.3 in let answer = makes.4 in let has = makes.5 in let out = makes.6 in let room = makes.7 in let longer = makes.8 in let goes = makes.9 in let saves = makes.10 in let shared : is_shared me.0.shares ≡ true = makes.11 in
+        let had = makes.0 in let h = makes.1 in let a = makes.2 in let now = makes.3 in let answer = makes.4 in let has = makes.5 in let out = makes.6 in let room = makes.7 in let longer = makes.8 in let goes = makes.9 in let shared : is_shared me.0.shares ≡ true = makes.10 in
         let n : ℕ = length had.history in let held = sight h in
         let w = raising me.0 n held in let two = r.two in let t = of_turn s r id me.0 had at has in let e = entry a now answer in
         let fine = r.within in let below : n < bound = (let same : length r.held.history ≡ n = ap (λ x. length x.history) (sym t.2) in omega arith) in let more : length held.history ≡ n + 1 = ap length longer ∙ length-append had.history (e ∷ []) in
@@ -225,9 +226,9 @@ module _ {H : Type 0} where
             held = held;
             holder = id;
             two = length-set s.words 0 z ∙ two;
-            replays = subst (λ (l : List Entry). ReplaysEntries g (counted_in start) l (counted_at held)) (sym longer)
-                (replays_one g (counted_at had) (counted_at held) a now answer goes had.history (counted_in start) (subst (λ (x : Holding). ReplaysEntries g (counted_in start) x.history (counted_at x)) (sym t.2) r.replays));
-            saves = λ s. let all = subst (λ (x : Holding). SavesAll start x) (sym t.2) r.saves s in let now_saves = saves all.0 in (now_saves.0, subst AllSaved (sym longer) (saved_one had.history e all.1 now_saves.1));
+            replays = subst (λ (l : List Entry). ReplaysEntries g (parts_seen start) l (holding_seen held)) (sym longer)
+                (replays_one g (holding_seen had) (holding_seen held) a now answer goes had.history (parts_seen start) (subst (λ (x : Holding). ReplaysEntries g (parts_seen start) x.history (holding_seen x)) (sym t.2) r.replays));
+            saves = λ s. let all = subst (λ (x : Holding). SavesAll start x) (sym t.2) r.saves s in let now_saves = saves_answer g (holding_seen had) (holding_seen held) a now answer goes all.0 in (now_saves.0, subst AllSaved (sym longer) (saved_one had.history e all.1 now_saves.1));
             within = omega arith;
             counted = get_or-set_same s.words 0 z 0 (omega arith) ∙ up;
             free = λ e. absurd (omega arith);
@@ -254,8 +255,8 @@ module _ {H : Type 0} where
       held = record { history = []; parts = opening };
       holder = 0;
       two = refl;
-      replays = ap counted_in (sym starts);
-      saves = λ s. (ap (λ (x : Parts). x.sound) starts ∙ s, tt);
+      replays = ap parts_seen (sym starts);
+      saves = λ s. (ap (λ (x : Parts). x.keeper.sound) starts ∙ s, tt);
       within = zero-le;
       counted = refl;
       free = λ _. (h, refl, like);

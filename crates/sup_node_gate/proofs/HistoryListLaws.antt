@@ -7,7 +7,8 @@ use lib.ListN.{get_elem?}
 use Rattle.std.specs.declared.option.Option as P
 use Rattle.sup_placement.specs.Place.{Weigher}
 use Rattle.sup_replica.specs.declared.event.Act.{Act}
-use Rattle.sup_node_gate.specs.Histories.{CountedStation, StationAnswer, RespondsToAct}
+use Rattle.sup_station.specs.KeptStations.{StationSeen, AnswersAct}
+use Rattle.sup_node_gate.specs.Histories.{StationAnswer}
 use Rattle.sup_node_gate.specs.declared.entry.Entry.{Entry}
 use Rattle.sup_node_gate.specs.Histories.{AllSaved, ReplaysEntries, IsPrefix, entry}
 use Rattle.sup_node_gate.specs.declared.view.Holding.{Holding}
@@ -32,8 +33,8 @@ found_longer None xs ys p = tt
 pub tried_longer : (v : View) (xs ys : List Entry) → TriedAt v xs → TriedAt v (xs ++ ys)
 tried_longer v xs ys t = (found_longer v.taken xs ys t.0, found_longer v.lost xs ys t.1)
 
-pub replays_one : (g : Weigher) (t u : CountedStation) (a : Act) (now : ℕ) (r : StationAnswer) → RespondsToAct g t a now r u → (es : List Entry) (s : CountedStation) → ReplaysEntries g s es t → ReplaysEntries g s (es ++ entry a now r ∷ []) u
-replays_one g t u a now r goes [] s here = (u, subst (λ (x : CountedStation). RespondsToAct g x a now r u) (sym here) goes, refl, refl)
+pub replays_one : (g : Weigher) (t u : StationSeen) (a : Act) (now : ℕ) (r : StationAnswer) → AnswersAct g t a now r u → (es : List Entry) (s : StationSeen) → ReplaysEntries g s es t → ReplaysEntries g s (es ++ entry a now r ∷ []) u
+replays_one g t u a now r goes [] s here = (u, subst (λ (x : StationSeen). AnswersAct g x a now r u) (sym here) goes, refl, refl)
 replays_one g t u a now r goes (e ∷ es) s all = (all.0, all.1, all.2, replays_one g t u a now r goes es all.0 all.3)
 
 pub saved_one : (es : List Entry) (e : Entry) → AllSaved es → e.saved ≡ true → AllSaved (es ++ e ∷ [])

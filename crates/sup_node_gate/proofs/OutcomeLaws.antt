@@ -9,13 +9,14 @@ use Rattle.atomic_table.specs.Table.{Me, rest}
 use Rattle.atomic_table.proofs.Lists.{at_last}
 use Rattle.sup_placement.specs.Place.{Weigher}
 use Rattle.sup_replica.specs.declared.event.Act.{Act}
-use Rattle.sup_node_gate.specs.Histories.{CountedStation, StationAnswer}
+use Rattle.sup_station.specs.KeptStations.{StationSeen}
+use Rattle.sup_node_gate.specs.Histories.{StationAnswer}
 use Rattle.sup_node_gate.specs.declared.entry.Entry.{Entry}
 use Rattle.sup_node_gate.specs.Histories.{RefusalStanding, full, no_room, entered, standing_of, IsEntered, ReplaysEntries, IsPrefix, entry}
 use Rattle.sup_node_gate.specs.declared.view.Holding.{Holding}
 use Rattle.sup_node_gate.specs.declared.view.Parts.{Parts}
 use Rattle.sup_node_gate.specs.declared.view.View.{View}
-use Rattle.sup_node_gate.specs.Parts.{counted_in, counted_at}
+use Rattle.sup_node_gate.specs.Parts.{parts_seen, holding_seen}
 use Rattle.sup_node_gate.specs.Views.{PlacesRise, calls_of, merged, taking, raising, freeing, looking, joining}
 use Rattle.sup_node_gate.specs.Holdings.{AddsEntry}
 use Rattle.sup_node_gate.specs.Rule.{IsSeenAt, IsTurnTaken, looks}
@@ -27,7 +28,7 @@ use Rattle.sup_node_gate.proofs.HistoryListLaws.{prefix_refl, replays_one, rises
 use Rattle.sup_node_gate.proofs.PlaceListLaws.{merged_apart}
 use Rattle.sup_node_gate.proofs.ShuffleLaws.{merged_shuffles, map_shuffles}
 
-pub enters_acts : (g : Weigher) (s : CountedStation) (bound : ℕ) (v : View) (a : Act) (now : ℕ) (r : StationAnswer) (v' : View) → IsEntered r → EntersCall g s v (entry a now r) v' → ActsInTurn g s bound v a now r v'
+pub enters_acts : (g : Weigher) (s : StationSeen) (bound : ℕ) (v : View) (a : Act) (now : ℕ) (r : StationAnswer) (v' : View) → IsEntered r → EntersCall g s v (entry a now r) v' → ActsInTurn g s bound v a now r v'
 enters_acts g s bound v a now (Ok d) v' is e = e
 enters_acts g s bound v a now (Err r) v' is e = subst (λ (k : RefusalStanding). RefusesCall k g s bound v (entry a now (Err r)) v') (sym is) e
 
@@ -36,13 +37,13 @@ calls_stay v xs ys p placed = subst (λ (l : List Entry). map (get_elem? (l ++ y
     (subst (λ (l : List Entry). map (get_elem? l) v.own ≡ calls_of v) (sym (append_assoc v.seen p.0 ys)) (entries_more v.seen (p.0 ++ ys) v.own 0 placed))
 
 pub made_enters : (g : Weigher) (start : Parts) (v : View) (h h' : Holding) (a : Act) (now : ℕ) (r : StationAnswer) → v.opening ≡ Some start → IsSeenAt g v h → PlacesRise 0 v.own (length v.seen)
-    → AddsEntry g h a now r h' → EntersCall g (counted_in start) v (entry a now r) (freeing (raising v (length h.history) h'))
+    → AddsEntry g h a now r h' → EntersCall g (parts_seen start) v (entry a now r) (freeing (raising v (length h.history) h'))
 made_enters g start v h h' a now r opens seen placed made = let n : ℕ = length h.history in let e = entry a now r in
     let more : length h'.history ≡ n + 1 = ap length made.1 ∙ length-append h.history (e ∷ []) in record {
       before = h.history;
       begins = seen.0;
       ends = made.1;
-      replays = (counted_at h', subst (λ (l : List Entry). ReplaysEntries g (counted_in start) l (counted_at h')) (sym made.1) (replays_one g (counted_at h) (counted_at h') a now r made.2 h.history (counted_in start) (seen.3 start opens)));
+      replays = (holding_seen h', subst (λ (l : List Entry). ReplaysEntries g (parts_seen start) l (holding_seen h')) (sym made.1) (replays_one g (holding_seen h) (holding_seen h') a now r made.2 h.history (parts_seen start) (seen.3 start opens)));
       places = refl;
       rises = subst (PlacesRise 0 (v.own ++ n ∷ [])) (omega arith) (rises_one 0 v.own n seen.2);
       calls = subst (λ (l : List Entry). map (get_elem? l) (v.own ++ n ∷ []) ≡ calls_of v ++ some e ∷ []) (sym made.1)
@@ -50,11 +51,11 @@ made_enters g start v h h' a now r opens seen placed made = let n : ℕ = length
           ∙ (ap (λ l. l ++ get_elem? (h.history ++ e ∷ []) n ∷ []) (calls_stay v h.history (e ∷ []) seen.0 placed) ∙ ap (λ x. calls_of v ++ x ∷ []) (at_last h.history e n refl)));
     }
 
-pub is_full : (g : Weigher) (start : Parts) (bound : ℕ) (v : View) (h : Holding) → v.opening ≡ Some start → IsSeenAt g v h → length h.history ≡ bound → IsFull g (counted_in start) bound v (freeing (looking v h.history))
-is_full g start bound v h opens seen len = (len, record { begins = seen.0; replays = (counted_at h, seen.3 start opens); places = refl; rises = seen.2 })
+pub is_full : (g : Weigher) (start : Parts) (bound : ℕ) (v : View) (h : Holding) → v.opening ≡ Some start → IsSeenAt g v h → length h.history ≡ bound → IsFull g (parts_seen start) bound v (freeing (looking v h.history))
+is_full g start bound v h opens seen len = (len, record { begins = seen.0; replays = (holding_seen h, seen.3 start opens); places = refl; rises = seen.2 })
 
 pub has_no_memory : (g : Weigher) (start : Parts) (bound : ℕ) (v : View) (h : Holding) → v.opening ≡ Some start → v.bound ≡ bound → v.taken ≡ Some h → IsSeenAt g v h → PlacesRise 0 v.own (length v.seen) → length h.history ≢ bound
-    → HasNoMemory g (counted_in start) bound v (freeing v)
+    → HasNoMemory g (parts_seen start) bound v (freeing v)
 has_no_memory g start bound v h opens most taken seen placed not_full = let within = seen.5 start opens in record {
   held = h;
   taken = taken;
@@ -65,8 +66,8 @@ has_no_memory g start bound v h opens most taken seen placed not_full = let with
   same = (refl, refl);
 }
 
-pub looked_keeps : (g : Weigher) (start : Parts) (v : View) (h : Holding) → v.opening ≡ Some start → IsSeenAt g v h → KeepsOwn g (counted_in start) v (looking v h.history)
-looked_keeps g start v h opens seen = record { begins = seen.0; replays = (counted_at h, seen.3 start opens); places = refl; rises = seen.2 }
+pub looked_keeps : (g : Weigher) (start : Parts) (v : View) (h : Holding) → v.opening ≡ Some start → IsSeenAt g v h → KeepsOwn g (parts_seen start) v (looking v h.history)
+looked_keeps g start v h opens seen = record { begins = seen.0; replays = (holding_seen h, seen.3 start opens); places = refl; rises = seen.2 }
 
 -- a pass that made no call has its own calls as they stood, in what it sees more
 pub calls_in : (v : View) (xs : List Entry) → IsPrefix v.seen xs → PlacesRise 0 v.own (length v.seen) → map (get_elem? xs) v.own ≡ calls_of v
@@ -76,11 +77,11 @@ rises_in : (v : View) (xs : List Entry) → IsPrefix v.seen xs → PlacesRise 0 
 rises_in v xs p placed = let longer : length xs ≡ length v.seen + length p.0 = ap length p.1 ∙ length-append v.seen p.0 in rises_more 0 v.own (length v.seen) (length xs) placed (omega (arith, longer))
 
 pub looked_joins : (g : Weigher) (start : Parts) (v u : View) (h : Holding) → v.opening ≡ Some start → IsSeenAt g (joining v u) h → PlacesRise 0 v.own (length v.seen) → PlacesRise 0 u.own (length u.seen)
-    → JoinedViews g (counted_in start) v u (looking (joining v u) h.history)
+    → JoinedViews g (parts_seen start) v u (looking (joining v u) h.history)
 looked_joins g start v u h opens seen placed others = let xs = h.history in record {
   begins = seen.0;
   others = seen.1;
-  replays = (counted_at h, seen.3 start opens);
+  replays = (holding_seen h, seen.3 start opens);
   places = refl;
   rises = seen.2;
   tries = refl;
@@ -117,7 +118,7 @@ pub idle_after : {H : Type 0} (m : Me (P.Option H) View) (v w : View) → m ≡ 
 idle_after {H = H} m v w is told rises opening tries splits shares bound shared =
     subst (λ (x : Me (P.Option H) View). IsIdle x × KeepsStanding v x.0) (sym is) ((refl, told, refl, rises, ap is_shared shares ∙ shared), (opening, tries, splits, shares, bound))
 
-enters_same : (g : Weigher) (s : CountedStation) (v u : View) (e : Entry) (v' : View) → v.seen ≡ u.seen → v.own ≡ u.own → EntersCall g s v e v' → EntersCall g s u e v'
+enters_same : (g : Weigher) (s : StationSeen) (v u : View) (e : Entry) (v' : View) → v.seen ≡ u.seen → v.own ≡ u.own → EntersCall g s v e v' → EntersCall g s u e v'
 enters_same g s v u e v' seen own x = record {
   before = x.before;
   begins = subst (λ (l : List Entry). IsPrefix l x.before) seen x.begins;
@@ -128,7 +129,7 @@ enters_same g s v u e v' seen own x = record {
   calls = x.calls ∙ (λ i. map (get_elem? (seen i)) (own i) ++ some e ∷ []);
 }
 
-pub keeps_same : (g : Weigher) (s : CountedStation) (v u v' : View) → v.seen ≡ u.seen → v.own ≡ u.own → KeepsOwn g s v v' → KeepsOwn g s u v'
+pub keeps_same : (g : Weigher) (s : StationSeen) (v u v' : View) → v.seen ≡ u.seen → v.own ≡ u.own → KeepsOwn g s v v' → KeepsOwn g s u v'
 keeps_same g s v u v' seen own x = record {
   begins = subst (λ (l : List Entry). IsPrefix l v'.seen) seen x.begins;
   replays = x.replays;
@@ -139,7 +140,7 @@ keeps_same g s v u v' seen own x = record {
 pub own_same : (v u : View) → v.seen ≡ u.seen → v.own ≡ u.own → calls_of v ≡ calls_of u
 own_same v u seen own i = map (get_elem? (seen i)) (own i)
 
-no_memory_same : (g : Weigher) (s : CountedStation) (bound : ℕ) (v u v' : View) → v.seen ≡ u.seen → v.own ≡ u.own → v.shares ≡ u.shares → HasNoMemory g s bound v v' → HasNoMemory g s bound u v'
+no_memory_same : (g : Weigher) (s : StationSeen) (bound : ℕ) (v u v' : View) → v.seen ≡ u.seen → v.own ≡ u.own → v.shares ≡ u.shares → HasNoMemory g s bound v v' → HasNoMemory g s bound u v'
 no_memory_same g s bound v u v' seen own shares x = record {
   held = x.held;
   taken = x.taken;
@@ -150,12 +151,12 @@ no_memory_same g s bound v u v' seen own shares x = record {
   same = (x.same.0 ∙ seen, x.same.1 ∙ own);
 }
 
-refuses_same : (k : RefusalStanding) (g : Weigher) (s : CountedStation) (bound : ℕ) (v u : View) (e : Entry) (v' : View) → v.seen ≡ u.seen → v.own ≡ u.own → v.shares ≡ u.shares → RefusesCall k g s bound v e v' → RefusesCall k g s bound u e v'
+refuses_same : (k : RefusalStanding) (g : Weigher) (s : StationSeen) (bound : ℕ) (v u : View) (e : Entry) (v' : View) → v.seen ≡ u.seen → v.own ≡ u.own → v.shares ≡ u.shares → RefusesCall k g s bound v e v' → RefusesCall k g s bound u e v'
 refuses_same full g s bound v u e v' seen own shares x = (x.0, keeps_same g s v u v' seen own x.1)
 refuses_same no_room g s bound v u e v' seen own shares x = no_memory_same g s bound v u v' seen own shares x
 refuses_same entered g s bound v u e v' seen own shares x = enters_same g s v u e v' seen own x
 
-pub acts_same : (g : Weigher) (s : CountedStation) (bound : ℕ) (v u : View) (a : Act) (now : ℕ) (r : StationAnswer) (v' : View) → v.seen ≡ u.seen → v.own ≡ u.own → v.shares ≡ u.shares → ActsInTurn g s bound v a now r v' → ActsInTurn g s bound u a now r v'
+pub acts_same : (g : Weigher) (s : StationSeen) (bound : ℕ) (v u : View) (a : Act) (now : ℕ) (r : StationAnswer) (v' : View) → v.seen ≡ u.seen → v.own ≡ u.own → v.shares ≡ u.shares → ActsInTurn g s bound v a now r v' → ActsInTurn g s bound u a now r v'
 acts_same g s bound v u a now (Ok d) v' seen own shares x = enters_same g s v u (entry a now (Ok d)) v' seen own x
 acts_same g s bound v u a now (Err r) v' seen own shares x = refuses_same (standing_of r) g s bound v u (entry a now (Err r)) v' seen own shares x
 
@@ -165,8 +166,8 @@ all_read {H = H} g m k w h same look turn back =
     let is : look.0 ≡ h = look.4 h (ap (λ (x : Me (P.Option H) View). x.0.turn) same ∙ turn) in
     back ∙ (ap (λ (x : Me (P.Option H) View). (freeing x.0, [])) look.1 ∙ (λ i. (freeing (looking (same i).0 (is i).history), [])))
 
-pub read_keeps : (g : Weigher) (start : Parts) (v : View) (h : Holding) → v.opening ≡ Some start → IsSeenAt g v h → KeepsOwn g (counted_in start) v (freeing (looking v h.history))
-read_keeps g start v h opens seen = record { begins = seen.0; replays = (counted_at h, seen.3 start opens); places = refl; rises = seen.2 }
+pub read_keeps : (g : Weigher) (start : Parts) (v : View) (h : Holding) → v.opening ≡ Some start → IsSeenAt g v h → KeepsOwn g (parts_seen start) v (freeing (looking v h.history))
+read_keeps g start v h opens seen = record { begins = seen.0; replays = (holding_seen h, seen.3 start opens); places = refl; rises = seen.2 }
 
 pub read_own : {H : Type 0} (v : View) (h : Holding) (m : Me (P.Option H) View) → m ≡ (freeing (looking v h.history), []) → IsPrefix v.seen h.history → PlacesRise 0 v.own (length v.seen) → calls_of m.0 ≡ calls_of v
 read_own {H = H} v h m is begins placed = ap (λ (x : Me (P.Option H) View). calls_of x.0) is ∙ calls_in v h.history begins placed

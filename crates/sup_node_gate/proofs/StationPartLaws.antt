@@ -1,63 +1,56 @@
--- A station and its parts, and acts of the one as acts of the other.
-use Rattle.std.proofs.Common.{◌≡◌, ◌≢◌, ◌<◌, ◌≤◌, ◌+◌, ℕ, Bool, true, false, List, [], ◌∷◌, ◌++◌, refl, ap, ◌∙◌, sym, subst, arith, Some, None, Ok, Err}
+-- A station and its parts, acts of the one as acts of the other, and what an answer says of a keeper that is sound.
+use Rattle.std.proofs.Common.{◌≡◌, ◌≢◌, ℕ, true, false, List, [], ◌∷◌, ◌++◌, refl, ap, ◌∙◌, sym, subst, Some, None, Ok, Err, inl, inr}
 use Rattle.std.specs.Prelude.{Option, Result}
 use Rattle.std.specs.Option.{option_map}
-use Rattle.sup_specs.specs.Values.{Bytes}
 use Rattle.sup_placement.specs.Place.{Weigher}
+use Rattle.sup_keeper.specs.Keepers.{KeeperSeen}
 use Rattle.sup_replica.specs.declared.event.Act.{Act}
+use Rattle.sup_replica.specs.declared.event.Act.TheVariants.{Event as Of, Stop, Restart}
+use Rattle.sup_replica.specs.declared.done.Done.{Done}
 use Rattle.sup_replica.specs.declared.refusal.Refusal.{Refusal}
 use Rattle.sup_replica.specs.declared.refusal.Refusal.TheVariants.{OutOfMemory, HistoryFull, KeepFailed}
 use Rattle.sup_node.specs.declared.node.Node.{Node}
+use Rattle.sup_node.specs.Changes.{image_of}
 use Rattle.sup_node.specs.Contents.{station_of}
 use Rattle.sup_node.specs.NodeStates.{station_in}
+use Rattle.sup_node.specs.NodeSteps.{stepped}
 use Rattle.sup_station.specs.declared.station.Station.{Station}
+use Rattle.sup_station.specs.KeptStations.{StationSeen, station_seen, KeepsImage, CarriesOutAct, AnswersAct}
 use Rattle.sup_node_gate.specs.declared.view.Holding.{Holding}
-use Rattle.sup_node_gate.specs.Histories.{StationAnswer, CountedStation, counted_of, is_saved, count_after, RespondsToAct, entered, standing_of, is_entered, may_enter, IsEntered, entry}
-use Rattle.sup_node_gate.specs.Parts.{parts_of, counted_in, counted_at, IsLike}
-use Rattle.sup_node_gate.specs.Holdings.{AddsEntry, AddsIfRoom, EntersIfMay, SavesAnswer}
+use Rattle.sup_node_gate.specs.Histories.{StationAnswer, is_saved, entered, standing_of, is_entered, may_enter, IsEntered, entry}
+use Rattle.sup_node_gate.specs.Parts.{parts_of, parts_seen, holding_seen, IsLike}
+use Rattle.sup_node_gate.specs.Holdings.{AddsEntry, AddsIfRoom, EntersIfMay}
 
 states : {W : Type 0} {g : _} (o : Option (Node W g)) → option_map station_in (option_map (λ n. n.state) o) ≡ option_map station_of o
 states None = refl
 states (Some n) = refl
 
 -- the parts of a station make what is seen of it
-pub parts_counted : {K W : Type 0} {g : _} {h : _} (kept : K → Bytes) (failures : K → ℕ) (sound : K → Bool) (s : Station K W g h) → counted_in (parts_of kept failures sound s) ≡ counted_of kept failures s
-parts_counted kept failures sound s = ap (λ o. record { kept_station = record { name = s.name; config = s.config; node = o; kept = kept s.keeper }; failures = failures s.keeper }) (states s.node)
-
--- a count that rises by one at most, and exactly where the refusal says that the keeper failed
-pub refused_count : (r : Refusal) (n m : ℕ) → (r ≡ KeepFailed → n < m) → (n < m → r ≡ KeepFailed) → n ≤ m → m ≤ n + 1 → m ≡ count_after (is_saved (Err r)) n
-refused_count KeepFailed n m rose told low high = let lt = rose refl in omega arith
-refused_count r n m rose told low high = let no : ¬ (n < m) = λ lt. (let e = told lt in cc) in omega arith
-
-same_refusal : {A : Type 0} (r q : Refusal) → (let x : Result A Refusal = Err r in x) ≡ Err q → r ≡ q
-same_refusal r q e = cc
-
--- the same of an answer
-pub failed_count : {A : Type 0} (r : Refusal) (n m : ℕ) → ((let x : Result A Refusal = Err r in x) ≡ Err KeepFailed → n < m) → (n < m → (let x : Result A Refusal = Err r in x) ≡ Err KeepFailed) → n ≤ m → m ≤ n + 1
-    → m ≡ count_after (is_saved (Err r)) n
-failed_count {A = A} r n m rose told low high = refused_count r n m (λ e. rose (ap (λ (q : Refusal). let x : Result A Refusal = Err q in x) e)) (λ lt. same_refusal {A = A} r KeepFailed (told lt)) low high
+pub parts_as : {K W : Type 0} {g : _} {h : _} (seen : K → KeeperSeen) (s : Station K W g h) → parts_seen (parts_of seen s) ≡ station_seen seen s
+parts_as seen s = ap (λ o. record { name = s.name; config = s.config; node = o; keeper = seen s.keeper }) (states s.node)
 
 saved_otherwise : (r : Refusal) → ¬ (r ≡ KeepFailed) → is_saved (Err r) ≡ true
 saved_otherwise KeepFailed other = absurd (other refl)
 saved_otherwise r other = refl
 
--- a refusal over a keeper that is sound
-pub refused_saves : {A : Type 0} (r : Refusal) (a b : Bool) → (a ≡ true → b ≡ true) → (a ≡ true → (let x : Result A Refusal = Err r in x) ≢ Err KeepFailed) → a ≡ true → (b ≡ true) × (is_saved (Err r) ≡ true)
-refused_saves {A = A} r a b stays sound h = (stays h, saved_otherwise r (λ e. sound h (ap (λ (q : Refusal). let x : Result A Refusal = Err q in x) e)))
+image_sound : (step : Result _ Refusal) (old new : KeeperSeen) (image : _) → KeepsImage step old new image → old.sound ≡ true → new.sound ≡ true
+image_sound (Ok move) old new image k h = ap (λ (x : KeeperSeen). x.sound) k ∙ h
+image_sound (Err r) old new image k h = ap (λ (x : KeeperSeen). x.sound) k.2.1 ∙ h
 
-module _ (g : Weigher) (act : Act) (now : ℕ) where
-  pub responds_as : (answer : StationAnswer) (s t x y : CountedStation) → x ≡ s → y ≡ t → RespondsToAct g s act now answer t → RespondsToAct g x act now answer y
-  responds_as answer s t x y e f r = subst (λ (z : CountedStation × CountedStation). RespondsToAct g z.0 act now answer z.1) (λ i. (sym e i, sym f i)) r
+carried_sound : (g : Weigher) (s : StationSeen) (node : Option _) (act : Act) (now : ℕ) (done : Done) (next : Option _) (new : KeeperSeen)
+    → CarriesOutAct g s node act now done next new → s.keeper.sound ≡ true → new.sound ≡ true
+carried_sound g s None (Of event) now done next new x h = absurd x
+carried_sound g s (Some n) (Of event) now done next new x h = image_sound (stepped g n event now x.mail false) s.keeper new (image_of x.move.station.node) x.keeps h
+carried_sound g s None Stop now done next new x h = absurd x
+carried_sound g s (Some n) Stop now done next new x h = ap (λ (k : KeeperSeen). k.sound) x.2 ∙ h
+carried_sound g s None Restart now done next new x h = ap (λ (k : KeeperSeen). k.sound) x.keeps.2.1 ∙ h
+carried_sound g s (Some n) Restart now done next new x h = absurd x
 
-  -- what is made of a holding is made of one like it
-  pub adds_like : (answer : Option StationAnswer) (h k h' : Holding) → IsLike h k → AddsIfRoom g h act now answer h' → AddsIfRoom g k act now answer h'
-  adds_like (Some answer) h k h' like x = (
-    x.0,
-    x.1 ∙ ap (λ (l : List _). l ++ entry act now answer ∷ []) like.0,
-    subst (λ (s : CountedStation). RespondsToAct g s act now answer (counted_at h')) like.1 x.2,
-    λ s. x.3 (like.2 s),
-  )
-  adds_like None h k h' like x = (x.0 ∙ like.0, x.1 ∙ like.1, λ s. x.2 (like.2 s))
+-- a station whose keeper is sound answers no failed save, and stays so
+pub saves_answer : (g : Weigher) (s t : StationSeen) (act : Act) (now : ℕ) (answer : StationAnswer) → AnswersAct g s act now answer t → s.keeper.sound ≡ true → (t.keeper.sound ≡ true) × (is_saved answer ≡ true)
+saves_answer g s t act now (Ok done) a h = (carried_sound g s s.node act now done t.node t.keeper a.2 h, refl)
+saves_answer g s t act now (Err r) (inl x) h = let unsound = x.1.fails.unsound in absurd cc
+saves_answer g s t act now (Err r) (inr x) h = (ap (λ (u : StationSeen). u.keeper.sound) x.1 ∙ h, saved_otherwise r x.0)
 
 pub enters : (r : Refusal) → is_entered r ≡ true → standing_of r ≡ entered
 enters HistoryFull e = absurd cc
@@ -68,20 +61,26 @@ pub is_told : (answer : StationAnswer) → may_enter answer ≡ true → IsEnter
 is_told (Ok done) e = tt
 is_told (Err r) e = enters r e
 
--- what isn't entered isn't a failure of the keeper
-saved_unless : (r : Refusal) → is_entered r ≡ false → is_saved (Err r) ≡ true
-saved_unless KeepFailed e = absurd cc
-saved_unless r e = refl
-
 module _ (g : Weigher) (act : Act) (now : ℕ) where
-  -- a refused act leaves the station as it was
-  unentered : (answer : StationAnswer) (s t : CountedStation) → RespondsToAct g s act now answer t → may_enter answer ≡ false → t ≡ s
-  unentered (Ok done) s t r e = absurd cc
-  unentered (Err why) s t r e = let still : t.kept_station ≡ s.kept_station = r.goes.0 in let count : t.failures ≡ s.failures = r.count ∙ ap (λ b. count_after b s.failures) (saved_unless why e) in
-      (λ i. record { kept_station = still i; failures = count i })
+  pub answers_as : (answer : StationAnswer) (s t x y : StationSeen) → x ≡ s → y ≡ t → AnswersAct g s act now answer t → AnswersAct g x act now answer y
+  answers_as answer s t x y e f a = subst (λ (z : StationSeen × StationSeen). AnswersAct g z.0 act now answer z.1) (λ i. (sym e i, sym f i)) a
+
+  -- what is made of a holding is made of one like it
+  pub adds_like : (answer : Option StationAnswer) (h k h' : Holding) → IsLike h k → AddsIfRoom g h act now answer h' → AddsIfRoom g k act now answer h'
+  adds_like (Some answer) h k h' like x = (
+    x.0,
+    x.1 ∙ ap (λ (l : List _). l ++ entry act now answer ∷ []) like.0,
+    subst (λ (s : StationSeen). AnswersAct g s act now answer (holding_seen h')) like.1 x.2,
+  )
+  adds_like None h k h' like x = (x.0 ∙ like.0, x.1 ∙ like.1)
+
+  -- an act whose answer isn't entered leaves the station as it was
+  unentered : (answer : StationAnswer) (s t : StationSeen) → AnswersAct g s act now answer t → may_enter answer ≡ false → t ≡ s
+  unentered (Ok done) s t a e = absurd cc
+  unentered (Err why) s t (inl x) e = let told : is_entered why ≡ true = ap is_entered x.0 in absurd cc
+  unentered (Err why) s t (inr x) e = x.1
 
   -- an act that was answered, once its answer was entered
-  pub adds : (answer : StationAnswer) (result : Option StationAnswer) (h h' : Holding) → RespondsToAct g (counted_at h) act now answer (counted_at h') → SavesAnswer h.parts answer h'.parts → EntersIfMay h.history act now answer result h'.history → AddsIfRoom g h act now result h'
-  adds answer (Some told) h h' r saves x =
-      subst (λ (a : StationAnswer). AddsEntry g h act now a h') (sym x.0) (is_told answer x.1, x.2, r, saves)
-  adds answer None h h' r saves x = (x.1, unentered answer (counted_at h) (counted_at h') r x.0, λ s. (saves s).0)
+  pub adds : (answer : StationAnswer) (result : Option StationAnswer) (h h' : Holding) → AnswersAct g (holding_seen h) act now answer (holding_seen h') → EntersIfMay h.history act now answer result h'.history → AddsIfRoom g h act now result h'
+  adds answer (Some told) h h' a x = subst (λ (b : StationAnswer). AddsEntry g h act now b h') (sym x.0) (is_told answer x.1, x.2, a)
+  adds answer None h h' a x = (x.1, unentered answer (holding_seen h) (holding_seen h') a x.0)

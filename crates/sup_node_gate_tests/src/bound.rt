@@ -2,8 +2,7 @@
 //! `bench/refused_stories.sh` runs it with each growth refused in turn.
 ghost use Rattle.std.specs.Prelude.{◌≡◌};
 ghost use Rattle.sup_node_gate.specs.Gates.{IsOf};
-ghost use Rattle.sup_node_gate.specs.InMemory.{failures_by, sound_by};
-ghost use Rattle.sup_station.specs.OpenedStations.{kept_by};
+ghost use Rattle.sup_keeper.specs.Keeping.{memory_seen};
 
 use crate::given::{child, start, station};
 use crate::told::{refused, tried};
@@ -17,7 +16,7 @@ use sup_replica::{Done, Refusal};
 fn gate_of_two(
     rt: &(impl Abort + AllocGlobal),
 ) -> (NodeGate<MemKeeper, FlatWeigh>, Pass<MemKeeper, FlatWeigh>)
-    ensures { IsOf kept_by failures_by sound_by result.0 result.1 }
+    ensures { IsOf memory_seen result.0 result.1 }
 {
     match NodeGate::new(rt.alloc(), station(rt, "a", MemKeeper::new(rt.alloc())), 2) {
         Ok(made) => made,
@@ -35,8 +34,8 @@ fn tries(
     pass: &mut Pass<MemKeeper, FlatWeigh>,
     id: &str,
 ) -> Result<Result<Done, Refusal>, Busy>
-    requires { IsOf kept_by failures_by sound_by at.now pass.old }
-    ensures { IsOf kept_by failures_by sound_by at.now pass.new }
+    requires { IsOf memory_seen at.now pass.old }
+    ensures { IsOf memory_seen at.now pass.new }
 {
     let before = at.seen(pass);
     let first = at.try_call(pass, start(rt, id), 0, &FlatWeigh);

@@ -1,8 +1,7 @@
 //! A gate whose turn is held while its keeper waits.
 ghost use Rattle.std.specs.Prelude.{◌≡◌};
 ghost use Rattle.sup_node_gate.specs.Gates.{IsOf};
-ghost use Rattle.sup_node_gate.specs.InMemory.{failures_by, sound_by};
-ghost use Rattle.sup_station.specs.OpenedStations.{kept_by};
+ghost use Rattle.sup_keeper.specs.Keeping.{memory_seen};
 
 use crate::given::{start, station};
 use crate::told::added;
@@ -24,8 +23,8 @@ fn tries<K: Keeper>(
     pass: Pass<K, FlatWeigh>,
     id: &str,
 ) -> (Pass<K, FlatWeigh>, Tried)
-    requires { IsOf K.kept K.failures K.sound at.now pass }
-    ensures { IsOf K.kept K.failures K.sound at.now result.0 }
+    requires { IsOf K.seen at.now pass }
+    ensures { IsOf K.seen at.now result.0 }
 {
     let mut pass = pass;
     let told = match at.try_call(&mut pass, start(rt, id), 0, &FlatWeigh) {
@@ -39,7 +38,7 @@ fn tries<K: Keeper>(
 fn beside(
     rt: &(impl Abort + AllocGlobal),
 ) -> (NodeGate<MemKeeper, FlatWeigh>, Pass<MemKeeper, FlatWeigh>)
-    ensures { IsOf kept_by failures_by sound_by result.0 result.1 }
+    ensures { IsOf memory_seen result.0 result.1 }
 {
     let keeper = MemKeeper::new(rt.alloc());
     match NodeGate::new(rt.alloc(), station(rt, "b", keeper), 100) {
@@ -55,8 +54,8 @@ fn tries_both<K: Keeper>(
     at: &NodeGate<K, FlatWeigh>,
     pass: Pass<K, FlatWeigh>,
 ) -> (Pass<K, FlatWeigh>, bool, Tried, Tried)
-    requires { IsOf K.kept K.failures K.sound at.now pass }
-    ensures { IsOf K.kept K.failures K.sound at.now result.0 }
+    requires { IsOf K.seen at.now pass }
+    ensures { IsOf K.seen at.now result.0 }
 {
     let waits = shows(lamp, WAITS);
     let (pass, here) = tries(rt, at, pass, "y");

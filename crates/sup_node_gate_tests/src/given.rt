@@ -53,7 +53,7 @@ pub(crate) fn gate<K: Keeper>(
     rt: &(impl Abort + AllocGlobal),
     of: Station<K, FlatWeigh>,
 ) -> (NodeGate<K, FlatWeigh>, Pass<K, FlatWeigh>)
-    ensures { IsOf K.kept K.failures K.sound result.0 result.1 }
+    ensures { IsOf K.seen result.0 result.1 }
 {
     match NodeGate::new(rt.alloc(), of, MAX_BOUND) {
         Ok(made) => made,

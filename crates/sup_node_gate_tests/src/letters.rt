@@ -1,8 +1,7 @@
 //! The letters of what a history lists, from each of its places on.
 ghost use Rattle.std.specs.Prelude.{◌≡◌};
 ghost use Rattle.sup_node_gate.specs.Gates.{IsOf};
-ghost use Rattle.sup_node_gate.specs.InMemory.{failures_by, sound_by};
-ghost use Rattle.sup_station.specs.OpenedStations.{kept_by};
+ghost use Rattle.sup_keeper.specs.Keeping.{memory_seen};
 
 use crate::given::{gate, member, push, station};
 use std::process::Abort;
@@ -36,8 +35,8 @@ fn has(
     from: u64,
     letters: &[Letter],
 ) -> bool
-    requires { IsOf kept_by failures_by sound_by at.now pass.old }
-    ensures { IsOf kept_by failures_by sound_by at.now pass.new }
+    requires { IsOf memory_seen at.now pass.old }
+    ensures { IsOf memory_seen at.now pass.new }
 {
     match at.letters(rt, pass, from) {
         Ok(sent) => sent.entries == 4 && are_alike(&sent.letters, letters),

@@ -41,8 +41,8 @@ fn makes<K: Keeper>(
     pass: &mut Pass<K, FlatWeigh>,
     place: u64,
 ) -> bool
-    requires { IsOf K.kept K.failures K.sound at.now pass.old }
-    ensures { IsOf K.kept K.failures K.sound at.now pass.new }
+    requires { IsOf K.seen at.now pass.old }
+    ensures { IsOf K.seen at.now pass.new }
 {
     let before = at.seen(pass);
     let first = at.call(rt, pass, act(rt, place), place, &FlatWeigh);
@@ -60,8 +60,8 @@ pub(crate) fn tells<K: Keeper>(
     at: &NodeGate<K, FlatWeigh>,
     pass: Pass<K, FlatWeigh>,
 ) -> Pass<K, FlatWeigh>
-    requires { IsOf K.kept K.failures K.sound at.now pass }
-    ensures { IsOf K.kept K.failures K.sound at.now result }
+    requires { IsOf K.seen at.now pass }
+    ensures { IsOf K.seen at.now result }
 {
     let mut pass = pass;
     for place in 0..ACTS {

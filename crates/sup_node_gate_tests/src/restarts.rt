@@ -44,8 +44,8 @@ fn works<K: Keeper>(
     pass: Pass<K, FlatWeigh>,
     count: u64,
 ) -> Pass<K, FlatWeigh>
-    requires { IsOf K.kept K.failures K.sound at.now pass }
-    ensures { IsOf K.kept K.failures K.sound at.now result }
+    requires { IsOf K.seen at.now pass }
+    ensures { IsOf K.seen at.now result }
 {
     let mut pass = pass;
     for place in 0..count {

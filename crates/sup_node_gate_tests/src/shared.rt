@@ -1,8 +1,7 @@
 //! Threads that share one gate over few rows.
 ghost use Rattle.std.specs.Thread.{IsSync};
 ghost use Rattle.sup_node_gate.specs.Gates.{IsOf};
-ghost use Rattle.sup_node_gate.specs.InMemory.{failures_by, sound_by};
-ghost use Rattle.sup_station.specs.OpenedStations.{kept_by};
+ghost use Rattle.sup_keeper.specs.Keeping.{memory_seen};
 
 use crate::given::{self, delete, push, start, station};
 use crate::told::{agree, in_order};
@@ -39,8 +38,8 @@ fn works<K: Keeper>(
     pass: Pass<K, FlatWeigh>,
     of: &str,
 ) -> Pass<K, FlatWeigh>
-    requires { IsOf K.kept K.failures K.sound gate.now pass }
-    ensures { IsOf K.kept K.failures K.sound gate.now result }
+    requires { IsOf K.seen gate.now pass }
+    ensures { IsOf K.seen gate.now result }
 {
     let mut pass = pass;
     for now in 0..CALLS {
@@ -73,8 +72,8 @@ fn two_work<R: Threads + Wait + Abort + AllocGlobal + Sync>(
     pass: MemPass,
     names: [&str; 2],
 ) -> MemPass
-    requires { IsOf kept_by failures_by sound_by gate.now pass }
-    ensures { IsOf kept_by failures_by sound_by gate.now result }
+    requires { IsOf memory_seen gate.now pass }
+    ensures { IsOf memory_seen gate.now result }
 {
     let [first, second] = names;
     let (left, right) = gate.split(pass);
@@ -92,19 +91,19 @@ fn four_work<R: Threads + Wait + Abort + AllocGlobal + Sync>(
     gate: &MemGate,
     pass: MemPass,
 ) -> MemPass
-    requires { IsOf kept_by failures_by sound_by gate.now pass }
-    ensures { IsOf kept_by failures_by sound_by gate.now result }
+    requires { IsOf memory_seen gate.now pass }
+    ensures { IsOf memory_seen gate.now result }
 {
     let (left, right) = gate.split(pass);
     let (left, right) = join(
         rt,
         || -> MemPass
-            requires { IsSync R.row × IsOf kept_by failures_by sound_by gate.now left }
-            ensures { IsOf kept_by failures_by sound_by gate.entry.now result }
+            requires { IsSync R.row × IsOf memory_seen gate.now left }
+            ensures { IsOf memory_seen gate.entry.now result }
         { two_work(rt, gate, left, ["w", "x"]) },
         || -> MemPass
-            requires { IsSync R.row × IsOf kept_by failures_by sound_by gate.now right }
-            ensures { IsOf kept_by failures_by sound_by gate.entry.now result }
+            requires { IsSync R.row × IsOf memory_seen gate.now right }
+            ensures { IsOf memory_seen gate.entry.now result }
         { two_work(rt, gate, right, ["y", "z"]) },
     );
     gate.join(left, right)
@@ -112,7 +111,7 @@ fn four_work<R: Threads + Wait + Abort + AllocGlobal + Sync>(
 
 // Closes the gate, and judges its history.
 fn ends(rt: &(impl Abort + AllocGlobal), gate: MemGate, pass: MemPass, names: &[&str])
-    requires { IsOf kept_by failures_by sound_by gate pass }
+    requires { IsOf memory_seen gate pass }
 {
     let Some(closed) = gate.close(pass) else {
         panic!(rt; "a turn is held")

@@ -34,19 +34,9 @@ pub(crate) struct Waiting {
 }
 
 impl Keeper for Waiting {
-    ghost use Rattle.std.specs.Prelude.{not, true, Some};
+    ghost use Rattle.sup_keeper.specs.Keeping.{memory_seen};
 
-    ghost kept = { λ k. k.inner.bytes };
-
-    ghost found = { λ k. Some k.inner.bytes };
-
-    ghost failures = { λ k. k.inner.failures };
-
-    ghost failing = { λ k. k.inner.failing };
-
-    ghost sound = { λ k. not k.inner.failing };
-
-    ghost readable = { λ _. true };
+    ghost seen = { λ k. memory_seen k.inner };
 
     fn save(&mut self, bytes: &[u8]) -> Result<(), KeepFault> {
         if self.lamp.load(Ordering::SeqCst) == HOLDS {
