@@ -8,13 +8,13 @@ use Rattle.sup_placement.specs.declared.weigh.Weigh.{Ghosts as WeighGhosts}
 use Rattle.sup_plan.specs.declared.plan.Command.{Command}
 use Rattle.sup_plan.specs.declared.plan.Plan.{Plan}
 use Rattle.sup_node_gate.specs.Gates.{view_of}
-use Rattle.sup_posts.specs.Jobs.{CarriedLetters, GivesDriven, DrivesNode}
+use Rattle.sup_posts.specs.Jobs.{CarriedLetters, GivesDriven, DrivesNode, IsSeatOf}
 use Rattle.sup_posts.specs.declared.thread_fault.ThreadFault.{ThreadFault}
 use Rattle.sup_posts.specs.declared.shared_node.SharedNode.{SharedNode}
 use Rattle.sup_posts.specs.declared.jobs.Drive.{Drive}
 use Rattle.sup_posts.specs.declared.jobs.Driven.{Driven}
 use Rattle.sup_posts.specs.Drives.{IsDriveOf, IsSharedNodeOf}
-use Rattle.sup_run_ends.specs.Steps.{IsSeatOf, IsArrived, ReturnsDriven}
+use Rattle.sup_run_ends.specs.Steps.{IsArrived, ReturnsDriven}
 use Rattle.sup_run_ends.proofs.ZipLaws.{zip_right, zip_through}
 use Rattle.sup_run_ends.proofs.RunEndItemLaws.{all_at, same_place}
 

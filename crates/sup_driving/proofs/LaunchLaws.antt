@@ -7,9 +7,8 @@ use Rattle.std.proofs.lemmas.Option.{same_Some}
 use Rattle.sup_specs.specs.Values.{Bytes}
 use Rattle.sup_local_sup.specs.declared.effect.Effect.{Effect}
 use Rattle.sup_placement.specs.declared.weigh.Weigh.{Ghosts as WeighGhosts}
-use Rattle.sup_keeper.specs.Keeping.{memory_seen}
 use Rattle.sup_node_gate.specs.declared.entry.Entry.{Entry}
-use Rattle.sup_node_gate.specs.Gates.{IsOf, view_of}
+use Rattle.sup_node_gate.specs.Gates.{view_of}
 use Rattle.sup_links.specs.declared.link_in.Sent.{Sent}
 use Rattle.sup_links.specs.Ends.{AreOneLink, script_of, taken_of}
 use Rattle.sup_links.specs.Image.{image}
@@ -18,7 +17,7 @@ use Rattle.sup_plan.specs.Sublists.{Sublist}
 use Rattle.sup_plan.specs.declared.plan.Command.{Command}
 use Rattle.sup_plan.specs.declared.plan.Plan.{Plan}
 use Rattle.sup_posts.specs.Drives.{IsDriveOf}
-use Rattle.sup_posts.specs.Jobs.{IsLane, MayTakeDrive, CarriedLetters, DrivesNode, GivesDriven}
+use Rattle.sup_posts.specs.Jobs.{IsLane, MayTakeDrive, CarriedLetters, DrivesNode, GivesDriven, IsSeatOf}
 use Rattle.sup_posts.specs.Rounds.{MakesCalls, MakesCommands, delivery}
 use Rattle.sup_posts.specs.declared.thread_fault.ThreadFault.{ThreadFault}
 use Rattle.sup_posts.specs.declared.shared_node.SharedNode.{SharedNode}
@@ -84,7 +83,7 @@ module _ {W : Type 0} {h : WeighGhosts W} (did : Bytes → Effect → Bool → T
           to = met.0 ∙ (took.to ∙ rv.to);
           post = w.post;
           stands = w.stands;
-          seat = subst (λ (p : SharedNode W h). IsOf memory_seen p.gate arrived.seat) same (subst (IsOf memory_seen at.0.gate) (sym met.1) at.2);
+          seat = subst (λ (p : SharedNode W h). IsSeatOf p arrived.seat) same (subst (IsSeatOf at.0) (sym met.1) at.2);
           delivered = subst (λ l. Sublist l (deliveries (view_of arrived.seat).seen)) whole
               (subst (λ p. Sublist (taken_of received.exit) (deliveries (view_of p).seen)) (sym met.1) took.delivered);
           made = subst (λ (p : SharedNode W h). MakesCalls (did p.name) (view_of lane.seat) (map delivery (image (script_of lane.entry) put)) (view_of arrived.seat)) same
@@ -128,7 +127,7 @@ module _ {W : Type 0} {h : WeighGhosts W} (did : Bytes → Effect → Bool → T
         → IsTeamOf posts drive team → Did posts team done → IsGathered done driven → DrivesNode did stood posts drive driven
     drives_of drive team done driven t d g =
         let s : SteersNode did stood posts team.lead g.steered = subst (λ r. IfOk r (SteersNode did stood posts team.lead)) g.lead d.0 in record {
-          seat = (s.seat.0, ap (slice_get posts) (sym t.at) ∙ s.seat.1, subst (IsOf memory_seen s.seat.0.gate) (sym g.seat) s.seat.2);
+          seat = (s.seat.0, ap (slice_get posts) (sym t.at) ∙ s.seat.1, subst (IsSeatOf s.seat.0) (sym g.seat) s.seat.2);
           drove = subst (λ x. MakesCommands (did s.seat.0.name) (stood s.seat.0.name) (view_of drive.seat) drive.commands.items (view_of x)) (sym g.seat)
               (subst (λ v. MakesCommands (did s.seat.0.name) (stood s.seat.0.name) (view_of drive.seat) v.items (view_of g.steered.seat)) t.commands
               (subst (λ x. MakesCommands (did s.seat.0.name) (stood s.seat.0.name) (view_of x) team.lead.commands.items (view_of g.steered.seat)) t.seat s.drove));

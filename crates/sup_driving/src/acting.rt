@@ -1,8 +1,8 @@
 //! What is to be done with a node's children, asked of the runner.
 ghost use Rattle.std.specs.Prelude.{◌≡◌, ◌++◌, IfOk, IfErr, OnOk};
 ghost use Rattle.sup_node_gate.specs.declared.view.View.{View};
-ghost use Rattle.sup_node_gate.specs.Gates.{IsOf, view_of, bound_of};
-ghost use Rattle.sup_keeper.specs.Keeping.{memory_seen};
+ghost use Rattle.sup_node_gate.specs.Gates.{view_of, bound_of};
+ghost use Rattle.sup_posts.specs.Jobs.{IsSeatOf};
 ghost use Rattle.sup_posts.specs.NodeCalls.{MadeCall};
 ghost use Rattle.sup_posts.specs.Rounds.{failed};
 ghost use Rattle.sup_posts.specs.declared.thread_fault.ThreadFault.TheVariants.{OutOfMemory};
@@ -27,9 +27,9 @@ impl<'a, R: Wait, W: Weigh, N: Runner, C> Field<'a, R, W, N, C> {
         requests: Requests,
         now: u64,
     ) -> Result<(), ThreadFault>
-        requires of { IsOf memory_seen post.now.gate seat.old }
+        requires of { IsSeatOf post.now seat.old }
         requires asks { requests.node ≡ post.now.name }
-        ensures of { IsOf memory_seen post.now.gate seat.new }
+        ensures of { IsSeatOf post.now seat.new }
         ensures seen { OnOk result (SeesMore (view_of seat.old) (view_of seat.new)) }
         ensures told { OnOk result (TellsEffects (N.did self.now.runner.now post.now.name) now requests.effects (view_of seat.old) (view_of seat.new)) }
         ensures fault { IfErr result (StopsCalling (bound_of post.now.gate) (view_of seat.new)) }
@@ -56,10 +56,10 @@ impl<'a, R: Wait, W: Weigh, N: Runner, C> Field<'a, R, W, N, C> {
         now: u64,
         waiting: &mut VecDeque<Requests>,
     ) -> Result<(), ThreadFault>
-        requires of { IsOf memory_seen post.now.gate seat.old }
+        requires of { IsSeatOf post.now seat.old }
         requires asks { requests.node ≡ post.now.name }
         requires waiting { AreOf post.now.name waiting.old.items }
-        ensures of { IsOf memory_seen post.now.gate seat.new }
+        ensures of { IsSeatOf post.now seat.new }
         ensures seen { OnOk result (SeesMore (view_of seat.old) (view_of seat.new)) }
         ensures waiting { OnOk result (AreOf post.now.name waiting.new.items) }
         ensures told { (u : View) → OnOk result (TellsEffects (N.did self.now.runner.now post.now.name) now (effects_in waiting.new.items) (view_of seat.new) u
@@ -106,8 +106,8 @@ impl<'a, R: Wait, W: Weigh, N: Runner, C> Field<'a, R, W, N, C> {
         inc: Incarnation,
         now: u64,
     ) -> Result<Requests, ThreadFault>
-        requires { IsOf memory_seen post.now.gate seat.old }
-        ensures of { IsOf memory_seen post.now.gate seat.new }
+        requires { IsSeatOf post.now seat.old }
+        ensures of { IsSeatOf post.now seat.new }
         ensures called { IfOk result (λ r. MadeCall (view_of seat.old) (failed (id, inc)) now r.effects (view_of seat.new)) }
         ensures asks { IfOk result (λ r. r.node ≡ post.now.name) }
         ensures fault { IfErr result (StopsCalling (bound_of post.now.gate) (view_of seat.new)) }

@@ -1,8 +1,8 @@
 //! What a driver does.
 ghost use Rattle.std.specs.Prelude.{◌⊎◌, IfErr, IfOk, OnOk};
 ghost use Rattle.std.specs.List.{AllZip, AllByRecursion};
-ghost use Rattle.sup_node_gate.specs.Gates.{IsOf, view_of, bound_of};
-ghost use Rattle.sup_keeper.specs.Keeping.{memory_seen};
+ghost use Rattle.sup_node_gate.specs.Gates.{view_of, bound_of};
+ghost use Rattle.sup_posts.specs.Jobs.{IsSeatOf};
 ghost use Rattle.sup_posts.specs.Rounds.{MakesCommands};
 ghost use Rattle.sup_driving.specs.Called.{MakesCommand, StopsCalling, stood_by};
 ghost use Rattle.sup_driving.specs.Wires.{HaveLetters, HaveShipped, IsLater, IsUnused, StopsPutting};
@@ -27,9 +27,9 @@ impl<'a, R: Wait, W: Weigh, N: Runner, C: Checkpoint> Field<'a, R, W, N, C> {
         shipped: u64,
         wires: &mut [Wire],
     ) -> Result<u64, ThreadFault>
-        requires of { IsOf memory_seen post.now.gate seat.old }
+        requires of { IsSeatOf post.now seat.old }
         requires shipped { HaveShipped shipped (view_of seat.old).seen wires.old }
-        ensures of { IsOf memory_seen post.now.gate seat.new }
+        ensures of { IsSeatOf post.now seat.new }
         ensures later { OnOk result (AllZip IsLater wires.old wires.new) }
         ensures shipped { IfOk result (λ n. HaveShipped n (view_of seat.new).seen wires.new) }
         ensures made { OnOk result (MakesCommand (N.did self.now.runner.now post.now.name) (stood_by C.was_before C.was_answered self.now.checkpoint.now post.now.name) (view_of seat.old) command place (view_of seat.new)) }
@@ -53,9 +53,9 @@ impl<'a, R: Wait, W: Weigh, N: Runner, C: Checkpoint> Field<'a, R, W, N, C> {
         commands: Vec<Command>,
         wires: &mut [Wire],
     ) -> Result<(), ThreadFault>
-        requires of { IsOf memory_seen post.now.gate seat.old }
+        requires of { IsSeatOf post.now seat.old }
         requires unused { AllByRecursion IsUnused wires.old }
-        ensures of { IsOf memory_seen post.now.gate seat.new }
+        ensures of { IsSeatOf post.now seat.new }
         ensures later { OnOk result (AllZip IsLater wires.old wires.new) }
         ensures letters { OnOk result (HaveLetters (view_of seat.new).seen wires.new) }
         ensures made { OnOk result (MakesCommands (N.did self.now.runner.now post.now.name) (stood_by C.was_before C.was_answered self.now.checkpoint.now post.now.name) (view_of seat.old) commands.items (view_of seat.new)) }

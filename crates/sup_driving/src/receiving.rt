@@ -1,8 +1,8 @@
 //! What a receiver does.
 ghost use Rattle.std.specs.Prelude.{◌≡◌, ◌++◌, ◌⊎◌, [], ◌∷◌, true, map, IfErr, OnOk, List};
 ghost use Rattle.sup_specs.specs.Values.{Bytes};
-ghost use Rattle.sup_node_gate.specs.Gates.{IsOf, view_of, bound_of};
-ghost use Rattle.sup_keeper.specs.Keeping.{memory_seen};
+ghost use Rattle.sup_node_gate.specs.Gates.{view_of, bound_of};
+ghost use Rattle.sup_posts.specs.Jobs.{IsSeatOf};
 ghost use Rattle.sup_links.specs.Ends.{SameOut, taken_of, has_ended};
 ghost use Rattle.sup_plan.specs.Calls.{deliveries};
 ghost use Rattle.sup_plan.specs.Sublists.{Sublist};
@@ -28,8 +28,8 @@ impl<'a, R: Wait, W: Weigh, N: Runner, C> Field<'a, R, W, N, C> {
         seat: &mut Seat<W>,
         text: Vec<u8>,
     ) -> Result<(), ThreadFault>
-        requires { IsOf memory_seen post.now.gate seat.old }
-        ensures of { IsOf memory_seen post.now.gate seat.new }
+        requires { IsSeatOf post.now seat.old }
+        ensures of { IsSeatOf post.now seat.new }
         ensures delivered { (texts : List Bytes) → Sublist texts (deliveries (view_of seat.old).seen)
             → OnOk result (Sublist (texts ++ text.items ∷ []) (deliveries (view_of seat.new).seen)) }
         ensures made { OnOk result (MakesCalls (N.did self.now.runner.now post.now.name) (view_of seat.old) (delivery text.items ∷ []) (view_of seat.new)) }
@@ -59,9 +59,9 @@ impl<'a, R: Wait, W: Weigh, N: Runner, C> Field<'a, R, W, N, C> {
         seat: &mut Seat<W>,
         exit: &mut LinkOut,
     ) -> Result<(), ThreadFault>
-        requires of { IsOf memory_seen post.now.gate seat.old }
+        requires of { IsSeatOf post.now seat.old }
         requires none { taken_of exit.old ≡ [] }
-        ensures of { IsOf memory_seen post.now.gate seat.new }
+        ensures of { IsSeatOf post.now seat.new }
         ensures link { SameOut exit.old exit.new }
         ensures ended { OnOk result (has_ended exit.new ≡ true) }
         ensures delivered { OnOk result (Sublist (taken_of exit.new) (deliveries (view_of seat.new).seen)) }

@@ -1,9 +1,9 @@
 //! What a node's answers send, put into its links.
 ghost use Rattle.std.specs.Prelude.{◌≡◌, length, IfErr, IfOk, OnOk};
 ghost use Rattle.std.specs.List.{AllZip};
-ghost use Rattle.sup_node_gate.specs.Gates.{IsOf, view_of};
+ghost use Rattle.sup_node_gate.specs.Gates.{view_of};
 ghost use Rattle.sup_node_gate.specs.Views.{calls_of};
-ghost use Rattle.sup_keeper.specs.Keeping.{memory_seen};
+ghost use Rattle.sup_posts.specs.Jobs.{IsSeatOf};
 ghost use Rattle.sup_driving.specs.Called.{SeesMore};
 ghost use Rattle.sup_driving.specs.Wires.{HaveLetters, HaveShipped, IsLater, StopsPutting};
 
@@ -23,9 +23,9 @@ impl<'a, R: Wait, W: Weigh, N, C> Field<'a, R, W, N, C> {
         shipped: u64,
         wires: &mut [Wire],
     ) -> Result<u64, ThreadFault>
-        requires of { IsOf memory_seen post.now.gate seat.old }
+        requires of { IsSeatOf post.now seat.old }
         requires shipped { HaveShipped shipped (view_of seat.old).seen wires.old }
-        ensures of { IsOf memory_seen post.now.gate seat.new }
+        ensures of { IsSeatOf post.now seat.new }
         ensures seen { SeesMore (view_of seat.old) (view_of seat.new) }
         ensures own { calls_of (view_of seat.new) ≡ calls_of (view_of seat.old) }
         ensures shares { (view_of seat.new).shares ≡ (view_of seat.old).shares }

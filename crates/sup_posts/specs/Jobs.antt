@@ -26,9 +26,13 @@ abbrev pub Seat : (W : Type 0) → WeighGhosts W → Type 0
 Seat W h = Pass Kept W InMemory.ghosts h
 
 module _ {W : Type 0} {h : WeighGhosts W} where
+  -- the pass is of the post's gate
+  abbrev pub IsSeatOf : SharedNode W h → Seat W h → Type 0
+  IsSeatOf post seat = IsOf memory_seen post.gate seat
+
   -- the pass is of the gate of the node at this place
   abbrev pub IsSeatAt : List (SharedNode W h) → ℕ → Seat W h → Type 0
-  IsSeatAt posts at seat = (post : SharedNode W h) × (slice_get posts at ≡ Some post) × IsOf memory_seen post.gate seat
+  IsSeatAt posts at seat = (post : SharedNode W h) × (slice_get posts at ≡ Some post) × IsSeatOf post seat
 
   -- a link that nothing went through yet, and a pass of the gate of the node that it leads to
   pub record IsLane (posts : List (SharedNode W h)) (lane : Lane W h) : Type 0 where
@@ -54,7 +58,7 @@ module _ {W : Type 0} {h : WeighGhosts W} where
     pub to : arrived.to ≡ lane.to
     pub post : SharedNode W h
     pub stands : slice_get posts lane.to ≡ Some post
-    pub seat : IsOf memory_seen post.gate arrived.seat
+    pub seat : IsSeatOf post arrived.seat
     pub delivered : Sublist (image (script_of lane.entry) (letters_to post.name entries)) (deliveries (view_of arrived.seat).seen)
     pub made : MakesCalls (did post.name) (view_of lane.seat) (map delivery (image (script_of lane.entry) (letters_to post.name entries))) (view_of arrived.seat)
 

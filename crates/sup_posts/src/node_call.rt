@@ -1,8 +1,9 @@
 //! A call at a node's gate.
 ghost use Rattle.std.specs.Prelude.{◌≡◌, true, IfOk, IfErr, OnOk};
-ghost use Rattle.sup_node_gate.specs.Gates.{IsOf, view_of};
+ghost use Rattle.sup_node_gate.specs.Gates.{view_of};
 ghost use Rattle.sup_node_gate.specs.Histories.{may_enter};
 ghost use Rattle.sup_keeper.specs.Keeping.{memory_seen};
+ghost use Rattle.sup_posts.specs.Jobs.{IsSeatOf};
 ghost use Rattle.sup_posts.specs.NodeCalls.{MadeCall, IsFaultIn, NotEnteredAtGate};
 ghost use Rattle.sup_posts.specs.Rounds.{effects_of};
 
@@ -55,8 +56,8 @@ impl<W: Weigh> SharedNode<W> {
         now: u64,
         weigher: &W,
     ) -> Result<Requests, ThreadFault>
-        requires { IsOf memory_seen self.now.gate seat.old }
-        ensures of { IsOf memory_seen self.now.gate seat.new }
+        requires { IsSeatOf self.now seat.old }
+        ensures of { IsSeatOf self.now seat.new }
         ensures called { IfOk result (λ r. MadeCall (view_of seat.old) act now r.effects (view_of seat.new)) }
         ensures asks { IfOk result (λ r. r.node ≡ self.now.name) }
         ensures shares { (view_of seat.new).shares ≡ (view_of seat.old).shares }

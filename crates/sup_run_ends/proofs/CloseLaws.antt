@@ -8,13 +8,13 @@ use Rattle.std.proofs.lemmas.Bool.{not_from_false}
 use Rattle.sup_placement.specs.declared.weigh.Weigh.{Ghosts as WeighGhosts}
 use Rattle.sup_placement.proofs.FindLaws.{Contains-filter}
 use Rattle.sup_plan.specs.declared.histories.History.{History}
-use Rattle.sup_posts.specs.Jobs.{Seat}
+use Rattle.sup_posts.specs.Jobs.{Seat, IsSeatOf}
 use Rattle.sup_posts.specs.declared.shared_node.SharedNode.{SharedNode}
 use Rattle.sup_posts.specs.declared.jobs.Arrived.{Arrived}
 use Rattle.sup_posts.proofs.ItemLaws.{all_weaken}
 use Rattle.sup_posts.specs.Drives.{passes_to}
 use Rattle.sup_run_ends.specs.Passes.{of_arrived, IsMadeBy, AreMadeBy}
-use Rattle.sup_run_ends.specs.Steps.{IsSeatOf, IsArrived, BeginsWithSeen, EndsHistory}
+use Rattle.sup_run_ends.specs.Steps.{IsArrived, BeginsWithSeen, EndsHistory}
 use Rattle.sup_run_ends.proofs.RunEndItemLaws.{all_at, contained, stands_in, get_left, get_next, same_place, filter_contains}
 use Rattle.sup_run_ends.proofs.JoinedPassLaws.{made_more}
 use Rattle.sup_run_ends.proofs.ReturnedPassLaws.{is_same, same_is}

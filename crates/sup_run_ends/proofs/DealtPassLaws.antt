@@ -19,13 +19,12 @@ use Rattle.sup_node_gate.specs.Shares.{IsWhole, halved}
 use Rattle.sup_node_gate.proofs.ShareLaws.{whole_one_more}
 use Rattle.sup_plan.specs.declared.plan.Route.{Route}
 use Rattle.sup_specs.specs.Values.{Bytes}
-use Rattle.sup_posts.specs.Jobs.{Seat, IsSeatAt}
+use Rattle.sup_posts.specs.Jobs.{Seat, IsSeatAt, IsSeatOf}
 use Rattle.sup_posts.specs.declared.shared_node.SharedNode.{SharedNode}
 use Rattle.sup_posts.specs.declared.jobs.Drive.{Drive}
 use Rattle.sup_posts.specs.declared.jobs.Lane.{Lane}
 use Rattle.sup_posts.specs.Drives.{IsFresh, HasLaneTo, LeadsToItsNode, ends_of, others_of, places, of_lane, passes_to, shares_of, HaveWhole, dealt_in}
 use Rattle.sup_run_ends.specs.Passes.{IsFirst, IsCutOff, AreCutOff}
-use Rattle.sup_run_ends.specs.Steps.{IsSeatOf}
 use Rattle.sup_run_ends.proofs.PlacedPassLaws.{passes_append, passes_here, passes_apart}
 use Rattle.sup_run_ends.proofs.ReturnedPassLaws.{isnt_same}
 use Rattle.sup_run_ends.proofs.RunEndItemLaws.{all_at, contained, get_left, get_next, map_contains, stands_in}

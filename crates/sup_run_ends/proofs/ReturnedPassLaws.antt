@@ -10,12 +10,12 @@ use Rattle.sup_placement.proofs.FindLaws.{Contains-filter}
 use Rattle.sup_node_gate.specs.Gates.{view_of}
 use Rattle.sup_node_gate.proofs.HistoryListLaws.{prefix_trans}
 use Rattle.sup_plan.specs.declared.histories.History.{History}
-use Rattle.sup_posts.specs.Jobs.{Seat}
+use Rattle.sup_posts.specs.Jobs.{Seat, IsSeatOf}
 use Rattle.sup_posts.specs.declared.thread_fault.ThreadFault.{ThreadFault}
 use Rattle.sup_posts.specs.declared.shared_node.SharedNode.{SharedNode}
 use Rattle.sup_posts.specs.declared.jobs.Arrived.{Arrived}
 use Rattle.sup_posts.specs.declared.jobs.Driven.{Driven}
-use Rattle.sup_run_ends.specs.Steps.{IsSeatOf, IsArrived, BeginsWithSeen, HasSeen, AreTakenApart, ReturnsDriven}
+use Rattle.sup_run_ends.specs.Steps.{IsArrived, BeginsWithSeen, HasSeen, AreTakenApart, ReturnsDriven}
 use Rattle.sup_run_ends.proofs.ZipLaws.{zip_right, zip_map}
 use Rattle.sup_posts.proofs.ItemLaws.{all_snoc, all_weaken}
 use Rattle.sup_run_ends.proofs.RunEndItemLaws.{all_at, contained, stands_in, all_flat, filter_contains}

@@ -1,14 +1,13 @@
 -- What stands between the steps of a run.
-use Rattle.std.specs.Prelude.{◌≡◌, ◌≤◌, ◌⊎◌, ℕ, List, [], ◌∷◌, ◌++◌, length, All, map, flat_map, Some, Result, Ok, IsOk, IfOk, slice_get}
+use Rattle.std.specs.Prelude.{◌≡◌, ◌≤◌, ◌⊎◌, ℕ, true, List, [], ◌∷◌, ◌++◌, length, All, map, flat_map, Some, Result, Ok, IsOk, IfOk, slice_get}
 use Rattle.std.specs.List.{AllZip}
 use Rattle.sup_placement.specs.Place.{Weigher}
 use Rattle.sup_placement.specs.declared.weigh.Weigh.{Ghosts as WeighGhosts}
-use Rattle.sup_keeper.specs.Keeping.{memory_seen}
-use Rattle.sup_node_gate.specs.Gates.{IsOf, OpensSound, bound_of, view_of}
+use Rattle.sup_node_gate.specs.Gates.{bound_of, view_of}
 use Rattle.sup_node_gate.specs.Histories.{AllSaved, IsHistory, IsPrefix}
 use Rattle.sup_plan.specs.declared.histories.History.{History}
 use Rattle.sup_plan.specs.declared.plan.Plan.{Plan}
-use Rattle.sup_posts.specs.Jobs.{Seat, IsSeatAt, IsLane}
+use Rattle.sup_posts.specs.Jobs.{Seat, IsSeatAt, IsSeatOf, IsLane}
 use Rattle.sup_posts.specs.declared.shared_node.SharedNode.{SharedNode}
 use Rattle.sup_posts.specs.declared.jobs.Lane.{Lane}
 use Rattle.sup_posts.specs.Faults.{IsGravest}
@@ -28,10 +27,6 @@ abbrev pub IsFaultOf : {T : Type 0} → List (Result T ThreadFault) → ThreadFa
 IsFaultOf results fault = IsGravest results fault ⊎ (All IsOk results × (fault ≡ OutOfMemory))
 
 module _ {W : Type 0} {h : WeighGhosts W} where
-  -- the pass is of the post's gate
-  abbrev pub IsSeatOf : SharedNode W h → Seat W h → Type 0
-  IsSeatOf post seat = IsOf memory_seen post.gate seat
-
   -- the pass was cut once, unless it is of the gate of the driver's own node, and what was cut off comes to the row
   pub record IsCutFor (post : SharedNode W h) (at to : ℕ) (seat kept : Seat W h) (old new : List (ℕ × Seat W h)) : Type 0 where
     pub cut : List (ℕ × Seat W h)
@@ -61,7 +56,7 @@ module _ {W : Type 0} {h : WeighGhosts W} where
   pub record IsHistoryOf (g : Weigher) (post : SharedNode W h) (history : History) : Type 0 where
     pub named : history.node ≡ post.name
     pub replays : IsHistory g (opening_at post) history.entries.items
-    pub saves : OpensSound memory_seen post.gate → AllSaved history.entries.items
+    pub saves : (opening_at post).keeper.sound ≡ true → AllSaved history.entries.items
     pub within : length history.entries.items ≤ bound_of post.gate
 
   -- the second pass has seen what the first has

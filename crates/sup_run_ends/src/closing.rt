@@ -8,7 +8,8 @@ ghost use Rattle.sup_node_gate.specs.Shares.{IsWhole};
 ghost use Rattle.sup_node_gate.specs.Views.{calls_of};
 ghost use Rattle.sup_posts.specs.Drives.{passes_to};
 ghost use Rattle.sup_run_ends.specs.Passes.{IsMadeBy, AreMadeBy, of_arrived};
-ghost use Rattle.sup_run_ends.specs.Steps.{IsSeatOf, IsArrived, IsHistoryOf, BeginsWithSeen, EndsHistory, ReturnsDriven, AreFinished, IsFaultOf};
+ghost use Rattle.sup_posts.specs.Jobs.{IsSeatOf};
+ghost use Rattle.sup_run_ends.specs.Steps.{IsArrived, IsHistoryOf, BeginsWithSeen, EndsHistory, ReturnsDriven, AreFinished, IsFaultOf};
 
 use crate::joining::{join_all, separate, take_apart};
 use std::alloc::Global;

@@ -1,10 +1,10 @@
 //! Passes for the threads of a run.
 ghost use Rattle.std.specs.Prelude.{◌≡◌, IfOk, All, map, length};
 ghost use Rattle.std.specs.List.{AllZip};
-ghost use Rattle.sup_posts.specs.Jobs.{IsSeatAt};
+ghost use Rattle.sup_posts.specs.Jobs.{IsSeatAt, IsSeatOf};
 ghost use Rattle.sup_posts.specs.Drives.{IsFresh, others_of, places};
 ghost use Rattle.sup_run_ends.specs.Passes.{AreCutOff};
-ghost use Rattle.sup_run_ends.specs.Steps.{IsSeatOf, IsCutFor};
+ghost use Rattle.sup_run_ends.specs.Steps.{IsCutFor};
 
 use std::alloc::{AllocError, Global};
 use sup_placement::Weigh;

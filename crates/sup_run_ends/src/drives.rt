@@ -1,12 +1,12 @@
 //! What the drivers of a run are given.
 ghost use Rattle.std.specs.Prelude.{◌≡◌, length, All, Some, map, slice_get, IfOk};
 ghost use Rattle.std.specs.List.{AllZip};
-ghost use Rattle.sup_posts.specs.Jobs.{IsSeatAt, IsLane};
+ghost use Rattle.sup_posts.specs.Jobs.{IsSeatAt, IsLane, IsSeatOf};
 ghost use Rattle.sup_posts.specs.declared.shared_node.SharedNode.{SharedNode};
 ghost use Rattle.sup_plan.specs.Plans.{IsPlan};
 ghost use Rattle.sup_posts.specs.Drives.{IsFresh, IsLaneTo, IsDriveOf, LeadsToItsNode, places, HaveWhole, dealt_by, dealt_in, of_lane};
 ghost use Rattle.sup_run_ends.specs.Passes.{IsFirst};
-ghost use Rattle.sup_run_ends.specs.Steps.{IsSeatOf, IsRowOf};
+ghost use Rattle.sup_run_ends.specs.Steps.{IsRowOf};
 
 use crate::dealing::{Dealt, cut_row};
 use std::alloc::{AllocError, Global};

@@ -6,7 +6,8 @@ ghost use Rattle.sup_node_gate.specs.Shuffles.{IsShuffleOf};
 ghost use Rattle.sup_node_gate.specs.Views.{calls_of};
 ghost use Rattle.sup_posts.specs.Drives.{shares_of};
 ghost use Rattle.sup_run_ends.specs.Passes.{calls_by};
-ghost use Rattle.sup_run_ends.specs.Steps.{IsSeatOf, HasSeen, AreTakenApart, IsFaultOf};
+ghost use Rattle.sup_posts.specs.Jobs.{IsSeatOf};
+ghost use Rattle.sup_run_ends.specs.Steps.{HasSeen, AreTakenApart, IsFaultOf};
 
 use std::alloc::{AllocError, Global};
 use sup_placement::Weigh;

@@ -4,7 +4,7 @@ ghost use Rattle.std.specs.List.{AllZip};
 ghost use Rattle.sup_node_gate.specs.Gates.{IsBound};
 ghost use Rattle.sup_run_ends.specs.Passes.{IsFirst};
 ghost use Rattle.sup_posts.specs.Drives.{IsSharedNodeOf};
-ghost use Rattle.sup_run_ends.specs.Steps.{IsSeatOf};
+ghost use Rattle.sup_posts.specs.Jobs.{IsSeatOf};
 ghost use Rattle.sup_posts.specs.declared.fault.RunFault.TheVariants.{OutOfMemory};
 
 use std::alloc::Global;

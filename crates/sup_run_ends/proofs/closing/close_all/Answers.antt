@@ -2,12 +2,12 @@ use Rattle.std.proofs.Common.{arith, ◌≡◌, ◌≤◌, ◌+◌, ℕ, ◌++�
 use Rattle.std.specs.Prelude.{◌⊎◌, Contains}
 use Rattle.std.specs.List.{AllZip}
 use Rattle.std.proofs.lemmas.Slice.Zip.{all_zipped_more}
-use Rattle.sup_posts.specs.Jobs.{Seat}
+use Rattle.sup_posts.specs.Jobs.{Seat, IsSeatOf}
 use Rattle.sup_posts.specs.declared.jobs.Arrived.{Arrived}
 use Rattle.std.proofs.lemmas.Option.{none-some}
 use Rattle.sup_posts.specs.Drives.{passes_to}
 use Rattle.sup_run_ends.specs.Passes.{of_arrived, IsMadeBy, AreMadeBy}
-use Rattle.sup_run_ends.specs.Steps.{IsSeatOf, IsArrived, IsHistoryOf, BeginsWithSeen, EndsHistory}
+use Rattle.sup_run_ends.specs.Steps.{IsArrived, IsHistoryOf, BeginsWithSeen, EndsHistory}
 use Rattle.sup_run_ends.proofs.ZipLaws.{zip_same_length}
 use Rattle.sup_posts.proofs.ItemLaws.{none_left}
 use Rattle.sup_posts.proofs.ItemLaws.{all_weaken}

@@ -1,10 +1,10 @@
 use Rattle.std.proofs.Common.{◌≡◌, ◌≤◌, ℕ, ◌++◌, List, length, map, All}
 use Rattle.std.specs.Prelude.{◌⊎◌, Contains}
 use Rattle.std.specs.List.{AllZip}
-use Rattle.sup_posts.specs.Jobs.{Seat}
+use Rattle.sup_posts.specs.Jobs.{Seat, IsSeatOf}
 use Rattle.sup_posts.specs.Drives.{passes_to}
 use Rattle.sup_run_ends.specs.Passes.{of_arrived, AreMadeBy}
-use Rattle.sup_run_ends.specs.Steps.{IsSeatOf, IsArrived, IsHistoryOf, BeginsWithSeen, EndsHistory}
+use Rattle.sup_run_ends.specs.Steps.{IsArrived, IsHistoryOf, BeginsWithSeen, EndsHistory}
 use Rattle.sup_run_ends.proofs.closing.close_all.Given as goal
 
 abbrev pub invariant-loop-post : goal.invariant-loop-post

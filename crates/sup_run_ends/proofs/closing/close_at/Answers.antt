@@ -6,10 +6,10 @@ use Rattle.sup_node_gate.specs.Shuffles.{IsShuffleOf}
 use Rattle.sup_node_gate.specs.Views.{calls_of}
 use Rattle.sup_node_gate.proofs.HistoryListLaws.{prefix_trans}
 use Rattle.sup_posts.specs.declared.jobs.Arrived.{Arrived}
-use Rattle.sup_posts.specs.Jobs.{Seat}
+use Rattle.sup_posts.specs.Jobs.{Seat, IsSeatOf}
 use Rattle.sup_posts.specs.Drives.{shares_of}
 use Rattle.sup_run_ends.specs.Passes.{calls_by}
-use Rattle.sup_run_ends.specs.Steps.{IsSeatOf, BeginsWithSeen}
+use Rattle.sup_run_ends.specs.Steps.{BeginsWithSeen}
 use Rattle.sup_run_ends.proofs.PlacedPassLaws.{passes_arrived}
 use Rattle.sup_run_ends.proofs.ReturnedPassLaws.{here_all, here_back, begins_all}
 use Rattle.sup_run_ends.proofs.closing.close_at.Goals as goal

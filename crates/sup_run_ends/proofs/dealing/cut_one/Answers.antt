@@ -1,8 +1,7 @@
 use Rattle.std.proofs.Common.{◌≡◌, ℕ, ◌++◌, [], ◌∷◌, ap, sym, ◌∙◌, append-nil, refl}
 use Rattle.std.specs.Prelude.{not, cond}
 use Rattle.sup_posts.proofs.ItemLaws.{all_none, all_snoc}
-use Rattle.sup_posts.specs.Jobs.{Seat}
-use Rattle.sup_run_ends.specs.Steps.{IsSeatOf}
+use Rattle.sup_posts.specs.Jobs.{Seat, IsSeatOf}
 use Rattle.sup_posts.specs.Drives.{IsFresh}
 use Rattle.sup_run_ends.proofs.ReturnedPassLaws.{is_same, isnt_same}
 use Rattle.sup_run_ends.proofs.dealing.cut_one.Goals as goal

@@ -4,12 +4,11 @@ use Rattle.std.specs.List.{AllZip}
 use Rattle.std.proofs.lemmas.List.{map-append}
 use Rattle.std.proofs.lemmas.List.Elements.{All-append}
 use Rattle.std.proofs.lemmas.Option.{get_or_from_slice_get, none-some}
-use Rattle.sup_posts.specs.Jobs.{Seat, IsSeatAt}
+use Rattle.sup_posts.specs.Jobs.{Seat, IsSeatAt, IsSeatOf}
 use Rattle.sup_posts.specs.declared.shared_node.SharedNode.{SharedNode}
 use Rattle.sup_posts.proofs.ItemLaws.{all_none, all_weaken, none_left}
 use Rattle.sup_posts.specs.Drives.{IsFresh, others_of, places}
 use Rattle.sup_run_ends.specs.Passes.{AreCutOff}
-use Rattle.sup_run_ends.specs.Steps.{IsSeatOf}
 use Rattle.sup_run_ends.proofs.DealtPassLaws.{seat_at, some_left, others_more, cut_more}
 use Rattle.sup_run_ends.proofs.RunEndItemLaws.{take_all}
 use Rattle.sup_run_ends.proofs.ZipLaws.{zip_next, zip_taken, zip_same_length}

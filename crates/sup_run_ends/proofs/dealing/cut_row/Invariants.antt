@@ -1,9 +1,8 @@
 use Rattle.std.proofs.Common.{◌≡◌, ℕ, ◌<◌, ◌++◌, List, length, map, take, drop, All}
 use Rattle.std.specs.List.{AllZip}
-use Rattle.sup_posts.specs.Jobs.{Seat, IsSeatAt}
+use Rattle.sup_posts.specs.Jobs.{Seat, IsSeatAt, IsSeatOf}
 use Rattle.sup_posts.specs.Drives.{IsFresh, others_of, places}
 use Rattle.sup_run_ends.specs.Passes.{AreCutOff}
-use Rattle.sup_run_ends.specs.Steps.{IsSeatOf}
 use Rattle.sup_run_ends.proofs.dealing.cut_row.Given as goal
 
 abbrev pub invariant-loop-to : goal.invariant-loop-to

@@ -1,7 +1,8 @@
 use Rattle.std.proofs.Common.{◌≡◌, All}
 use Rattle.std.specs.List.{AllZip}
 use Rattle.sup_posts.specs.Drives.{IsFresh, places, HaveWhole, dealt_in}
-use Rattle.sup_run_ends.specs.Steps.{IsSeatOf, IsRowOf}
+use Rattle.sup_posts.specs.Jobs.{IsSeatOf}
+use Rattle.sup_run_ends.specs.Steps.{IsRowOf}
 use Rattle.sup_run_ends.proofs.drives.deal.Given as goal
 
 abbrev pub invariant-loop-at : goal.invariant-loop-at

@@ -5,12 +5,12 @@ use Rattle.std.specs.declared.alloc.Global.{Global}
 use Rattle.std.specs.declared.vec.Vec.{Vec}
 use Rattle.std.proofs.lemmas.List.{map-append, length-map}
 use Rattle.std.proofs.lemmas.Option.{get_or_from_slice_get}
-use Rattle.sup_posts.specs.Jobs.{Seat}
+use Rattle.sup_posts.specs.Jobs.{Seat, IsSeatOf}
 use Rattle.sup_posts.specs.declared.jobs.Drive.{Drive}
 use Rattle.sup_posts.specs.declared.jobs.Lane.{Lane}
 use Rattle.sup_posts.proofs.ItemLaws.{none_left}
 use Rattle.sup_posts.specs.Drives.{IsFresh, IsDriveOf, places, HaveWhole, dealt_in}
-use Rattle.sup_run_ends.specs.Steps.{IsSeatOf, IsRowOf}
+use Rattle.sup_run_ends.specs.Steps.{IsRowOf}
 use Rattle.sup_run_ends.proofs.DealtPassLaws.{places_at, places_long, drives_long}
 use Rattle.sup_run_ends.proofs.RunEndItemLaws.{contained, stands_in, same_place, next_of, long_both, taken_more, take_all}
 use Rattle.sup_run_ends.proofs.ZipLaws.{zip_right, zip_taken, zip_same_length}

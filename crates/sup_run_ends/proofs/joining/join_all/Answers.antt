@@ -7,7 +7,8 @@ use Rattle.sup_node_gate.specs.Views.{calls_of}
 use Rattle.sup_posts.specs.declared.jobs.Arrived.{Arrived}
 use Rattle.sup_posts.specs.Drives.{shares_of}
 use Rattle.sup_run_ends.specs.Passes.{calls_by}
-use Rattle.sup_run_ends.specs.Steps.{IsSeatOf, HasSeen}
+use Rattle.sup_posts.specs.Jobs.{IsSeatOf}
+use Rattle.sup_run_ends.specs.Steps.{HasSeen}
 use Rattle.sup_posts.proofs.ItemLaws.{none_left}
 use Rattle.sup_run_ends.proofs.JoinedPassLaws.{shares_more, calls_more}
 use Rattle.sup_run_ends.proofs.ReturnedPassLaws.{seen_more}

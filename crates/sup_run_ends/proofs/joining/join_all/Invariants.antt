@@ -4,7 +4,8 @@ use Rattle.sup_node_gate.specs.Shuffles.{IsShuffleOf}
 use Rattle.sup_node_gate.specs.Views.{calls_of}
 use Rattle.sup_posts.specs.Drives.{shares_of}
 use Rattle.sup_run_ends.specs.Passes.{calls_by}
-use Rattle.sup_run_ends.specs.Steps.{IsSeatOf, HasSeen}
+use Rattle.sup_posts.specs.Jobs.{IsSeatOf}
+use Rattle.sup_run_ends.specs.Steps.{HasSeen}
 use Rattle.sup_run_ends.proofs.joining.join_all.Given as goal
 
 abbrev pub invariant-loop-pass : goal.invariant-loop-pass

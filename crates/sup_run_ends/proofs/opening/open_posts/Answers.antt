@@ -4,7 +4,7 @@ use Rattle.std.proofs.lemmas.Slice.Zip.{all_zipped_more}
 use Rattle.sup_posts.proofs.ItemLaws.{all_snoc}
 use Rattle.sup_run_ends.specs.Passes.{IsFirst}
 use Rattle.sup_posts.specs.Drives.{IsSharedNodeOf}
-use Rattle.sup_run_ends.specs.Steps.{IsSeatOf}
+use Rattle.sup_posts.specs.Jobs.{IsSeatOf}
 use Rattle.sup_run_ends.proofs.ZipLaws.{zip_taken}
 use Rattle.sup_run_ends.proofs.opening.open_posts.Goals as goal
 

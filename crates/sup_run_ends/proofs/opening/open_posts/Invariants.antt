@@ -2,7 +2,7 @@ use Rattle.std.proofs.Common.{take, All}
 use Rattle.std.specs.List.{AllZip}
 use Rattle.sup_run_ends.specs.Passes.{IsFirst}
 use Rattle.sup_posts.specs.Drives.{IsSharedNodeOf}
-use Rattle.sup_run_ends.specs.Steps.{IsSeatOf}
+use Rattle.sup_posts.specs.Jobs.{IsSeatOf}
 use Rattle.sup_run_ends.proofs.opening.open_posts.Given as goal
 
 abbrev pub invariant-loop-name : goal.invariant-loop-name

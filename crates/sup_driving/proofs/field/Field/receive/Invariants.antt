@@ -1,6 +1,6 @@
 use Rattle.std.proofs.Common.{map}
-use Rattle.sup_keeper.specs.Keeping.{memory_seen}
-use Rattle.sup_node_gate.specs.Gates.{IsOf, view_of}
+use Rattle.sup_posts.specs.Jobs.{IsSeatOf}
+use Rattle.sup_node_gate.specs.Gates.{view_of}
 use Rattle.sup_links.specs.Ends.{SameOut, taken_of}
 use Rattle.sup_plan.specs.Calls.{deliveries}
 use Rattle.sup_plan.specs.Sublists.{Sublist}
@@ -10,7 +10,7 @@ use Rattle.sup_driving.proofs.field.Field.receive.Given as goal
 abbrev pub invariant-loop : goal.invariant-loop
 invariant-loop g l =
     (goal.iterator-loop g).can_next l.iterator' × (goal.iterator-loop g).is_finite l.iterator'
-    × IsOf memory_seen l.post.gate l.seat
+    × IsSeatOf l.post l.seat
     × SameOut l.fn.exit l.exit
     × Sublist (taken_of l.exit) (deliveries (view_of l.seat).seen)
     × MakesCalls (g.N.Runner.did l.self.runner.now l.post.name) (view_of l.fn.seat) (map delivery (taken_of l.exit)) (view_of l.seat)

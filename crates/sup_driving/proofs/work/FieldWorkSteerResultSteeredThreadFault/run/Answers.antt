@@ -1,7 +1,7 @@
 use Rattle.std.proofs.Common.{◌++◌, length, take, drop, subst, ap, sym, ◌∙◌}
 use Rattle.std.proofs.lemmas.Option.{get_or_from_slice_get}
-use Rattle.sup_keeper.specs.Keeping.{memory_seen}
-use Rattle.sup_node_gate.specs.Gates.{IsOf, view_of}
+use Rattle.sup_posts.specs.Jobs.{IsSeatOf}
+use Rattle.sup_node_gate.specs.Gates.{view_of}
 use Rattle.sup_posts.specs.Rounds.{MakesCommands}
 use Rattle.sup_posts.specs.declared.shared_node.SharedNode.{SharedNode}
 use Rattle.std.specs.List.{AllZip, AllByRecursion}
@@ -13,7 +13,7 @@ use Rattle.sup_driving.proofs.work.FieldWorkSteerResultSteeredThreadFault.run.Go
 pub returns-in_ok-sent-in-Ok : goal.returns-in_ok-sent-in-Ok
 returns-in_ok-sent-in-Ok g c =
     let here = get_or_from_slice_get c.args.self.now.posts.now c.args.steer.at c.requires.seat.0 c.index-self-at.result c.requires.seat.1 in record {
-      seat = (c.requires.seat.0, c.requires.seat.1, subst (λ (p : SharedNode g.row.W.Denot g.W.Weigh). IsOf memory_seen p.gate c.drive.new.seat) here c.drive.ensures.of);
+      seat = (c.requires.seat.0, c.requires.seat.1, subst (λ (p : SharedNode g.row.W.Denot g.W.Weigh). IsSeatOf p c.drive.new.seat) here c.drive.ensures.of);
       sent =
           let later = subst (λ l. AllZip IsLater l c.drive.new.wires) c.deref_mut.ensures.value c.in-Ok.ensures.later in
           sent_all (view_of c.drive.new.seat).seen c.args.steer.wires.items c.drive.new.wires c.in_ok-sent-in-Ok.sent.items later
