@@ -32,7 +32,7 @@ pub record DrawsScript (weigher : Weigher) (config : Config) (names : List Bytes
   pub sites : List SeenNode
   pub opens : ShowsNew weigher config names sites
   pub stands : StandsForNew weigher config names sites
-  pub unfailed : All (λ s. s.failures ≡ 0) sites
+  pub unfailed : All (λ s. s.kept_station.keeper.failures ≡ 0) sites
   pub after : List SeenNode
   pub noted : Noted
   pub goes : LinesGo weigher captions sites nothing_noted lines after noted

@@ -13,7 +13,7 @@ use Rattle.sup_model.specs.declared.step.Step.{Step}
 use Rattle.sup_model.specs.declared.step.Step.TheVariants.{Node as AtNode, Deliver as Delivery, Raw}
 use Rattle.sup_model.specs.Posts.{RealWorld, reads}
 use Rattle.sup_model.specs.Worlds.{ModelWorld}
-use Rattle.sup_station.specs.KeptStations.{KeptStation}
+use Rattle.sup_station.specs.KeptStations.{StationSeen}
 use Rattle.sup_world.specs.declared.answer.Answer.{Answer}
 use Rattle.sup_world.specs.declared.settled.Settled.{Settled}
 use Rattle.sup_world.specs.CarriedSteps.{carried, letter_of, KnowsBytes}
@@ -90,9 +90,9 @@ looks view (Ok x) weigher peers model sites line Told h does told = (record { sa
 looks view (Err error) weigher peers model sites line Told h does told = inr refl
 
 -- the image of a node that is there
-pub image_there : (still : KeptStation) (seen : Option SeenNode) → Some still ≡ option_map (λ s. s.kept_station) seen → image_text seen ≡ still.kept ++ codes "\n"
+pub image_there : (still : StationSeen) (seen : Option SeenNode) → Some still ≡ option_map (λ s. s.kept_station) seen → image_text seen ≡ image_kept still ++ codes "\n"
 image_there still None e = cc
-image_there still (Some seen) e = ap (λ (o : KeptStation). o.kept ++ codes "\n") (some_is e)
+image_there still (Some seen) e = ap (λ (o : StationSeen). image_kept o ++ codes "\n") (some_is e)
   where
     some_is : Some still ≡ Some seen.kept_station → seen.kept_station ≡ still
     some_is p = cc
@@ -109,7 +109,7 @@ message_there bytes (Some seen) k e = of_letter (letter_of seen k) e
         some_is : Some bytes ≡ Some letter.bytes → letter.bytes ≡ bytes
         some_is q = cc
 
-pub message_unsent : (still : KeptStation) (seen : Option SeenNode) (k : ℕ) → Some still ≡ option_map (λ (s : SeenNode). s.kept_station) seen → None ≡ option_map (λ (l : Letter). l.bytes) (option_and_then (λ s. letter_of s k) seen) → message_text seen k ≡ refusal_text NoSuchMessage
+pub message_unsent : (still : StationSeen) (seen : Option SeenNode) (k : ℕ) → Some still ≡ option_map (λ (s : SeenNode). s.kept_station) seen → None ≡ option_map (λ (l : Letter). l.bytes) (option_and_then (λ s. letter_of s k) seen) → message_text seen k ≡ refusal_text NoSuchMessage
 message_unsent still None k there e = cc
 message_unsent still (Some seen) k there e = of_letter (letter_of seen k) e
   where

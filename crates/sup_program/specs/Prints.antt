@@ -16,7 +16,7 @@ use Rattle.sup_model.specs.Posts.{RealWorld, reads}
 use Rattle.sup_world.specs.declared.answer.Answer.{Answer}
 use Rattle.sup_world.specs.CarriedSteps.{seen_at, letter_of}
 use Rattle.sup_world.specs.FollowedSteps.{IsAsOf, StandsFor, MakesRealStep}
-use Rattle.sup_world.specs.SeenNodes.{SeenNode}
+use Rattle.sup_world.specs.SeenNodes.{SeenNode, image_kept}
 use Rattle.sup_world.specs.ToldAnswers.{ShowsReal}
 use Rattle.sup_world.specs.declared.settled.Settled.{Settled}
 use Rattle.sup_world.specs.Settlements.{SettlesBy}
@@ -87,7 +87,7 @@ TellsNode weigher peers name (Some seen) said = IsInspected weigher name seen.ke
 -- the image that a node's keeper keeps, and a line feed
 abbrev pub image_text : Option SeenNode → List ℕ
 image_text None = refusal_text UnknownNode
-image_text (Some seen) = seen.kept_station.kept ++ codes "\n"
+image_text (Some seen) = image_kept seen.kept_station ++ codes "\n"
 
 -- a letter that was sent, and a line feed
 abbrev pub letter_text : Option Letter → List ℕ

@@ -34,7 +34,7 @@ pub fn play<G: Weigh, W: Write>(
     lines: &[Line],
     writer: &mut W,
 ) -> Result<(), Fault>
-    requires unfailed { All (λ s. s.failures ≡ 0) (sites_of world.old) }
+    requires unfailed { All (λ s. s.kept_station.keeper.failures ≡ 0) (sites_of world.old) }
     requires bytes { All BringsNoBytes lines.now }
     ensures all { (model : Model) → StandsFor G.weight_of (sites_of world.old) model → TellsMessages model.is_message
         → OnOk result (PrintsAllFrom G.weight_of peers.now (record { model = model; sites = sites_of world.old }) lines.now (W.contents writer.old) (W.contents writer.new)) }

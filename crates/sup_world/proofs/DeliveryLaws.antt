@@ -111,9 +111,9 @@ module _ (g : Weigher) (real : RealWorld State) (sites : List SeenNode) (h : Sho
       → MakesRealStep g real (carried sites (Delivery from k at drop now saves)) result (slice_set sites j new)
   deliver_steps saves i s is lt elem name act c j old new is' lt' elem' same result answers =
       let p = here g real sites h from i s is lt elem in
-      let fails : failures_at sites (receiver sites from k at) ≡ old.failures = ap (failures_at sites) (receiver_is sites from k at drop s name act c i is lt elem) ∙ failures_here g real sites h name j old is' lt' elem' in
+      let fails : failures_at sites (receiver sites from k at) ≡ old.kept_station.keeper.failures = ap (failures_at sites) (receiver_is sites from k at drop s name act c i is lt elem) ∙ failures_here g real sites h name j old is' lt' elem' in
       subst (λ n. MakesRealStep g real (Delivery from k at drop now (holds saves n)) result (slice_set sites j new)) (sym fails)
-      (delivered s p name act c (holds saves old.failures) j old new is' lt' elem' same result answers)
+      (delivered s p name act c (holds saves old.kept_station.keeper.failures) j old new is' lt' elem' same result answers)
 
 -- a delivery that isn't made, from the list of nodes that the code has: its letter doesn't come, or there is no such receiver
 module _ {A : Type 0} (f : A → SeenNode) (xs : List A) (from : Bytes) {g : Weigher} {real : RealWorld State} (h : ShowsReal g (map f xs) real) (i : ℕ) (s : A) (at_place : i ≡ place (map f xs) from) (lt : i < length xs) (is : s ≡ slice_index_or xs i s) where

@@ -9,6 +9,8 @@ use Rattle.sup_placement.specs.Place.{Weigher}
 use Rattle.sup_replica.specs.Configs.{Config}
 use Rattle.sup_replica.specs.ByTables.{by_tables}
 use Rattle.sup_replica.specs.Stations.{Station, MailCodec, Mail, an_ack}
+use Rattle.sup_keeper.specs.Keepers.{KeeperSeen}
+use Rattle.sup_node.specs.Changes.{image_of}
 use Rattle.sup_node.specs.NodeSteps.{fresh_station}
 use Rattle.sup_node.specs.Texts.{IsLetter}
 use Rattle.sup_model.specs.Posts.{StationPost, reads, real_new}
@@ -18,8 +20,9 @@ use Rattle.sup_model.proofs.FollowLaws.{new_stands}
 use Rattle.sup_world.specs.StandingStations.{IsNodeOf, IsSetAs}
 use Rattle.sup_world.specs.SeenNodes.{SeenNode}
 use Rattle.sup_world.specs.ToldAnswers.{SiteStands, ShowsReal}
-use Rattle.sup_world.specs.Newness.{IsNew, setting_in}
+use Rattle.sup_world.specs.Newness.{IsNew, new_keeper, setting_in}
 use Rattle.sup_world.specs.FollowedSteps.{StandsFor}
+use Rattle.sup_world.proofs.StandingStationLaws.{text_kept}
 
 -- some mail
 a_mail : Mail State
@@ -35,7 +38,7 @@ module _ (config : Config) where
     station = record {
       name = h.opens.named;
       set = subst (λ (c : Config). IsSetAs c (fresh_station name config)) (sym h.opens.set) (record { intensity = refl; period = refl; room = refl });
-      image = h.opens.keeps;
+      image = text_kept (image_of (fresh_station name config).node) new_keeper s.kept_station.keeper h.opens.keeps;
       fits = refl;
       node = subst (λ (o : Option (Station State)). IsNodeOf (fresh_station name config) o) (sym h.opens.runs) (refl, refl);
     };
@@ -57,14 +60,14 @@ module _ (config : Config) where
   nothing : (k : ℕ) → k < 0 → ⊥
   nothing k lt = omega (arith, lt)
 
-  unfailed : (names : List Bytes) (sites : List SeenNode) → AllZip (λ name s. IsNew name config s) names sites → (k : ℕ) (d : SeenNode) → k < length sites → (slice_index_or sites k d).failures ≡ 0
+  unfailed : (names : List Bytes) (sites : List SeenNode) → AllZip (λ name s. IsNew name config s) names sites → (k : ℕ) (d : SeenNode) → k < length sites → (slice_index_or sites k d).kept_station.keeper.failures ≡ 0
   unfailed [] [] h k d lt = absurd (nothing k lt)
   unfailed [] (s ∷ ss) h k d lt = absurd h
   unfailed (n ∷ ns) [] h k d lt = absurd h
-  unfailed (n ∷ ns) (s ∷ ss) h zero d lt = h.0.unfailed
+  unfailed (n ∷ ns) (s ∷ ss) h zero d lt = ap (λ (k : KeeperSeen). k.failures) h.0.opens.keeps.2.1
   unfailed (n ∷ ns) (s ∷ ss) h (suc k) d lt = unfailed ns ss h.1 k d (omega (arith, lt))
 
-  pub unfailed_new : (names : List Bytes) (sites : List SeenNode) → AllZip (λ name s. IsNew name config s) names sites → All (λ (s : SeenNode). s.failures ≡ 0) sites
+  pub unfailed_new : (names : List Bytes) (sites : List SeenNode) → AllZip (λ name s. IsNew name config s) names sites → All (λ (s : SeenNode). s.kept_station.keeper.failures ≡ 0) sites
   unfailed_new names sites h = unfailed names sites h
 
   pub shows_new : (g : Weigher) (codec : MailCodec State) (names : List Bytes) (sites : List SeenNode) → NamesAllDiffer names → AllZip (λ name s. IsNew name config s) names sites

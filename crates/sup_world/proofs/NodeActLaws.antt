@@ -83,9 +83,9 @@ module _ (g : Weigher) (real : RealWorld State) (sites : List SeenNode) (h : Sho
       (steps g real sites h name p.post p.found p.named within new (p.named ∙ sym p.stands.name ∙ sym same) step act x e want result a)
 
   -- how often the keeper of the node in this place has failed
-  pub failures_here : (name : Bytes) (i : ℕ) (old : SeenNode) → i ≡ place sites name → i < length sites → old ≡ slice_index_or sites i old → failures_at sites name ≡ old.failures
+  pub failures_here : (name : Bytes) (i : ℕ) (old : SeenNode) → i ≡ place sites name → i < length sites → old ≡ slice_index_or sites i old → failures_at sites name ≡ old.kept_station.keeper.failures
   failures_here name i old is lt at =
-      failures_place sites name old (subst (λ j. j < length sites) is lt) ∙ ap (λ j. (slice_index_or sites j old).failures) (sym is) ∙ ap (λ (s : SeenNode). s.failures) (sym at)
+      failures_place sites name old (subst (λ j. j < length sites) is lt) ∙ ap (λ j. (slice_index_or sites j old).kept_station.keeper.failures) (sym is) ∙ ap (λ (s : SeenNode). s.kept_station.keeper.failures) (sym at)
 
   -- an act at a node
   pub act_steps : (at : Bytes) (act : Act) (now : ℕ) (saves : Bool) (i : ℕ) (old new : SeenNode) → i ≡ place sites at → i < length sites → old ≡ slice_index_or sites i old → new.name ≡ old.name
@@ -94,7 +94,7 @@ module _ (g : Weigher) (real : RealWorld State) (sites : List SeenNode) (h : Sho
       → MakesRealStep g real (carried sites (AtNode at act now saves)) result (slice_set sites i new)
   act_steps at act now saves i old new is lt elem same plain target result answers =
       let p = here at i old is lt elem in
-      let b = holds saves old.failures in
+      let b = holds saves old.kept_station.keeper.failures in
       let x : Result (StationMove State) Refusal = station_step by_tables (reads_as None) g p.post.station act now b in
       let e : real_step by_tables real (AtNode at act now b) ≡ next g real p.post x =
       acts g real at act now b p.post p.found target plain ∙ ap (λ w. next g real p.post (station_step by_tables (reads_as None) w p.post.station act now b)) h.weigher_is in

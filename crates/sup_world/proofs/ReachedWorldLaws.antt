@@ -89,7 +89,7 @@ module _ (g : Weigher) (config : Config) (names : List Bytes) (is_message : Byte
     failed = failed;
   }
 
-  pub reached_new : (sites : List SeenNode) → StandsFor g sites start → All (λ s. s.failures ≡ 0) sites → ReachedByRun g config names is_message [] [] sites
+  pub reached_new : (sites : List SeenNode) → StandsFor g sites start → All (λ s. s.kept_station.keeper.failures ≡ 0) sites → ReachedByRun g config names is_message [] [] sites
   reached_new sites h f = reached [] [] sites [] start refl tt h (unfailed sites f)
 
   -- one step more

@@ -45,8 +45,8 @@ seen_place (s ∷ ss) name d lt =
       | false ↦ λ f. seen_place ss name d (omega (arith, f)) ∙ ap (λ n. Some (slice_index_or (s ∷ ss) n d)) (sym (one_more (place ss name)))
     ] lt
 
-pub failures_place : (sites : List SeenNode) (name : Bytes) (d : SeenNode) → place sites name < length sites → failures_at sites name ≡ (slice_index_or sites (place sites name) d).failures
-failures_place sites name d lt = ap (λ (o : Option SeenNode). unwrap_or (option_map (λ (s : SeenNode). s.failures) o) 0) (seen_place sites name d lt)
+pub failures_place : (sites : List SeenNode) (name : Bytes) (d : SeenNode) → place sites name < length sites → failures_at sites name ≡ (slice_index_or sites (place sites name) d).kept_station.keeper.failures
+failures_place sites name d lt = ap (λ (o : Option SeenNode). unwrap_or (option_map (λ (s : SeenNode). s.kept_station.keeper.failures) o) 0) (seen_place sites name d lt)
 
 zip_more : {A B : Type 0} (R : A → B → Type 0) (xs : List A) (ys : List B) (x : A) (y : B) → AllZip R xs ys → R x y → AllZip R (xs ++ x ∷ []) (ys ++ y ∷ [])
 zip_more R [] [] x y h r = (r, tt)
@@ -78,7 +78,7 @@ module _ (R : SeenNode → SeenNode → Type 0) (itself : (s : SeenNode) → R s
   one_changes (s ∷ ss) (suc i) d new lt h = (itself s, one_changes ss i d new (omega (arith, lt)) h)
 
 pub as_before : (s : SeenNode) → IsAsBefore s s
-as_before s = record { kept_station = refl; letters = refl }
+as_before s = record { kept_station = refl; found = refl; letters = refl }
 
 pub once_at_most : (s : SeenNode) → FailedOnceAtMost s s
 once_at_most s = (omega arith, omega arith)
@@ -88,7 +88,7 @@ no_more s = refl
 
 -- who didn't fail has nothing to be told
 pub untold : {A : Type 0} (answer : Result A Refusal) (s : SeenNode) → IsTold answer s s
-untold answer s lt = absurd (above_itself s.failures lt)
+untold answer s lt = absurd (above_itself s.kept_station.keeper.failures lt)
   where
     above_itself : (n : ℕ) → n < n → ⊥
     above_itself n l = omega (arith, l)
@@ -150,14 +150,14 @@ own_put (s ∷ ss) at new lt d same =
     ] refl lt same
 
 -- where its keeper failed, it did at the name that leads to it
-pub failed_at : (sites : List SeenNode) (at : Bytes) (i : ℕ) (old new : SeenNode) → i ≡ place sites at → i < length sites → old ≡ slice_index_or sites i old → new.name ≡ old.name → old.failures < new.failures
+pub failed_at : (sites : List SeenNode) (at : Bytes) (i : ℕ) (old new : SeenNode) → i ≡ place sites at → i < length sites → old ≡ slice_index_or sites i old → new.name ≡ old.name → old.kept_station.keeper.failures < new.kept_station.keeper.failures
     → failures_at sites at < failures_at (slice_set sites i new) at
 failed_at sites at i old new is lt elem same more =
     let within : place sites at < length sites = subst (λ j. j < length sites) is lt in
     let there : old ≡ slice_index_or sites (place sites at) old = elem ∙ ap (λ j. slice_index_or sites j old) is in
-    let before : failures_at sites at ≡ old.failures = failures_place sites at old within ∙ ap (λ (s : SeenNode). s.failures) (sym there) in
-    let after : failures_at (slice_set sites i new) at ≡ new.failures =
-    ap (λ j. failures_at (slice_set sites j new) at) is ∙ ap (λ (o : Option SeenNode). unwrap_or (option_map (λ (s : SeenNode). s.failures) o) 0) (own_put sites at new within old (same ∙ ap (λ (s : SeenNode). s.name) there)) in
+    let before : failures_at sites at ≡ old.kept_station.keeper.failures = failures_place sites at old within ∙ ap (λ (s : SeenNode). s.kept_station.keeper.failures) (sym there) in
+    let after : failures_at (slice_set sites i new) at ≡ new.kept_station.keeper.failures =
+    ap (λ j. failures_at (slice_set sites j new) at) is ∙ ap (λ (o : Option SeenNode). unwrap_or (option_map (λ (s : SeenNode). s.kept_station.keeper.failures) o) 0) (own_put sites at new within old (same ∙ ap (λ (s : SeenNode). s.name) there)) in
     omega (arith, before, after, more)
 
 -- a node of another name stays

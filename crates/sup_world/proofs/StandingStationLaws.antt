@@ -1,5 +1,6 @@
 -- A station that stands for one of the definitions answers to an act as that one's step, and stands for what it becomes.
 use Rattle.std.specs.Prelude.{◌≡◌, ℕ, ◌+◌, Bool, true, false, not, [], Option, Some, None, Result, Ok, Err, IsErr, refl}
+use Rattle.std.specs.FinMap.{empty}
 use Rattle.std.proofs.Common.{sym, ap, ◌∙◌, subst}
 use mathlib.Core.Logic.{◌⊎◌, inl, inr}
 use mathlib.Core.Bool.{false≢true}
@@ -8,6 +9,7 @@ use Rattle.sup_tables.specs.States.{State}
 use Rattle.sup_tables.specs.Joined.{IsTables}
 use Rattle.sup_placement.specs.Place.{Weigher}
 use Rattle.sup_wire.specs.declared.image.Image.{Image}
+use Rattle.sup_keeper.specs.Keepers.{KeeperSeen, bytes_found, kept}
 use Rattle.sup_replica.specs.Configs.{Config}
 use Rattle.sup_replica.specs.declared.event.Event.{Event}
 use Rattle.sup_replica.specs.declared.event.Event.TheVariants.{Join, Leave, Drain, Start, Replace, Delete, Register, Unregister, Exit, Ship, Push, Deliver}
@@ -26,10 +28,11 @@ use Rattle.sup_replica.specs.Stations.{Station, Mail, StationMove, station_step,
 use Rattle.sup_node.specs.Changes.{image_of}
 use Rattle.sup_node.specs.NodeSteps.{ReadsMail, stepped, MayLack, restart_of, stopped_by}
 use Rattle.sup_node.specs.Texts.{IsLetterOf, IsImageText, IsImageReadAs, reads_as}
-use Rattle.sup_station.specs.KeptStations.{KeptStation, RunningNodeAnswers, StoppedNodeRestarts, KeepsImage, IsOwnImage, IsOthers}
+use Rattle.sup_station.specs.KeptStations.{StationSeen, RunningNodeAnswers, StoppedNodeRestarts, KeepsText, KeepsImage, AnswersAct, RefusesAct, IsOwnImage, IsOthers}
 use Rattle.sup_model.specs.Runs.{is_late}
 use Rattle.sup_world.specs.StandingStations.{IsNodeOf, IsSetAs, StationStands}
-use Rattle.sup_world.specs.Moves.{StationActs, MakesMove, ReadsIn, wants}
+use Rattle.sup_world.specs.Moves.{MakesMove, ReadsIn, telling, wants}
+use Rattle.sup_world.proofs.KeeperLaws.{Acts}
 use Rattle.sup_world.proofs.ReadingLaws.{same_image, same_step}
 use Rattle.sup_world.proofs.FailedSaveLaws.{SavesOrNot, step-saves}
 
@@ -87,7 +90,7 @@ module _ (g : Weigher) (c : Config) (p : Station State) (now : ℕ) (mail : Opti
     };
     held = [];
     room = room;
-    acked = λ q. 0;
+    acked = empty;
   }) Restart 0 saves
 
   pub restart-is : p.node.up ≡ false → IsSetAs c p → station_step by_tables (reads_as mail) g p Restart now saves ≡ restart_of g c (image_of p.node) saves
@@ -173,48 +176,82 @@ module _ (g : Weigher) (n : Station State) (now : ℕ) (mail : Option (Mail Stat
 abbrev told-as : Done → Result Done Refusal
 told-as done = Ok done
 
+-- ---- what is kept
+
+-- the keeper keeps the text of the image that was saved
+pub text_kept : (image : Image) (old new : KeeperSeen) → KeepsText image old new → IsImageText (kept new) image
+text_kept image old new k = subst (λ (x : KeeperSeen). IsImageText (kept x) image) (sym k.2.1) k.1
+
+-- what a station stands for it does whatever its keeper is told
+pub stands_telling : (s : StationSeen) (p : Station State) (on : Bool) → StationStands s p → StationStands (telling s on) p
+stands_telling s p on h = record { name = h.name; set = h.set; image = h.image; fits = h.fits; node = h.node }
+
+-- and with another keeper that keeps the same
+stands_beside : (s : StationSeen) (p : Station State) (k : KeeperSeen) → k.found ≡ s.keeper.found → StationStands s p → StationStands (record s { keeper = k }) p
+stands_beside s p k e h = record {
+  name = h.name;
+  set = h.set;
+  image = subst (λ (o : Option Bytes). IsImageText (bytes_found o) (image_of p.node)) (sym e) h.image;
+  fits = h.fits;
+  node = h.node;
+}
+
+-- so it does where it refused
+stands_refused : (g : Weigher) (s : StationSeen) (p : Station State) (act : Act) (now : ℕ) (r : Refusal) (t : StationSeen) → StationStands s p → AnswersAct g s act now (Err r) t → StationStands t p
+stands_refused g s p act now r t h (inl x) = subst (λ (u : StationSeen). StationStands u p) (sym x.1.same) (stands_beside s p t.keeper x.1.fails.unput h)
+stands_refused g s p act now r t h (inr x) = subst (λ (u : StationSeen). StationStands u p) (sym x.1) h
+
+-- why it did
+why_refused : (g : Weigher) (s : StationSeen) (act : Act) (now : ℕ) (r : Refusal) (t : StationSeen) → AnswersAct g s act now (Err r) t → RefusesAct g s s.node act now r
+why_refused g s act now r t (inl x) = subst (λ (q : Refusal). RefusesAct g s s.node act now q) (sym x.0) x.1.why
+why_refused g s act now r t (inr x) = x.2
+
 -- ---- the lemma, case by case
 
-module _ (g : Weigher) (name : Bytes) (config : Config) (kept : Bytes) (p : Station State) (now : ℕ) (mail : Option (Mail State)) where
-  abbrev still : Option (Station State) → KeptStation
-  still node = record { name = name; config = config; node = node; kept = kept }
+module _ (g : Weigher) (name : Bytes) (config : Config) (keeper : KeeperSeen) (p : Station State) (now : ℕ) (mail : Option (Mail State)) where
+  abbrev still : Option (Station State) → StationSeen
+  still node = record { name = name; config = config; node = node; keeper = keeper }
 
-  abbrev Gives : Act → Bool → Result Done Refusal → KeptStation → Type 0
+  abbrev Gives : Act → Bool → Result Done Refusal → StationSeen → Type 0
   Gives act saves result t = (q : Station State) × MakesMove (station_step by_tables (reads_as mail) g p act now saves) p act result q × StationStands t q
 
-  -- refused: all is as it was
-  refused : (o : Option (Station State)) (act : Act) (saves : Bool) (r : Refusal) (t : KeptStation) → StationStands (still o) p → t ≡ still o
+  -- refused: all is as it was, but for a failure of the keeper
+  refused : (o : Option (Station State)) (act : Act) (saves : Bool) (r : Refusal) (t : StationSeen) → StationStands (still o) p → AnswersAct g (still o) act now (Err r) t
       → (station_step by_tables (reads_as mail) g p act now saves ≡ Err r) ⊎ ((r ≡ OutOfMemory) × (wants act (is_late (station_step by_tables (reads_as mail) g p act now saves)) ≡ true)) → Gives act saves (Err r) t
-  refused o act saves r t h same why = (p, (refl, why), subst (λ (u : KeptStation). StationStands u p) (sym same) h)
+  refused o act saves r t h a why = (p, (refl, why), stands_refused g (still o) p act now r t h a)
+
+  -- why it was refused
+  why : (o : Option (Station State)) (act : Act) (r : Refusal) (t : StationSeen) → AnswersAct g (still o) act now (Err r) t → RefusesAct g (still o) o act now r
+  why o act r t a = why_refused g (still o) act now r t a
 
   -- the text that is kept after an event is the new image's
-  kept-image : (unsaved : Result (StationMove State) Refusal) (move : StationMove State) (new : Bytes) → IsImageText kept (image_of p.node) → KeepsImage unsaved kept new (image_of move.station.node)
-      → ((unsaved ≡ Ok move) × (image_of move.station.node ≡ image_of p.node)) ⊎ (unsaved ≡ Err KeepFailed) → IsImageText new (image_of move.station.node)
-  kept-image (Ok m) move new h k (inl e) = subst (λ (b : Bytes). IsImageText b (image_of move.station.node)) (sym k) (subst (λ (i : Image). IsImageText kept i) (sym e.1) h)
+  kept-image : (unsaved : Result (StationMove State) Refusal) (move : StationMove State) (new : KeeperSeen) → IsImageText (kept keeper) (image_of p.node) → KeepsImage unsaved keeper new (image_of move.station.node)
+      → ((unsaved ≡ Ok move) × (image_of move.station.node ≡ image_of p.node)) ⊎ (unsaved ≡ Err KeepFailed) → IsImageText (kept new) (image_of move.station.node)
+  kept-image (Ok m) move new h k (inl e) = subst (λ (x : KeeperSeen). IsImageText (kept x) (image_of move.station.node)) (sym k) (subst (λ (i : Image). IsImageText (kept keeper) i) (sym e.1) h)
   kept-image (Ok m) move new h k (inr e) = absurd cc
-  kept-image (Err r) move new h k e = k
+  kept-image (Err r) move new h k e = text_kept (image_of move.station.node) keeper new k
 
-  event-done : (n : Station State) (event : Event) (saves : Bool) (done : Done) (t : KeptStation) → ReadsMail event mail → StationStands (still (Some n)) p → StationActs g (still (Some n)) (Of event) now saves (Ok done) t → Gives (Of event) saves (Ok done) t
+  event-done : (n : Station State) (event : Event) (saves : Bool) (done : Done) (t : StationSeen) → ReadsMail event mail → StationStands (still (Some n)) p → Acts g (still (Some n)) (Of event) now saves (Ok done) t → Gives (Of event) saves (Ok done) t
   event-done n event saves done t reads h a =
-      let answers : RunningNodeAnswers g n kept event now done t.node t.kept = a.goes.2 in
+      let answers : RunningNodeAnswers g n keeper event now done t.node t.keeper = a.goes.2 in
       let one : (b : Bool) → stepped g n event now answers.mail b ≡ stepped g p event now mail b =
       λ b. ap (λ (s : Station State). stepped g s event now answers.mail b) h.node.0 ∙ same_step g p event now answers.mail mail b answers.reads reads in
       let both : SavesOrNot p (Ok answers.move) (stepped g p event now mail false) =
       subst (λ (x : Result (StationMove State) Refusal). SavesOrNot p x (stepped g p event now mail false)) (sym (one true) ∙ answers.moves) (step-saves g p h.image.whole.tables event now mail) in
-      let keeps : KeepsImage (stepped g p event now mail false) kept t.kept (image_of answers.move.station.node) =
-      subst (λ (x : Result (StationMove State) Refusal). KeepsImage x kept t.kept (image_of answers.move.station.node)) (one false) answers.keeps in (
+      let keeps : KeepsImage (stepped g p event now mail false) keeper t.keeper (image_of answers.move.station.node) =
+      subst (λ (x : Result (StationMove State) Refusal). KeepsImage x keeper t.keeper (image_of answers.move.station.node)) (one false) answers.keeps in (
         answers.move.station,
         (answers.move, at saves answers one both a.comes, answers.told, refl),
         record {
           name = a.goes.0 ∙ h.name ∙ sym both.0.name;
           set = subst (λ (c : Config). IsSetAs c answers.move.station) (sym a.goes.1) (record { intensity = both.0.intensity ∙ h.set.intensity; period = both.0.period ∙ h.set.period; room = both.0.room ∙ h.set.room });
-          image = kept-image (stepped g p event now mail false) answers.move t.kept h.image keeps both.1;
+          image = kept-image (stepped g p event now mail false) answers.move t.keeper h.image keeps both.1;
           fits = both.0.fits h.fits;
           node = subst (λ (o : Option (Station State)). IsNodeOf answers.move.station o) (sym answers.becomes) (refl, both.0.up ∙ h.node.1);
         },
       )
     where
-      at : (b : Bool) (answers : RunningNodeAnswers g n kept event now done t.node t.kept) → ((b : Bool) → stepped g n event now answers.mail b ≡ stepped g p event now mail b)
+      at : (b : Bool) (answers : RunningNodeAnswers g n keeper event now done t.node t.keeper) → ((b : Bool) → stepped g n event now answers.mail b ≡ stepped g p event now mail b)
           → SavesOrNot p (Ok answers.move) (stepped g p event now mail false) → (b ≡ false → ((m : Option (Mail State)) → ReadsMail event m → stepped g n event now m false ≡ Err KeepFailed) → IsErr (told-as done))
           → stepped g p event now mail b ≡ Ok answers.move
       at true answers one both comes = sym (one true) ∙ answers.moves
@@ -223,8 +260,8 @@ module _ (g : Weigher) (name : Bytes) (config : Config) (kept : Bytes) (p : Stat
         | inr e ↦ absurd (false≢true (comes refl (λ m r. ap (λ (s : Station State). stepped g s event now m false) h.node.0 ∙ same_step g p event now m mail false r reads ∙ e)))
       ]
 
-  event-refused : (n : Station State) (event : Event) (saves : Bool) (r : Refusal) (t : KeptStation) → ReadsMail event mail → StationStands (still (Some n)) p → StationActs g (still (Some n)) (Of event) now saves (Err r) t → Gives (Of event) saves (Err r) t
-  event-refused n event saves r t reads h a = refused (Some n) (Of event) saves r t h a.goes.0 (elim a.goes.1 [
+  event-refused : (n : Station State) (event : Event) (saves : Bool) (r : Refusal) (t : StationSeen) → ReadsMail event mail → StationStands (still (Some n)) p → Acts g (still (Some n)) (Of event) now saves (Err r) t → Gives (Of event) saves (Err r) t
+  event-refused n event saves r t reads h a = refused (Some n) (Of event) saves r t h a.goes (elim (why (Some n) (Of event) r t a.goes) [
     | inl x ↦ elim x [ inl y ↦ inl (told saves y.0 y.1 y.2) | inr y ↦ inr (y.0, lacking g p now mail saves h.image.whole.tables event (subst (λ (s : Station State). MayLack g s event now) h.node.0 y.1)) ]
     | inr x ↦ inl (failed x.0 (a.failed (ap Err x.0)))
   ])
@@ -242,7 +279,7 @@ module _ (g : Weigher) (name : Bytes) (config : Config) (kept : Bytes) (p : Stat
       failed : r ≡ KeepFailed → ((m : Option (Mail State)) × ReadsMail event m × (stepped g n event now m false ≡ Err KeepFailed)) × (saves ≡ false) → stepped g p event now mail saves ≡ Err r
       failed is f = ap (λ b. stepped g p event now mail b) f.1 ∙ at f.0.0 f.0.1 false ∙ f.0.2 ∙ ap Err (sym is)
 
-  stop-done : (n : Station State) (saves : Bool) (done : Done) (t : KeptStation) → StationStands (still (Some n)) p → StationActs g (still (Some n)) Stop now saves (Ok done) t → Gives Stop saves (Ok done) t
+  stop-done : (n : Station State) (saves : Bool) (done : Done) (t : StationSeen) → StationStands (still (Some n)) p → Acts g (still (Some n)) Stop now saves (Ok done) t → Gives Stop saves (Ok done) t
   stop-done n saves done t h a =
       let q = volatile by_tables p (stopped p.node) in
       let told = a.goes.2 in (
@@ -260,26 +297,26 @@ module _ (g : Weigher) (name : Bytes) (config : Config) (kept : Bytes) (p : Stat
         record {
           name = a.goes.0 ∙ h.name;
           set = subst (λ (c : Config). IsSetAs c q) (sym a.goes.1) (record { intensity = h.set.intensity; period = h.set.period; room = h.set.room });
-          image = subst (λ (b : Bytes). IsImageText b (image_of q.node)) (sym told.2) h.image;
+          image = subst (λ (x : KeeperSeen). IsImageText (kept x) (image_of q.node)) (sym told.2) h.image;
           fits = h.fits;
           node = subst (λ (o : Option (Station State)). IsNodeOf q o) (sym told.1) (record { down = refl; kept = refl; moments = refl; newest = refl; held = refl; acked = refl });
         },
       )
 
-  foreign : (image : Option Image) → IsImageText kept (image_of p.node) → name ≡ p.node.name → IsImageReadAs kept image → IsOthers name image → ⊥
+  foreign : (image : Option Image) → IsImageText (kept keeper) (image_of p.node) → name ≡ p.node.name → IsImageReadAs (kept keeper) image → IsOthers name image → ⊥
   foreign None h e reads others = reads (image_of p.node) h.whole h.says
-  foreign (Some i) h e reads others = others (ap (λ (j : Image). j.node) (same_image kept (image_of p.node) i h.whole reads.0 h.says reads.1) ∙ sym e)
+  foreign (Some i) h e reads others = others (ap (λ (j : Image). j.node) (same_image (kept keeper) (image_of p.node) i h.whole reads.0 h.says reads.1) ∙ sym e)
 
-  restart-done : (saves : Bool) (done : Done) (t : KeptStation) → StationStands (still None) p → StationActs g (still None) Restart now saves (Ok done) t → Gives Restart saves (Ok done) t
+  restart-done : (saves : Bool) (done : Done) (t : StationSeen) → StationStands (still None) p → Acts g (still None) Restart now saves (Ok done) t → Gives Restart saves (Ok done) t
   restart-done false done t h a =
-      let r : StoppedNodeRestarts g (still None) done t.node t.kept = a.goes.2 in
+      let r : StoppedNodeRestarts g (still None) done t.node t.keeper = a.goes.2 in
       absurd (false≢true (a.comes refl (
-        (λ i own. ap (λ (j : Image). restart_of g config j false) (same_image kept r.image i r.own.0.0 own.0.0 r.own.0.1 own.0.1) ∙ r.restarts.unsaved),
+        (λ i own. ap (λ (j : Image). restart_of g config j false) (same_image (kept keeper) r.image i r.own.0.0 own.0.0 r.own.0.1 own.0.1) ∙ r.restarts.unsaved),
         λ f. foreign f.0 h.image h.name f.1 f.2,
       )))
   restart-done true done t h a =
-      let r : StoppedNodeRestarts g (still None) done t.node t.kept = a.goes.2 in
-      let image : r.image ≡ image_of p.node = same_image kept (image_of p.node) r.image h.image.whole r.own.0.0 h.image.says r.own.0.1 in
+      let r : StoppedNodeRestarts g (still None) done t.node t.keeper = a.goes.2 in
+      let image : r.image ≡ image_of p.node = same_image (kept keeper) (image_of p.node) r.image h.image.whole r.own.0.0 h.image.says r.own.0.1 in
       let step : station_step by_tables (reads_as mail) g p Restart now true ≡ Ok r.restarts.move =
       restart-is g config p now mail true h.node.down h.set ∙ ap (λ (i : Image). restart_of g config i true) (sym image) ∙ r.restarts.moves in
       let b : Booted config r.image r.restarts.move.station = booted-as g config r.image r.restarts.move r.restarts.moves in
@@ -298,14 +335,14 @@ module _ (g : Weigher) (name : Bytes) (config : Config) (kept : Bytes) (p : Stat
         record {
           name = a.goes.0 ∙ sym r.own.1 ∙ sym b.name;
           set = subst (λ (c : Config). IsSetAs c q) (sym a.goes.1) b.set;
-          image = subst (λ (s : Station State). IsImageText t.kept (image_of s.node)) r.restarts.after r.keeps;
+          image = subst (λ (s : Station State). IsImageText (kept t.keeper) (image_of s.node)) r.restarts.after (text_kept (image_of r.station.node) keeper t.keeper r.keeps);
           fits = b.fits;
           node = subst (λ (o : Option (Station State)). IsNodeOf q o) (sym (r.becomes ∙ ap Some r.restarts.after)) (refl, b.up);
         },
       )
 
-  restart-fails : (saves : Bool) (r : Refusal) (t : KeptStation) → StationStands (still None) p → StationActs g (still None) Restart now saves (Err r) t → Gives Restart saves (Err r) t
-  restart-fails saves r t h a = refused None Restart saves r t h a.goes.0 (elim a.goes.1 [
+  restart-fails : (saves : Bool) (r : Refusal) (t : StationSeen) → StationStands (still None) p → Acts g (still None) Restart now saves (Err r) t → Gives Restart saves (Err r) t
+  restart-fails saves r t h a = refused None Restart saves r t h a.goes (elim (why None Restart r t a.goes) [
     | inl e ↦ inl (let f = a.failed (ap Err e) in step f.0.0 f.0.1 ∙ ap (λ b. restart_of g config f.0.0 b) f.1 ∙ f.0.2 ∙ ap Err (sym e))
     | inr x ↦ elim x [
       | inl e ↦ inr (e, refl)
@@ -316,19 +353,19 @@ module _ (g : Weigher) (name : Bytes) (config : Config) (kept : Bytes) (p : Stat
     ]
   ])
     where
-      step : (i : Image) → IsOwnImage name kept i → station_step by_tables (reads_as mail) g p Restart now saves ≡ restart_of g config i saves
-      step i own = restart-is g config p now mail saves h.node.down h.set ∙ ap (λ (j : Image). restart_of g config j saves) (sym (same_image kept (image_of p.node) i h.image.whole own.0.0 h.image.says own.0.1))
+      step : (i : Image) → IsOwnImage name (kept keeper) i → station_step by_tables (reads_as mail) g p Restart now saves ≡ restart_of g config i saves
+      step i own = restart-is g config p now mail saves h.node.down h.set ∙ ap (λ (j : Image). restart_of g config j saves) (sym (same_image (kept keeper) (image_of p.node) i h.image.whole own.0.0 h.image.says own.0.1))
 
-  pub stands : (node : Option (Station State)) (act : Act) (saves : Bool) (result : Result Done Refusal) (t : KeptStation) → ReadsIn act mail → StationStands (still node) p → StationActs g (still node) act now saves result t → Gives act saves result t
+  pub stands : (node : Option (Station State)) (act : Act) (saves : Bool) (result : Result Done Refusal) (t : StationSeen) → ReadsIn act mail → StationStands (still node) p → Acts g (still node) act now saves result t → Gives act saves result t
   stands None (Of event) saves (Ok done) t reads h a = absurd a.goes.2
-  stands None (Of event) saves (Err r) t reads h a = refused None (Of event) saves r t h a.goes.0 (inl (down-event g p now mail saves h.node.down event ∙ ap Err (sym a.goes.1)))
+  stands None (Of event) saves (Err r) t reads h a = refused None (Of event) saves r t h a.goes (inl (down-event g p now mail saves h.node.down event ∙ ap Err (sym (why None (Of event) r t a.goes))))
   stands (Some n) (Of event) saves (Ok done) t reads h a = event-done n event saves done t reads h a
   stands (Some n) (Of event) saves (Err r) t reads h a = event-refused n event saves r t reads h a
   stands None Stop saves (Ok done) t reads h a = absurd a.goes.2
-  stands None Stop saves (Err r) t reads h a = refused None Stop saves r t h a.goes.0 (inl (down-stop g p now mail saves h.node.down ∙ ap Err (sym a.goes.1)))
+  stands None Stop saves (Err r) t reads h a = refused None Stop saves r t h a.goes (inl (down-stop g p now mail saves h.node.down ∙ ap Err (sym (why None Stop r t a.goes))))
   stands (Some n) Stop saves (Ok done) t reads h a = stop-done n saves done t h a
-  stands (Some n) Stop saves (Err r) t reads h a = absurd a.goes.1
+  stands (Some n) Stop saves (Err r) t reads h a = absurd (why (Some n) Stop r t a.goes)
   stands None Restart saves (Ok done) t reads h a = restart-done saves done t h a
   stands None Restart saves (Err r) t reads h a = restart-fails saves r t h a
   stands (Some n) Restart saves (Ok done) t reads h a = absurd a.goes.2
-  stands (Some n) Restart saves (Err r) t reads h a = refused (Some n) Restart saves r t h a.goes.0 (inl (up-restart g p now mail saves h.node.1 ∙ ap Err (sym a.goes.1)))
+  stands (Some n) Restart saves (Err r) t reads h a = refused (Some n) Restart saves r t h a.goes (inl (up-restart g p now mail saves h.node.1 ∙ ap Err (sym (why (Some n) Restart r t a.goes))))

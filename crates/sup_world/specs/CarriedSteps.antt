@@ -24,7 +24,7 @@ abbrev pub holds : Bool → ℕ → Bool
 holds saves failures = saves || not (nat_lt failures most)
 
 abbrev pub failures_at : List SeenNode → Bytes → ℕ
-failures_at sites name = unwrap_or (option_map (λ s. s.failures) (seen_at sites name)) 0
+failures_at sites name = unwrap_or (option_map (λ s. s.kept_station.keeper.failures) (seen_at sites name)) 0
 
 -- a node's k-th letter, from 1
 abbrev pub letter_of : SeenNode → ℕ → Option Letter

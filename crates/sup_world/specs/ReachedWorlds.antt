@@ -18,7 +18,7 @@ use Rattle.sup_world.specs.CarriedSteps.{KnowsBytes}
 use Rattle.sup_world.specs.FollowedSteps.{IsAsOf, StandsFor}
 use Rattle.sup_world.specs.Newness.{setting_in}
 use Rattle.sup_world.specs.Runs.{RanSteps}
-use Rattle.sup_world.specs.SeenNodes.{SeenNode}
+use Rattle.sup_world.specs.SeenNodes.{SeenNode, image_kept}
 
 -- a node beside the model's: what it has while it runs, and the image that is kept of it, stand for the operations that it absorbed
 pub record HasAbsorbed (s : SeenNode) (site : ModelSite) : Type 0 where
@@ -26,7 +26,7 @@ pub record HasAbsorbed (s : SeenNode) (site : ModelSite) : Type 0 where
   pub up : site.node.up ≡ is_some s.kept_station.node
   pub running : IfSome s.kept_station.node (λ n. TablesStandFor n.node.known site.node.known)
   pub image : Image
-  pub kept : IsImageText s.kept_station.kept image
+  pub kept : IsImageText (image_kept s.kept_station) image
   pub stands : TablesStandFor image.state site.node.known
 
 -- the steps are a run of the model from a new world, with these answers; this world stands for what that comes to, node by node, and the headline
@@ -39,7 +39,7 @@ pub record ReachedByRun (g : Weigher) (config : Config) (names : List Bytes) (is
   pub stands : StandsFor g sites after
   pub nodes : AllZip HasAbsorbed sites after.sites
   pub headline : Headline steps expected after (all_issued (new (setting_in g config) is_message names) steps expected after is_run)
-  pub failed : All (λ s. s.failures ≤ length steps) sites
+  pub failed : All (λ s. s.kept_station.keeper.failures ≤ length steps) sites
 
 -- a world that no step was made in
 abbrev pub IsReachedNew : Weigher → Config → List Bytes → List SeenNode → Type 0

@@ -4,7 +4,7 @@ use Rattle.sup_tables.specs.States.{State}
 use Rattle.sup_tables.specs.Operations.{live}
 use Rattle.sup_replica.specs.Stations.{Station}
 use Rattle.sup_model.specs.Worlds.{ModelSite}
-use Rattle.sup_station.specs.KeptStations.{KeptStation}
+use Rattle.sup_station.specs.KeptStations.{StationSeen}
 
 -- a running node: its boot, what it keeps, and its live rows
 pub record ShowsNode (n : Station State) (site : ModelSite) : Type 0 where
@@ -17,5 +17,5 @@ abbrev pub ShowsNodeOf : Option (Station State) → ModelSite → Type 0
 ShowsNodeOf None site = site.node.up ≡ false
 ShowsNodeOf (Some n) site = ShowsNode n site
 
-abbrev pub IsShownAs : KeptStation → ModelSite → Type 0
+abbrev pub IsShownAs : StationSeen → ModelSite → Type 0
 IsShownAs still site = ShowsNodeOf still.node site

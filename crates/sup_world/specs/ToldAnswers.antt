@@ -57,7 +57,7 @@ NodeAnswers step post act (Err r) s = IsRefusedAs step act r × SiteStands s pos
 abbrev pub AnswersStep : Weigher → SeenNode → Act → ℕ → Bool → Result Answer Refusal → SeenNode → Type 0
 AnswersStep g old act now saves result new =
     (post : StationPost State) (mail : Option (Mail State)) → SiteStands old post → ReadsIn act mail
-    → NodeAnswers (station_step by_tables (reads_as mail) g post.station act now (holds saves old.failures)) post act result new
+    → NodeAnswers (station_step by_tables (reads_as mail) g post.station act now (holds saves old.kept_station.keeper.failures)) post act result new
 
 -- whether the target of a ship or a push is a node here
 abbrev pub HasTarget : Weigher → List SeenNode → Act → Bool → Type 0
