@@ -69,6 +69,7 @@ impl<D: Disk> DiskKeeper<D> {
         ensures only { IfOk result (λ k. OnlyThis (D.may_have k.disk) k.copy) }
         ensures left { IfErr result (λ u. NoMore (D.may_have disk) (D.may_have u.disk)) }
         ensures why { IfErr result (λ u. D.may_refuse disk u.error) }
+        ensures works { IfOk result (λ k. D.works disk → D.works k.disk) }
     {
         let mut disk = disk;
         match disk.read(alloc) {
@@ -131,6 +132,9 @@ impl<D: Disk> Keeper for DiskKeeper<D> {
         ensures loses { self.new.lost ≡ true → (self.old.lost ≡ true) ⊎ WereFlushed D.flushed bytes.now }
         // A loss of power leaves what it would have left, or these bytes.
         ensures either { OrThese (D.may_have self.old.disk) (D.may_have self.new.disk) bytes.now }
+        // Over a disk that works, a keeper that isn't lost fails for memory alone.
+        ensures sure { self.old.lost ≡ false → D.works self.old.disk → result ≢ Err Failed }
+        ensures stays { D.works self.old.disk → D.works self.new.disk }
     {
         // All the room is taken before the file is touched.
         let copy = bytes.to_vec(self.alloc)?;

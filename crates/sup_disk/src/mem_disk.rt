@@ -116,6 +116,9 @@ impl Disk for MemDisk {
 
     ghost may_refuse = { λ _ error. WantsMemory error };
 
+    // Memory may be refused to it at any time.
+    ghost works = { λ _. ⊥ };
+
     fn write_beside(&mut self, bytes: &[u8]) -> io::Result<()>
         ensures beside { OnOk result (copied self.new.beside ≡ Some bytes.now) }
         ensures ok { OnOk result (self.new ≡ record self.old { beside = self.new.beside; is_flushed = false }) }

@@ -1,6 +1,6 @@
 //! A file is replaced.
 
-ghost use Rattle.std.specs.Prelude.{◌≡◌, OnOk};
+ghost use Rattle.std.specs.Prelude.{◌≡◌, OnOk, IsOk};
 ghost use Rattle.sup_disk.specs.declared.replacing.ReplaceFault.TheVariants.{Kept, Unsure};
 ghost use Rattle.sup_disk.specs.Crashes.{NoMore, OrThese, OnlyThese, WereFlushed};
 
@@ -30,6 +30,8 @@ pub fn replace_on<D: Disk>(disk: &mut D, bytes: &[u8]) -> Result<(), ReplaceFaul
     ensures kept { result ≡ Err Kept → NoMore (D.may_have disk.old) (D.may_have disk.new) }
     ensures unsure { result ≡ Err Unsure → WereFlushed D.flushed bytes.now }
     ensures either { OrThese (D.may_have disk.old) (D.may_have disk.new) bytes.now }
+    // Over a disk that works it is done.
+    ensures sure { D.works disk.old → IsOk result × D.works disk.new }
 {
     if disk.write_beside(bytes).is_err() {
         return Err(ReplaceFault::Kept);

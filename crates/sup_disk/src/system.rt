@@ -75,6 +75,9 @@ impl<R: Files + Drop> Disk for SystemDisk<R> {
 
     ghost may_refuse = { λ _ _. Unit {0} };
 
+    // A file may fail at any time.
+    ghost works = { λ _. ⊥ };
+
     fn write_beside(&mut self, bytes: &[u8]) -> io::Result<()> {
         let mut file = File::create(&self.rt, self.beside.as_str())?;
         file.write_all(bytes)?;

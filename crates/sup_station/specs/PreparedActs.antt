@@ -107,8 +107,14 @@ pub record IsReadyFor (g : Weigher) (s : StationSeen) (p : Prepared) : Type 0 wh
   pub rows : SavesRows (rows_known (node_after s.node p.next)) p.text
   pub answer : (act : Act) × (now : ℕ) × (CanSave s p → AnswersAct g s act now (Ok (done_of p)) (after s p))
 
--- what is made ready of an act: its answer, what the station becomes, and what it may be refused for yet
+-- the station, if its keeper isn't failing
+abbrev pub able : StationSeen → StationSeen
+able s = record s { keeper = record s.keeper { failing = false } }
+
+-- what is made ready of an act: its answer, whether or not its save can hold, what the station becomes where it can, and what it may be
+-- refused for yet
 pub record IsPreparedFor (g : Weigher) (s : StationSeen) (act : Act) (now : ℕ) (p : Prepared) : Type 0 where
+  pub answers : AnswersAct g (able s) act now (Ok (done_of p)) (after (able s) p)
   pub goes : CanSave s p → AnswersAct g s act now (Ok (done_of p)) (after s p)
   pub ready : IsReadyFor g s p
   pub saves : ComesToSave g s s.node act now → is_saved p ≡ true
