@@ -1,6 +1,7 @@
 -- From what a replica makes ready to what a node plans.
 use Rattle.std.specs.Prelude.{IfOk, ◌≡◌, ℕ, ◌+◌, ◌-◌, ◌<◌, ◌≤◌, ◌==◌, Bool, true, false, ◌&&◌, not, nat_lt, nat_le, List, [], length, Option, Some, None, Result, Ok, Err, IsOk, refl, if◌then◌else◌}
 use Rattle.std.specs.Option.{unwrap_or}
+use Rattle.std.specs.FinMap.{empty}
 use Rattle.std.specs.Cmp.{Equal-is, tied_itself}
 use Rattle.sup_specs.specs.OrderLaws.{text_total, text_tie}
 use Rattle.std.proofs.Common.{sym, ap, ap₂, ◌∙◌, subst, arith}
@@ -18,7 +19,7 @@ use Rattle.sup_local_sup.specs.declared.effect.Effect.{Effect}
 use Rattle.sup_replica.specs.Configs.{Config}
 use Rattle.sup_anti_entropy.specs.Joins.{newest_of}
 use Rattle.sup_anti_entropy.specs.Shipments.{joined_deltas}
-use Rattle.sup_anti_entropy.specs.Buffers.{Buffer, Shipment, shipment_of, holds_more, shipped as shipment}
+use Rattle.sup_anti_entropy.specs.Buffers.{Buffer, Shipment, number_of, shipment_of, holds_more, shipped as shipment}
 use Rattle.sup_replica.specs.declared.event.Event.{Event}
 use Rattle.sup_replica.specs.declared.event.Event.TheVariants.{Join, Leave, Drain, Start, Replace, Delete, Register, Unregister, Exit, Ship, Push, Deliver}
 use Rattle.sup_replica.specs.declared.done.Reply.TheVariants.{Sent, Acked, Boot}
@@ -299,20 +300,20 @@ module _ (g : Weigher) (s : Station State) (from to : Bytes) (n : ℕ) (up : s.n
 -- ---- what is sent
 
 -- the buffer's shipment is the station's
-pub shipped-as : (b : Buffer Bytes State) (n : Node State) (to me : Bytes) (x : Shipment State) → n.count ≡ b.count → me ≡ n.name → Some x ≡ shipment join_states no_state b n.known to
+pub shipped-as : (b : Buffer State) (n : Node State) (to me : Bytes) (x : Shipment State) → n.count ≡ b.count → me ≡ n.name → Some x ≡ shipment join_states no_state b n.known to
     → shipped by_tables (record { node = n; held = b.held; room = b.room; acked = b.acked }) to ≡ Some (a_delta me to x.number x.whole x.content)
 shipped-as b n to me x e m h =
-    (λ i. mail_of_shipment (sym m i) to (shipment_of join_states no_state b.held (e i) n.known (e i - b.acked to))) ∙ ap (mail_of_shipment me to) (sym h)
+    (λ i. mail_of_shipment (sym m i) to (shipment_of join_states no_state b.held (e i) n.known (e i - number_of b.acked to))) ∙ ap (mail_of_shipment me to) (sym h)
 
 -- where not all that a peer lacks is held, it is sent all that is known
-pub whole-shipped : (b : Buffer Bytes State) (n : Node State) (to : Bytes) (count acked held missing : ℕ) → n.count ≡ b.count → count ≡ b.count → acked ≡ b.acked to → held ≡ length b.held → missing ≡ count - acked → held < missing
+pub whole-shipped : (b : Buffer State) (n : Node State) (to : Bytes) (count acked held missing : ℕ) → n.count ≡ b.count → count ≡ b.count → acked ≡ number_of b.acked to → held ≡ length b.held → missing ≡ count - acked → held < missing
     → shipped by_tables (record { node = n; held = b.held; room = b.room; acked = b.acked }) to ≡ Some (a_delta n.name to count true n.known)
 whole-shipped b n to count acked held missing e ce ae he me less =
-    let lacks : b.count - b.acked to ≡ missing = sym (me ∙ ap₂ (λ x y. x - y) ce ae) in
-    let some : (b.count - b.acked to == 0) ≡ false = ap (λ m. m == 0) lacks ∙ not-zero missing held less in
-    let more : nat_le (b.count - b.acked to) (length b.held) ≡ false = ap₂ nat_le lacks (sym he) ∙ not-within missing held less in
+    let lacks : b.count - number_of b.acked to ≡ missing = sym (me ∙ ap₂ (λ x y. x - y) ce ae) in
+    let some : (b.count - number_of b.acked to == 0) ≡ false = ap (λ m. m == 0) lacks ∙ not-zero missing held less in
+    let more : nat_le (b.count - number_of b.acked to) (length b.held) ≡ false = ap₂ nat_le lacks (sym he) ∙ not-within missing held less in
     shipped-as b n to n.name (record { content = n.known; number = count; whole = true }) e refl
-    (sym ((λ i. if some i then None else (if more i then Some (record { content = joined_deltas (newest_of (b.count - b.acked to) b.held); number = b.count; whole = false }) else Some (record { content = n.known; number = b.count; whole = true })))
+    (sym ((λ i. if some i then None else (if more i then Some (record { content = joined_deltas (newest_of (b.count - number_of b.acked to) b.held); number = b.count; whole = false }) else Some (record { content = n.known; number = b.count; whole = true })))
     ∙ ap (λ k. Some (record { content = n.known; number = k; whole = true })) (sym ce)))
   where
     not-zero : (m h : ℕ) → h < m → (m == 0) ≡ false
@@ -373,7 +374,7 @@ module _ (g : Weigher) (c : Config) (image : Image) (r : Node State) (effects : 
 
   pub restart-is : (intensity period : ℕ) → intensity ≡ c.intensity → period ≡ c.period → (t : Station State)
       → checked (act_step by_tables g (stopped_node intensity period image) Restart 0) ≡ Ok (record { done = record { reply = Boot r.supervisor.boot; effects = effects }; letter = None; node = r; saves = true })
-      → t ≡ record { node = r; held = []; room = c.buffer; acked = λ q. 0 } → IsRestart g c image effects t
+      → t ≡ record { node = r; held = []; room = c.buffer; acked = empty } → IsRestart g c image effects t
   restart-is i p ei ep t e f = let o : ActOutcome State = record { done = record { reply = Boot r.supervisor.boot; effects = effects }; letter = None; node = r; saves = true } in record {
     move = restart-move o;
     moves = (λ k. go-on restart-move (kept_by true (act_step by_tables g (stopped_node (sym ei k) (sym ep k) image) Restart 0))) ∙ ap (go-on restart-move) (kept-true o (act_step by_tables g (stopped_node i p image) Restart 0) e);

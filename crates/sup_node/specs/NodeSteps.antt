@@ -1,5 +1,6 @@
 -- What a node that runs answers to an event, and what it becomes: the station's step, over the bytes that come and leave (the rule of steps).
 use Rattle.std.specs.Prelude.{◌≡◌, ◌≤◌, ℕ, Bool, true, false, List, [], Option, None, Result, Ok, Err, MatchResult, if◌then◌else◌}
+use Rattle.std.specs.FinMap.{empty}
 use mathlib.Core.Logic.{◌⊎◌}
 use Rattle.sup_specs.specs.Values.{Bytes}
 use Rattle.sup_tables.specs.States.{State}
@@ -107,11 +108,11 @@ AnswersEvent g s event now (Err r) t = (t ≡ s) × IsRefused g s event now r
 
 -- a node that was just made
 abbrev pub fresh_station : Bytes → Config → Station State
-fresh_station name c = record { node = fresh by_tables name c.intensity c.period; held = []; room = c.buffer; acked = λ q. 0 }
+fresh_station name c = record { node = fresh by_tables name c.intensity c.period; held = []; room = c.buffer; acked = empty }
 
 -- a stopped node, by its image
 abbrev pub stopped_by : Config → Image → Station State
-stopped_by c i = record { node = stopped_node c.intensity c.period i; held = []; room = c.buffer; acked = λ q. 0 }
+stopped_by c i = record { node = stopped_node c.intensity c.period i; held = []; room = c.buffer; acked = empty }
 
 -- a restart from an image of the node, before the image is saved
 abbrev pub restart_of : Weigher → Config → Image → Bool → Result (StationMove State) Refusal

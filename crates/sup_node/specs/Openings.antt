@@ -4,7 +4,6 @@ use Rattle.sup_specs.specs.declared.limits.TheConstants.{MAX}
 use Rattle.sup_tables.specs.States.{State}
 use Rattle.sup_tables.specs.Joined.{no_state}
 use Rattle.sup_tables.specs.Opened.{IsOpen}
-use Rattle.sup_anti_entropy.specs.Contents.{buffer_of}
 use Rattle.sup_anti_entropy.specs.Buffers.{holds_more}
 use Rattle.sup_local_sup.specs.Changing.{carried}
 use Rattle.sup_local_sup.specs.Planning.{carried_out}
@@ -41,9 +40,9 @@ ForBecoming intake here P = (old new : State) → TablesBecome intake here old n
 abbrev pub with_known : OpenState → State → Station State
 with_known o known = record {
   node = record o.replica { known = known };
-  held = (buffer_of o.buffer).held;
-  room = (buffer_of o.buffer).room;
-  acked = (buffer_of o.buffer).acked;
+  held = o.buffer.held;
+  room = o.buffer.room;
+  acked = o.buffer.acked;
 }
 
 -- and with the delta

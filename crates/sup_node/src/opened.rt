@@ -1,7 +1,6 @@
 //! A node's state that is opened for a delta: it has all memory that it can't do without, so nothing can be refused any more.
 ghost use Rattle.std.specs.Prelude.{◌≡◌, ◌<◌, ◌≤◌, true};
 ghost use Rattle.sup_specs.specs.declared.limits.TheConstants.{MAX as MOST};
-ghost use Rattle.sup_anti_entropy.specs.Contents.{buffer_of};
 
 use crate::replica::Replica;
 use crate::state::NodeState;
@@ -18,7 +17,7 @@ pub(crate) struct OpenState {
     pub intake: OpenIntake,
     pub delta: Tables,
     pub own: Option<Tables>,
-    pub ghost same_count: { replica.count ≡ (buffer_of buffer).count },
+    pub ghost same_count: { replica.count ≡ buffer.count },
     pub ghost runs: { replica.up ≡ true },
 }
 

@@ -1,5 +1,6 @@
 //! What is read of a node.
 ghost use Rattle.std.specs.Prelude.{◌≡◌, length, IfOk};
+ghost use Rattle.sup_anti_entropy.specs.Buffers.{number_of};
 ghost use Rattle.sup_node.specs.Changes.{image_of, image_after};
 ghost use Rattle.sup_node.specs.Contents.{station_of, where_told};
 ghost use Rattle.sup_node.specs.NodeSteps.{IsPlanNow};
@@ -63,7 +64,7 @@ impl<W: Weigh> Node<W> {
 
     /// The count up to which a peer has acknowledged its changes, 0 where it acknowledged none.
     pub fn acknowledged(&self, peer: &NodeName) -> u64
-        ensures { result ≡ (station_of self.now).acked peer.now }
+        ensures { result ≡ number_of (station_of self.now).acked peer.now }
     {
         self.state.buffer.acknowledged(peer)
     }

@@ -1,7 +1,6 @@
 //! What a node is, whatever its children are weighed by.
 ghost use Rattle.std.specs.Prelude.{◌≡◌, ◌<◌, ◌≤◌, true, IfOk, IfErr, IsErr, OnOk, OnErr, MatchResult};
 ghost use Rattle.sup_specs.specs.declared.limits.TheConstants.{MAX as MOST};
-ghost use Rattle.sup_anti_entropy.specs.Contents.{buffer_of};
 
 use crate::change::{Change, Intake, Learned};
 use crate::opened::{OpenIntake, OpenState};
@@ -19,7 +18,7 @@ use sup_wire::Image;
 pub struct NodeState {
     pub(crate) replica: Replica,
     pub(crate) buffer: Buffer,
-    pub ghost same_count: { replica.count ≡ (buffer_of buffer).count },
+    pub ghost same_count: { replica.count ≡ buffer.count },
     pub ghost runs: { replica.up ≡ true },
 }
 

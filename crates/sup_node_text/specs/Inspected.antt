@@ -5,6 +5,7 @@ use Rattle.std.specs.Borrow.{Bor}
 use Rattle.std.specs.List.{flat_map}
 use Rattle.sup_specs.specs.Values.{Bytes}
 use Rattle.sup_tables.specs.States.{State}
+use Rattle.sup_anti_entropy.specs.Buffers.{Acknowledged, number_of}
 use Rattle.sup_placement.specs.Place.{Weigher}
 use Rattle.sup_wire.specs.declared.image.Image.{Image}
 use Rattle.sup_replica.specs.Stations.{Station}
@@ -23,9 +24,12 @@ abbrev pub buffer_line : ℕ → List ℕ
 buffer_line held = text (codes "buffer " ∷ decimal held ∷ codes "\n" ∷ [])
 
 -- acked NODE C, of a peer that acknowledged something
-abbrev pub acked_line : (Bytes → ℕ) → Bytes → List ℕ
-acked_line acked peer =
-    if acked peer == 0 then [] else text (codes "acked " ∷ peer ∷ codes " " ∷ decimal (acked peer) ∷ codes "\n" ∷ [])
+abbrev pub number_line : Bytes → ℕ → List ℕ
+number_line peer number =
+    if number == 0 then [] else text (codes "acked " ∷ peer ∷ codes " " ∷ decimal number ∷ codes "\n" ∷ [])
+
+abbrev pub acked_line : Acknowledged → Bytes → List ℕ
+acked_line acked peer = number_line peer (number_of acked peer)
 
 -- the lines of a running node with these peers
 pub record IsInspectText (weigher : Weigher) (at : Bytes) (s : Station State) (peers : List Bytes) (said : List ℕ) : Type 0 where

@@ -3,7 +3,7 @@
 ghost use Rattle.std.specs.Prelude.{◌≡◌, IfOk, string_bytes};
 ghost use Rattle.std.specs.List.{flat_map};
 ghost use Rattle.sup_node.specs.Contents.{station_of};
-ghost use Rattle.sup_node_text.specs.Inspected.{IsInspectText, IsInspected, IsStillText, acked_line, node_at, stored_text};
+ghost use Rattle.sup_node_text.specs.Inspected.{IsInspectText, IsInspected, IsStillText, acked_line, node_at, number_line, stored_text};
 
 use crate::cut::cut_text;
 use crate::show::{down_text, show_text};
@@ -74,7 +74,7 @@ fn acked_text<W: Weigh>(
 
 // Nothing where the peer has acknowledged nothing.
 fn acked_line_text(alloc: Global, peer: &NodeName, number: u64) -> Result<String, AllocError>
-    ensures { IfOk result (λ s. string_bytes s ≡ acked_line (λ _. number) peer.now) }
+    ensures { IfOk result (λ s. string_bytes s ≡ number_line peer.now number) }
 {
     if number == 0 {
         return Ok(String::new(alloc));

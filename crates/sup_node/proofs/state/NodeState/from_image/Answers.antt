@@ -1,4 +1,5 @@
 use Rattle.std.specs.Prelude.{ℕ, []}
+use Rattle.std.specs.FinMap.{empty}
 use Rattle.std.proofs.Common.{ap, ◌∙◌}
 use Rattle.sup_anti_entropy.specs.Buffers.{restarted}
 use Rattle.sup_node.proofs.PlanLaws.{restart-is}
@@ -13,6 +14,6 @@ returns g c = let r = c.in_ok-replica.replica in
           c.intensity-intensity.result c.period-period.result c.intensity-intensity.ensures.value c.period-period.ensures.value _
           c.in_ok-replica.ensures.restarts
           (ap (λ b. record { node = r; held = b.held; room = b.room; acked = b.acked }) emptied
-          ∙ ap (λ (k : ℕ). record { node = r; held = []; room = k; acked = λ q. 0 }) c.buffer.ensures.value);
+          ∙ ap (λ (k : ℕ). record { node = r; held = []; room = k; acked = empty }) c.buffer.ensures.value);
       keeps = c.in_ok-replica.ensures.keeps;
     }

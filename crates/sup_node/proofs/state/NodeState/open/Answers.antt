@@ -3,7 +3,6 @@ use Rattle.std.proofs.Common.{sym, ap, subst}
 use Rattle.sup_specs.specs.declared.limits.TheConstants.{MAX}
 use Rattle.sup_tables.specs.States.{State}
 use Rattle.sup_tables.specs.Joined.{join_states}
-use Rattle.sup_anti_entropy.specs.Contents.{buffer_of}
 use Rattle.sup_anti_entropy.specs.Buffers.{holds_more}
 use Rattle.sup_local_sup.specs.Supervising.{Supervisor}
 use Rattle.sup_replica.specs.Nodes.{Node}
@@ -22,7 +21,7 @@ returns-in-Ok-clause-open c =
     let joined = join_states n.known l.delta in
     let rest = c.in-Ok.ensures.rest in
     let is = c.in-Touched.is in
-    let b = buffer_of c.args.self.buffer in
+    let b = c.args.self.buffer in
     record {
       tables = (ap (λ (m : Node State). m.known) rest, c.in-Ok.ensures.open joined (subst (λ (i : Intake). ChangesTables i n.known joined) is c.requires.tables));
       before = ap (λ (m : Node State). record { node = record m { known = n.known }; held = b.held; room = b.room; acked = b.acked }) (sym rest);

@@ -2,7 +2,6 @@ use Rattle.std.proofs.Common.{◌≡◌, true, refl, sym, ap, ◌∙◌, subst}
 use Rattle.sup_tables.specs.States.{State, IsKept}
 use Rattle.sup_tables.specs.Joined.{IsTables}
 use Rattle.sup_wire.specs.Drafts.{IsWhole}
-use Rattle.sup_anti_entropy.specs.Contents.{buffer_of}
 use Rattle.sup_replica.specs.declared.event.Event.TheVariants.{Ship}
 use Rattle.sup_replica.specs.Stations.{a_delta}
 use Rattle.sup_node.specs.NodeStates.{station_in}
@@ -29,7 +28,7 @@ whole_letter-requires-clause-fits c =
     )
 
 pub returns : goal.returns
-returns c = λ w now keeps. let n = c.args.self.now.replica in let b = buffer_of c.args.self.now.buffer in let mail = a_delta n.name c.args.to.now c.count-n.result true n.known in
+returns c = λ w now keeps. let n = c.args.self.now.replica in let b = c.args.self.now.buffer in let mail = a_delta n.name c.args.to.now c.count-n.result true n.known in
     let knows : c.context-context.result.now ≡ n.known.context = c.context-context.ensures.value ∙ ap (λ (t : State). t.context) c.tables.ensures in
     let is_whole : IsWhole n.known = whole-state n.known c.context-context.result.now (subst IsTables c.tables.ensures c.context-context.ensures.tables) (subst IsKept c.tables.ensures c.context-context.ensures.kept) c.requires.in_order knows
     c.counted.ensures in
