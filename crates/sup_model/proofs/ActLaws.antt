@@ -36,7 +36,7 @@ use Rattle.std.proofs.lemmas.List.{drop-map}
 use Rattle.std.proofs.lemmas.Option.{none-some}
 use Rattle.sup_model.proofs.IssueLaws.{some_same}
 use Rattle.sup_model.proofs.JointLaws.{Goes}
-use Rattle.sup_anti_entropy.specs.Buffers.{number_of}
+use Rattle.sup_anti_entropy.specs.Buffers.{number_of as acknowledged_number}
 
 less : (a b : ℕ) → b ≡ a + 1 → nat_lt a b ≡ true
 less a b e = le-leb (suc a) b (omega (arith, e))
@@ -93,7 +93,7 @@ module _ {K : Type 0} (k : Knowledge K) (view : StateView K) (laws : StateLaws k
   peer_with t st n past None letter = refl
   peer_with t st n past (Some x) letter =
       let e = letters-last t.post.sent x in
-      λ i. record { name = st.node.name; state = view.sem st.node.known; count = st.node.count; past = λ n. view.sem (past n); held = map view.sem st.held; acked = λ q. number_of st.acked q; sent = e i }
+      λ i. record { name = st.node.name; state = view.sem st.node.known; count = st.node.count; past = λ n. view.sem (past n); held = map view.sem st.held; acked = λ q. acknowledged_number st.acked q; sent = e i }
 
   one_grows : (name name' : Bytes) (c c' : ℕ) (past past' : ℕ → K) → name' ≡ name → c ≤ c' → ((n : ℕ) → n ≤ c → past' n ≡ past n) → (x : Mail K) (m : Message Ops)
       → MailStands view name c past x m → MailStands view name' c' past' x m
@@ -262,7 +262,7 @@ module _ {K : Type 0} (k : Knowledge K) (view : StateView K) (laws : StateLaws k
       let pasts : (i : ℕ) → past_with (λ i. view.sem (t.past i)) st.node.count (view.sem n.known) i ≡ view.sem (past_with t.past st.node.count n.known i) =
       λ i. elim (nat_le i st.node.count) as (λ b. (if b then view.sem (t.past i) else view.sem n.known) ≡ view.sem (if b then t.past i else n.known)) [ true ↦ refl | false ↦ refl ] in
       let same : changed (peer view t) st.room (view.sem n.known) (view.sem d) ≡ peer view (trio_with t (notes k st n d) m (past_with t.past st.node.count n.known) None None) =
-      λ i. record { name = sym name i; state = view.sem n.known; count = sym count i; past = λ x. pasts x i; held = sems i; acked = λ q. number_of st.acked q; sent = map (letter_of view) t.post.sent } in
+      λ i. record { name = sym name i; state = view.sem n.known; count = sym count i; past = λ x. pasts x i; held = sems i; acked = λ q. acknowledged_number st.acked q; sent = map (letter_of view) t.post.sent } in
       subst (Moves view.joins (ArePeersOf view j.trios) (peer view t)) same
       (moves_change view.joins (ArePeersOf view j.trios) (peer view t) st.room (view.sem n.known) (view.sem d) h.sound (t, here, refl) (record { more = c.0; delta = c.1; only = c.2 }))
 
@@ -275,7 +275,7 @@ module _ {K : Type 0} (k : Knowledge K) (view : StateView K) (laws : StateLaws k
       ap (λ b. if b then newest_of st.room (st.held ++ d ∷ []) else st.held) (not_less st.node.count n.count count) in
       let base : Peer Bytes view.S = record (peer view t) { state = view.sem n.known } in
       let same : base ≡ peer view (trio_with t (notes k st n d) m t.past None None) =
-      λ i. record { name = sym name i; state = view.sem n.known; count = sym count i; past = λ x. view.sem (t.past x); held = map view.sem (sym held i); acked = λ q. number_of st.acked q; sent = map (letter_of view) t.post.sent } in
+      λ i. record { name = sym name i; state = view.sem n.known; count = sym count i; past = λ x. view.sem (t.past x); held = map view.sem (sym held i); acked = λ q. acknowledged_number st.acked q; sent = map (letter_of view) t.post.sent } in
       subst (Moves view.joins (ArePeersOf view j.trios) (peer view t)) same
       (moves_alike view.joins (ArePeersOf view j.trios) (peer view t) (view.sem n.known) h.sound (t, here, refl) up down)
 
