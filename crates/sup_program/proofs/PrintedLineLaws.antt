@@ -18,7 +18,7 @@ use Rattle.sup_world.specs.declared.answer.Answer.{Answer}
 use Rattle.sup_world.specs.declared.settled.Settled.{Settled}
 use Rattle.sup_world.specs.CarriedSteps.{carried, letter_of, KnowsBytes}
 use Rattle.sup_world.specs.FollowedSteps.{StandsFor, FollowsModel, MakesRealStep}
-use Rattle.sup_world.specs.SeenNodes.{SeenNode, CanFail}
+use Rattle.sup_world.specs.SeenNodes.{SeenNode, CanFail, image_kept}
 use Rattle.sup_world.specs.Settlements.{SettlesBy}
 use Rattle.sup_world.specs.SettledSites.{SettlesTo}
 use Rattle.sup_world.specs.ToldAnswers.{ShowsReal}
