@@ -9,7 +9,7 @@ use Rattle.sup_node_gate.proofs.gate.NodeGate.read.Goals as goal
 
 pub give_back-requires : goal.give_back-requires
 give_back-requires g c = let t = c.requires.1 in let same = c.copied-copied.ensures.same.1 in let look = c.look-entries.ensures.1 in
-    (search rules, (t.0, holding_of g.K.Keeper.seen t.0, ap (λ m. m.0.turn) look.1 ∙ (ap (λ m. m.0.turn) same ∙ t.1), (refl, refl, λ s. s), ap (λ m. m.1) look.1 ∙ (ap (λ m. m.1) same ∙ t.2)))
+    (search rules, (t.0, holding_of g.K.Keeper.seen t.0, ap (λ m. m.0.turn) look.1 ∙ (ap (λ m. m.0.turn) same ∙ t.1), (refl, refl), ap (λ m. m.1) look.1 ∙ (ap (λ m. m.1) same ∙ t.2)))
 
 pub returns-in_err-letters-clause-idle : goal.returns-in_err-letters-clause-idle
 returns-in_err-letters-clause-idle g c = let t = c.requires.1 in let v = c.args.seat.now.me.0 in let h = holding_of g.K.Keeper.seen t.0 in
