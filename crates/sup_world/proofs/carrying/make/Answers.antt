@@ -1,4 +1,4 @@
-use Rattle.std.specs.Prelude.{◌≡◌, length, IsSome, Ok, Err}
+use Rattle.std.specs.Prelude.{◌≡◌, length, IsSome}
 use Rattle.std.proofs.Common.{subst, rules}
 use Rattle.sup_replica.specs.declared.done.Done.{Done}
 use Rattle.sup_replica.specs.declared.refusal.Refusal.TheVariants.{OutOfMemory}

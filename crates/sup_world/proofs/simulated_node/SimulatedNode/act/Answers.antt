@@ -2,7 +2,7 @@ use Rattle.std.proofs.Common.{ap, ◌∙◌, refl}
 use Rattle.sup_keeper.specs.Keeping.{memory_seen}
 use Rattle.sup_station.specs.KeptStations.{station_seen}
 use Rattle.sup_world.specs.SeenNodes.{seen_node_of, numbered}
-use Rattle.sup_world.proofs.CarriedActLaws.{refused_as, answered_as, before_as}
+use Rattle.sup_world.proofs.CarriedActLaws.{refused_as, answered_as}
 use Rattle.sup_world.proofs.KeeperLaws.{counts_done, counts_refused}
 use Rattle.sup_world.proofs.simulated_node.SimulatedNode.act.Goals as goal
 
