@@ -27,9 +27,9 @@ use Rattle.sup_world.specs.declared.answer.Answer.{Answer}
 use Rattle.sup_world.specs.StandingStations.{StationStands}
 use Rattle.sup_world.specs.CarriedSteps.{holds}
 use Rattle.sup_world.specs.Moves.{StationActs, MakesMove, ReadsIn, telling}
-use Rattle.sup_world.specs.SeenNodes.{SeenNode, IsAsBefore, with_letter, numbered}
+use Rattle.sup_world.specs.SeenNodes.{SeenNode, with_letter, numbered}
 use Rattle.sup_world.specs.ToldAnswers.{SiteStands, NodeAnswers}
-use Rattle.sup_world.proofs.KeeperLaws.{acts_so, refused_stays}
+use Rattle.sup_world.proofs.KeeperLaws.{acts_so}
 use Rattle.sup_world.proofs.StandingStationLaws.{stands, stands_telling}
 
 -- what saves nothing, since it takes no memory
@@ -140,11 +140,6 @@ module _ (g : Weigher) (s : SeenNode) (post : StationPost State) (mail : Option 
   refused_as (Err x) r t letters k e a =
       subst (λ (ls : List Letter). NodeAnswers the_step post act (Err x) (record { name = s.name; kept_station = t; letters = ls })) (sym e)
       (subst (λ (y : Refusal). NodeAnswers the_step post act (Err y) (record { name = s.name; kept_station = t; letters = s.letters })) (sym k) (refuses r t a))
-
--- a refused act leaves the node as it was
-pub before_as : (g : Weigher) (s : SeenNode) (act : Act) (now : ℕ) (saves : Bool) (r : Refusal) (t : StationSeen) (letters : List Letter) → letters ≡ s.letters → StationActs g s.kept_station act now saves (Err r) t
-    → IsAsBefore s (record { name = s.name; kept_station = t; letters = letters })
-before_as g s act now saves r t letters e a = let b = refused_stays g s.kept_station act now saves r t a in record { kept_station = b.same; found = b.found; letters = e }
 
 -- as many letters as there were before one more was put behind them are those
 fronts : (letters behind : List Letter) → take (length letters) (letters ++ behind) ≡ letters
