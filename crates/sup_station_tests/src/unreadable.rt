@@ -1,5 +1,5 @@
 //! A keeper that gives nothing back.
-ghost use Rattle.std.specs.Prelude.{◌+◌, ◌≡◌, ◌<◌, ◌≤◌};
+ghost use Rattle.std.specs.Prelude.{◌+◌, ◌≡◌, ◌≢◌};
 ghost use Rattle.sup_keeper.specs.declared.keeper.KeepFault.TheVariants.{Failed};
 
 use sup_keeper::{KeepFault, Keeper};
@@ -16,10 +16,8 @@ impl Unreadable {
     }
 
     fn fails(&mut self) -> KeepFault
-        ensures rose { result ≡ Failed → self.old.failures < self.new.failures }
-        ensures told { self.old.failures < self.new.failures → result ≡ Failed }
-        ensures never_falls { self.old.failures ≤ self.new.failures }
-        ensures by_one { self.new.failures ≤ self.old.failures + 1 }
+        ensures failed { result ≡ Failed → self.new.failures ≡ self.old.failures + 1 }
+        ensures uncounted { result ≢ Failed → self.new.failures ≡ self.old.failures }
     {
         if self.failures == u64::MAX {
             return KeepFault::OutOfMemory;
@@ -30,19 +28,10 @@ impl Unreadable {
 }
 
 impl Keeper for Unreadable {
-    ghost use Rattle.std.specs.Prelude.{[], false, None};
+    ghost use Rattle.std.specs.Prelude.{false, None};
 
-    ghost kept = { λ _. [] };
-
-    ghost found = { λ _. None };
-
-    ghost failures = { λ k. k.failures };
-
-    ghost failing = { λ _. false };
-
-    ghost sound = { λ _. false };
-
-    ghost readable = { λ _. false };
+    ghost seen = { λ k. record { found = None; failures = k.failures;
+        failing = false; sound = false; readable = false; lost = false } };
 
     fn save(&mut self, _bytes: &[u8]) -> Result<(), KeepFault> {
         Err(self.fails())

@@ -1,14 +1,18 @@
 -- One act more.
-use Rattle.std.proofs.Common.{◌≡◌, ℕ, ◌<◌, ◌+◌, List, [], ◌∷◌, ◌++◌, length, get_or, take, drop, Result, Ok, Err, IfErr, IsErrAnd, refl, ap, sym, ◌∙◌, subst}
+use Rattle.std.proofs.Common.{◌≡◌, ◌≢◌, ℕ, true, arith, inl, inr, ◌<◌, ◌+◌, List, [], ◌∷◌, ◌++◌, length, get_or, take, drop, Result, Ok, Err, IfErr, IsErrAnd, refl, ap, sym, ◌∙◌, subst}
 use Rattle.std.proofs.lemmas.List.{drop_more, take-append-drop}
 use Rattle.sup_placement.specs.Place.{Weigher}
 use Rattle.sup_replica.specs.declared.event.Act.{Act}
 use Rattle.sup_replica.specs.declared.done.Done.{Done}
 use Rattle.sup_replica.specs.declared.refusal.Refusal.{Refusal}
-use Rattle.sup_station.specs.KeptStations.{KeptStation, AnswersAct}
+use Rattle.sup_replica.specs.declared.refusal.Refusal.TheVariants.{KeepFailed}
+use Rattle.sup_keeper.specs.Keepers.{KeeperSeen}
+use Rattle.sup_station.specs.KeptStations.{StationSeen, AnswersAct}
+use Rattle.sup_station.proofs.AnswerLaws.{answered_rest}
 use Rattle.sup_uses.specs.Acts.{MakesActs}
+use Rattle.sup_uses.specs.Letters.{HasFailed, HasNotFailed}
 
-pub makes_more : (g : Weigher) (s : KeptStation) (acts : List Act) (t : KeptStation) (act : Act) (done : Done) (u : KeptStation)
+pub makes_more : (g : Weigher) (s : StationSeen) (acts : List Act) (t : StationSeen) (act : Act) (done : Done) (u : StationSeen)
     → MakesActs g s acts t → AnswersAct g t act 0 (Ok done) u → MakesActs g s (acts ++ act ∷ []) u
 makes_more g s [] t act done u made answers = (done, u, subst (λ x. AnswersAct g x act 0 (Ok done) u) made answers, refl)
 makes_more g s (first ∷ acts) t act done u made answers = (made.0, made.1, made.2, makes_more g made.1 acts t act done u made.3 answers)
@@ -27,3 +31,21 @@ stopped_by P (Err r) e same p = subst P (sym same) p
 pub handed_on : {T : Type 0} (result : Result T Refusal) (e r : Refusal) → IsErrAnd result (λ x. x ≡ e) → result ≡ Err r → e ≡ r
 handed_on (Ok done) e r same is = absurd same
 handed_on (Err x) e r same is = let told : x ≡ r = cc in sym same ∙ told
+
+-- a refusal of a station whose keeper is sound is no failure of that, and changes nothing
+pub refused_sound : (g : Weigher) (s : StationSeen) (act : Act) (r : Refusal) (t : StationSeen) → s.keeper.sound ≡ true → AnswersAct g s act 0 (Err r) t → AnswersAct g s act 0 (Err r) s × (r ≢ KeepFailed)
+refused_sound g s act r t sound (inl x) = let unsound = x.1.fails.unsound in absurd cc
+refused_sound g s act r t sound (inr x) = (inr (x.0, refl, x.2), x.0)
+
+-- an act that is answered counts no failure, and one that is refused for one counts it
+pub answered_uncounted : (g : Weigher) (s : StationSeen) (act : Act) (done : Done) (t : StationSeen) → AnswersAct g s act 0 (Ok done) t → HasNotFailed s t
+answered_uncounted g s act done t a = ap (λ (k : KeeperSeen). k.failures) (answered_rest g s act 0 done t a)
+
+pub refused_counted : (g : Weigher) (s : StationSeen) (act : Act) (r : Refusal) (t : StationSeen) → AnswersAct g s act 0 (Err r) t → r ≡ KeepFailed → HasFailed s t
+refused_counted g s act r t (inl x) e = let one = x.1.fails.counted in omega (arith, one)
+refused_counted g s act r t (inr x) e = absurd (x.0 e)
+
+-- one that is refused for another reason counts none, and changes nothing
+pub refused_other : (g : Weigher) (s : StationSeen) (act : Act) (r : Refusal) (t : StationSeen) → AnswersAct g s act 0 (Err r) t → r ≢ KeepFailed → (t ≡ s) × AnswersAct g s act 0 (Err r) s
+refused_other g s act r t (inl x) other = absurd (other x.0)
+refused_other g s act r t (inr x) other = (x.1, inr (x.0, refl, x.2))

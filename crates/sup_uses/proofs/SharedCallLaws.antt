@@ -4,10 +4,11 @@ use Rattle.std.proofs.lemmas.List.{map-append}
 use mathlib.Core.Option.{Option, some}
 use Rattle.sup_placement.specs.Place.{Weigher}
 use Rattle.sup_replica.specs.declared.event.Act.{Act}
+use Rattle.sup_station.specs.KeptStations.{StationSeen}
 use Rattle.sup_node_gate.specs.declared.entry.Entry.{Entry}
 use Rattle.sup_node_gate.specs.declared.view.View.{View}
 use Rattle.sup_node_gate.specs.Calls.{ActsInTurn, EntersCall, RefusesCall}
-use Rattle.sup_node_gate.specs.Histories.{CountedStation, StationAnswer, RefusalStanding, may_enter, entry}
+use Rattle.sup_node_gate.specs.Histories.{StationAnswer, RefusalStanding, may_enter, entry}
 use Rattle.sup_node_gate.specs.Shares.{IsWhole}
 use Rattle.sup_node_gate.specs.Shuffles.{IsShuffle}
 use Rattle.sup_node_gate.specs.Views.{calls_of}
@@ -16,10 +17,10 @@ use Rattle.sup_plan.specs.Calls.{call_of}
 use Rattle.sup_cluster.proofs.ShuffleImageLaws.{shuffle_of_images, some_injective}
 use Rattle.sup_uses.specs.SharedGates.{CallsAct, CallsActs, CallsBoth, IsSharedBy, at_first}
 
-entered : (g : Weigher) (s : CountedStation) (v : View) (act : Act) (r : StationAnswer) (v' : View) → EntersCall g s v (entry act 0 r) v' → CallsAct act v v'
+entered : (g : Weigher) (s : StationSeen) (v : View) (act : Act) (r : StationAnswer) (v' : View) → EntersCall g s v (entry act 0 r) v' → CallsAct act v v'
 entered g s v act r v' e = (entry act 0 r, refl, e.calls)
 
-pub called : (g : Weigher) (s : CountedStation) (bound : ℕ) (v : View) (act : Act) (r : StationAnswer) (v' : View) → may_enter r ≡ true → ActsInTurn g s bound v act 0 r v' → CallsAct act v v'
+pub called : (g : Weigher) (s : StationSeen) (bound : ℕ) (v : View) (act : Act) (r : StationAnswer) (v' : View) → may_enter r ≡ true → ActsInTurn g s bound v act 0 r v' → CallsAct act v v'
 called g s bound v act (Ok done) v' may x = entered g s v act (Ok done) v' x
 called g s bound v act (Err r) v' may x = entered g s v act (Err r) v' (subst (λ (k : RefusalStanding). RefusesCall k g s bound v (entry act 0 (Err r)) v') (enters r may) x)
 

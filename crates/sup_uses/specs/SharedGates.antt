@@ -1,18 +1,23 @@
 -- A node that threads share.
-use Rattle.std.specs.Prelude.{◌≡◌, List, [], ◌∷◌, ◌++◌, map}
+use Rattle.std.specs.Prelude.{◌≡◌, true, List, [], ◌∷◌, ◌++◌, map}
 use mathlib.Core.Option.{some}
 use Rattle.sup_placement.specs.Weights.{flat_weight}
 use Rattle.sup_replica.specs.declared.event.Act.{Act}
+use Rattle.sup_station.specs.KeptStations.{StationSeen}
 use Rattle.sup_node_gate.specs.declared.entry.Entry.{Entry}
 use Rattle.sup_node_gate.specs.declared.view.View.{View}
-use Rattle.sup_node_gate.specs.Histories.{CountedStation, ReplaysEntries}
+use Rattle.sup_node_gate.specs.Histories.{ReplaysEntries}
 use Rattle.sup_node_gate.specs.Shuffles.{IsShuffle}
 use Rattle.sup_node_gate.specs.Views.{calls_of}
 use Rattle.sup_plan.specs.Calls.{Call, call_of}
 
 -- the history, replayed from the station that was given, is what was answered, and leads to the one that comes back
-abbrev pub IsReplayed : CountedStation → CountedStation → List Entry → Type 0
+abbrev pub IsReplayed : StationSeen → StationSeen → List Entry → Type 0
 IsReplayed opening station history = ReplaysEntries flat_weight opening history station
+
+-- no save of its keeper fails but for memory
+abbrev pub IsSound : StationSeen → Type 0
+IsSound s = s.keeper.sound ≡ true
 
 -- the call of an act at the first moment
 abbrev pub at_first : Act → Call

@@ -2,8 +2,8 @@
 ghost use Rattle.std.specs.Prelude.{◌≡◌, ◌≢◌, ◌⊎◌, Err, IfErr, IfOk, OnErr, OnOk};
 ghost use Rattle.sup_keeper.specs.declared.keeper.KeepFault.TheVariants.{Failed};
 ghost use Rattle.sup_replica.specs.declared.refusal.Refusal.TheVariants.{KeepFailed, OutOfMemory};
-ghost use Rattle.sup_station.specs.KeptStations.{kept_station_of};
-ghost use Rattle.sup_uses.specs.Acts.{HasMade, IsRefusedAt, last_of};
+ghost use Rattle.sup_station.specs.KeptStations.{station_seen};
+ghost use Rattle.sup_uses.specs.Acts.{HasMade, IsRefusedAt, images_seen};
 
 use std::alloc::Global;
 use std::mem;
@@ -22,19 +22,9 @@ pub struct TwoImages {
 }
 
 impl Keeper for TwoImages {
-    ghost use Rattle.std.specs.Prelude.{false, true, Some};
+    ghost use Rattle.sup_uses.specs.Acts.{images_seen};
 
-    ghost kept = { λ k. k.last.items };
-
-    ghost found = { λ k. Some k.last.items };
-
-    ghost failures = { λ k. 0 };
-
-    ghost failing = { λ k. false };
-
-    ghost sound = { λ k. true };
-
-    ghost readable = { λ k. true };
+    ghost seen = { images_seen };
 
     fn save(&mut self, bytes: &[u8]) -> Result<(), KeepFault>
         ensures last { OnOk result (self.new.last.items ≡ bytes.now) }
@@ -72,7 +62,7 @@ pub fn keep<W: Weigh>(
     acts: &[Act],
     weigher: &W,
 ) -> Result<Station<TwoImages, W>, Refusal>
-    ensures made { IfOk result (λ s. HasMade W.weight_of name acts.now (kept_station_of last_of s)) }
+    ensures made { IfOk result (λ s. HasMade W.weight_of name acts.now (station_seen images_seen s)) }
     ensures kept { result ≢ Err KeepFailed }
     ensures refused { IfErr result (λ r. (r ≡ OutOfMemory) ⊎ IsRefusedAt W.weight_of name acts.now r) }
 {

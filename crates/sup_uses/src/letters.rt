@@ -1,8 +1,9 @@
 //! Two stations that exchange letters by hand.
-ghost use Rattle.std.specs.Prelude.{◌≡◌, ◌<◌, true, Err, IfErr, IfOk, OnOk};
+ghost use Rattle.std.specs.Prelude.{◌≡◌, true, Err, IfErr, IfOk, OnOk};
 ghost use Rattle.sup_replica.specs.declared.refusal.Refusal.TheVariants.{KeepFailed};
-ghost use Rattle.sup_station.specs.KeptStations.{keeper_of, kept_station_of};
-ghost use Rattle.sup_uses.specs.Letters.{BringsLetter, CountsFailure, CountsNone, IsUpToDate, MakesExchange, SendsLetter, StopsExchange, StopsLetter, StopsSending};
+ghost use Rattle.sup_station.specs.KeptStations.{station_seen};
+ghost use Rattle.sup_uses.specs.Letters.{both_seen, CountsFailure, CountsNone, HasFailed, HasNotFailed, IsUpToDate};
+ghost use Rattle.sup_uses.specs.Letters.{BringsLetter, MakesExchange, SendsLetter, StopsExchange, StopsLetter, StopsSending};
 
 use sup_keeper::Keeper;
 use sup_placement::Weigh;
@@ -25,14 +26,16 @@ pub fn exchange<K: Keeper, W: Weigh>(
     times: u32,
     weigher: &W,
 ) -> Result<bool, Refusal>
-    ensures left { IfOk result (λ all. all ≡ true → IsUpToDate W.weight_of (kept_station_of K.kept left.new) right_name) }
-    ensures right { IfOk result (λ all. all ≡ true → IsUpToDate W.weight_of (kept_station_of K.kept right.new) left_name) }
+    ensures left { IfOk result (λ all. all ≡ true → IsUpToDate W.weight_of (station_seen K.seen left.new) right_name) }
+    ensures right { IfOk result (λ all. all ≡ true → IsUpToDate W.weight_of (station_seen K.seen right.new) left_name) }
     ensures exchanged { IfOk result (λ all. MakesExchange W.weight_of left_name right_name times all
-        (kept_station_of K.kept left.old) (kept_station_of K.kept right.old) (kept_station_of K.kept left.new) (kept_station_of K.kept right.new)) }
+        (both_seen K.seen left.old right.old) (both_seen K.seen left.new right.new)) }
     ensures stopped { IfErr result (λ r. StopsExchange W.weight_of left_name right_name times r
-        (kept_station_of K.kept left.old) (kept_station_of K.kept right.old) (kept_station_of K.kept left.new) (kept_station_of K.kept right.new)) }
-    ensures rose { result ≡ Err KeepFailed → CountsFailure K.failures (keeper_of left.old) (keeper_of right.old) (keeper_of left.new) (keeper_of right.new) }
-    ensures uncounted { OnOk result (CountsNone K.failures (keeper_of left.old) (keeper_of right.old) (keeper_of left.new) (keeper_of right.new)) }
+        (both_seen K.seen left.old right.old) (both_seen K.seen left.new right.new)) }
+    ensures rose { result ≡ Err KeepFailed
+        → CountsFailure (both_seen K.seen left.old right.old) (both_seen K.seen left.new right.new) }
+    ensures uncounted { OnOk result
+        (CountsNone (both_seen K.seen left.old right.old) (both_seen K.seen left.new right.new)) }
 {
     for _ in 0..times {
         let there = send(left, right, right_name, weigher)?;
@@ -51,12 +54,13 @@ fn send<K: Keeper, W: Weigh>(
     receiver: NodeName,
     weigher: &W,
 ) -> Result<bool, Refusal>
-    ensures sends { IfOk result (λ sent. SendsLetter W.weight_of receiver (kept_station_of K.kept from.old) (kept_station_of K.kept to.old) sent
-        (kept_station_of K.kept from.new) (kept_station_of K.kept to.new)) }
-    ensures stops { IfErr result (λ r. StopsSending W.weight_of receiver (kept_station_of K.kept from.old) (kept_station_of K.kept to.old) r
-        (kept_station_of K.kept from.new) (kept_station_of K.kept to.new)) }
-    ensures rose { result ≡ Err KeepFailed → CountsFailure K.failures (keeper_of from.old) (keeper_of to.old) (keeper_of from.new) (keeper_of to.new) }
-    ensures uncounted { OnOk result (CountsNone K.failures (keeper_of from.old) (keeper_of to.old) (keeper_of from.new) (keeper_of to.new)) }
+    ensures sends { IfOk result (λ sent. SendsLetter W.weight_of receiver (station_seen K.seen from.old)
+        (station_seen K.seen to.old) sent (station_seen K.seen from.new) (station_seen K.seen to.new)) }
+    ensures stops { IfErr result (λ r. StopsSending W.weight_of receiver (station_seen K.seen from.old)
+        (station_seen K.seen to.old) r (station_seen K.seen from.new) (station_seen K.seen to.new)) }
+    ensures rose { result ≡ Err KeepFailed
+        → CountsFailure (both_seen K.seen from.old to.old) (both_seen K.seen from.new to.new) }
+    ensures uncounted { OnOk result (CountsNone (both_seen K.seen from.old to.old) (both_seen K.seen from.new to.new)) }
 {
     match from.step(Act::Event(Event::Ship(receiver)), 0, weigher) {
         Ok(done) => {
@@ -75,10 +79,12 @@ fn bring<K: Keeper, W: Weigh>(
     letter: Option<Letter>,
     weigher: &W,
 ) -> Result<Option<Letter>, Refusal>
-    ensures brings { IfOk result (λ answer. BringsLetter W.weight_of letter (kept_station_of K.kept to.old) answer (kept_station_of K.kept to.new)) }
-    ensures stops { IfErr result (λ r. StopsLetter W.weight_of letter (kept_station_of K.kept to.old) r (kept_station_of K.kept to.new)) }
-    ensures rose { result ≡ Err KeepFailed → K.failures (keeper_of to.old) < K.failures (keeper_of to.new) }
-    ensures uncounted { OnOk result (K.failures (keeper_of to.new) ≡ K.failures (keeper_of to.old)) }
+    ensures brings { IfOk result (λ answer.
+        BringsLetter W.weight_of letter (station_seen K.seen to.old) answer (station_seen K.seen to.new)) }
+    ensures stops { IfErr result (λ r.
+        StopsLetter W.weight_of letter (station_seen K.seen to.old) r (station_seen K.seen to.new)) }
+    ensures rose { result ≡ Err KeepFailed → HasFailed (station_seen K.seen to.old) (station_seen K.seen to.new) }
+    ensures uncounted { OnOk result (HasNotFailed (station_seen K.seen to.old) (station_seen K.seen to.new)) }
 {
     let Some(letter) = letter else {
         return Ok(None);

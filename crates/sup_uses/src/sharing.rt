@@ -1,13 +1,12 @@
 //! A node that two threads share.
 ghost use Rattle.std.specs.Prelude.{◌≡◌, ◌++◌, [], IfSome, true};
 ghost use Rattle.std.specs.Thread.{IsSync};
-ghost use Rattle.sup_node_gate.specs.InMemory.{failures_by, sound_by};
-ghost use Rattle.sup_station.specs.KeptStations.{keeper_of};
-ghost use Rattle.sup_station.specs.OpenedStations.{kept_by};
+ghost use Rattle.sup_keeper.specs.Keeping.{memory_seen};
+ghost use Rattle.sup_station.specs.KeptStations.{station_seen};
 ghost use Rattle.sup_node_gate.specs.Gates.{IsOf, view_of};
-ghost use Rattle.sup_node_gate.specs.Histories.{AllSaved, counted_of, may_enter};
+ghost use Rattle.sup_node_gate.specs.Histories.{AllSaved, may_enter};
 ghost use Rattle.sup_node_gate.specs.Shares.{halved};
-ghost use Rattle.sup_uses.specs.SharedGates.{CallsAct, CallsActs, CallsBoth, IsReplayed, IsSharedBy};
+ghost use Rattle.sup_uses.specs.SharedGates.{CallsAct, CallsActs, CallsBoth, IsReplayed, IsSharedBy, IsSound};
 
 use std::alloc::Global;
 use std::sync::Wait;
@@ -28,9 +27,11 @@ pub fn share<R: Threads + Wait + Sync>(
     left: &[Act],
     right: &[Act],
 ) -> Option<(Station<MemKeeper, FlatWeigh>, Vec<Entry>)>
-    ensures replayed { IfSome result (λ r. IsReplayed (counted_of kept_by failures_by station) (counted_of kept_by failures_by r.0) r.1.items) }
+    ensures replayed { IfSome result (λ r.
+        IsReplayed (station_seen memory_seen station) (station_seen memory_seen r.0) r.1.items) }
     ensures shared { IfSome result (λ r. IsSharedBy left.now right.now r.1.items) }
-    ensures saves { IfSome result (λ r. sound_by (keeper_of station) ≡ true → (sound_by (keeper_of r.0) ≡ true) × AllSaved r.1.items) }
+    ensures saves { IfSome result (λ r. IsSound (station_seen memory_seen station)
+        → IsSound (station_seen memory_seen r.0) × AllSaved r.1.items) }
 {
     let Ok((gate, pass)) = NodeGate::new(alloc, station, 1000) else {
         return None;
@@ -49,23 +50,24 @@ fn make_both<R: Threads + Wait + Sync>(
     left: &[Act],
     right: &[Act],
 ) -> Option<Pass<MemKeeper, FlatWeigh>>
-    requires of { IsOf kept_by failures_by sound_by gate.now pass }
+    requires of { IsOf memory_seen gate.now pass }
     requires fresh { (view_of pass).own ≡ [] }
-    ensures of { IfSome result (IsOf kept_by failures_by sound_by gate.now) }
+    ensures of { IfSome result (IsOf memory_seen gate.now) }
     ensures calls { IfSome result (λ p. CallsBoth left.now right.now (view_of p)) }
-    ensures shares { IfSome result (λ p. (view_of p).shares ≡ halved (view_of pass).shares ++ halved (view_of pass).shares) }
+    ensures shares { IfSome result (λ p.
+        (view_of p).shares ≡ halved (view_of pass).shares ++ halved (view_of pass).shares) }
 {
     let (one, other) = gate.split(pass);
     let (one, other) = join(
         rt,
         || -> Option<Pass<MemKeeper, FlatWeigh>>
-            requires { IsSync R.row × IsOf kept_by failures_by sound_by gate.now one }
-            ensures of { IfSome result (IsOf kept_by failures_by sound_by gate.entry.now) }
+            requires { IsSync R.row × IsOf memory_seen gate.now one }
+            ensures of { IfSome result (IsOf memory_seen gate.entry.now) }
             ensures calls { IfSome result (λ p. CallsActs left.entry.now (view_of one) (view_of p)) }
         { make_acts(rt, alloc, gate, one, left) },
         || -> Option<Pass<MemKeeper, FlatWeigh>>
-            requires { IsSync R.row × IsOf kept_by failures_by sound_by gate.now other }
-            ensures of { IfSome result (IsOf kept_by failures_by sound_by gate.entry.now) }
+            requires { IsSync R.row × IsOf memory_seen gate.now other }
+            ensures of { IfSome result (IsOf memory_seen gate.entry.now) }
             ensures calls { IfSome result (λ p. CallsActs right.entry.now (view_of other) (view_of p)) }
         { make_acts(rt, alloc, gate, other, right) },
     );
@@ -80,8 +82,8 @@ fn make_acts<R: Wait>(
     pass: Pass<MemKeeper, FlatWeigh>,
     acts: &[Act],
 ) -> Option<Pass<MemKeeper, FlatWeigh>>
-    requires { IsOf kept_by failures_by sound_by gate.now pass }
-    ensures of { IfSome result (IsOf kept_by failures_by sound_by gate.now) }
+    requires { IsOf memory_seen gate.now pass }
+    ensures of { IfSome result (IsOf memory_seen gate.now) }
     ensures calls { IfSome result (λ p. CallsActs acts.now (view_of pass) (view_of p)) }
 {
     let mut pass = pass;
@@ -101,8 +103,8 @@ fn make_act<R: Wait>(
     pass: &mut Pass<MemKeeper, FlatWeigh>,
     act: &Act,
 ) -> bool
-    requires { IsOf kept_by failures_by sound_by gate.now pass.old }
-    ensures of { IsOf kept_by failures_by sound_by gate.now pass.new }
+    requires { IsOf memory_seen gate.now pass.old }
+    ensures of { IsOf memory_seen gate.now pass.new }
     ensures calls { result ≡ true → CallsAct act.now (view_of pass.old) (view_of pass.new) }
     ensures shares { (view_of pass.new).shares ≡ (view_of pass.old).shares }
 {

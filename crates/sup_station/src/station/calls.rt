@@ -54,7 +54,8 @@ impl<K: Keeper, W: Weigh> Station<K, W> {
 
     /// A station whose node is stopped. A restart goes on from what the keeper keeps.
     pub fn stopped(alloc: Global, name: NodeName, config: Config, keeper: K) -> Station<K, W>
-        ensures still { station_seen K.seen result ≡ record { name = name; config = config; node = None; keeper = K.seen keeper } }
+        ensures still { station_seen K.seen result
+            ≡ record { name = name; config = config; node = None; keeper = K.seen keeper } }
         ensures keeper { keeper_of result ≡ keeper }
     {
         let node = None;
@@ -92,7 +93,8 @@ impl<K: Keeper, W: Weigh> Station<K, W> {
     /// refused as its node's plan is. A restart is refused with `KeepFailed` where the load fails, `BadMessage` where the
     /// bytes are no image of this node, `CountSpent` where the boot would pass `MAX`, and `OutOfMemory`.
     pub fn prepare(&mut self, act: &Act, now: u64, weigher: &W) -> Result<Prepared, Refusal>
-        ensures { Prepares W.weight_of (station_seen K.seen self.old) act.now now result (station_seen K.seen self.new) }
+        ensures { Prepares W.weight_of (station_seen K.seen self.old) act.now now result
+            (station_seen K.seen self.new) }
     {
         match act {
             Act::Event(event) => {
@@ -155,7 +157,8 @@ impl<K: Keeper, W: Weigh> Station<K, W> {
 impl<W: Weigh> Station<MemKeeper, W> {
     /// Whether the next save of its keeper fails. None does once `u64::MAX` have.
     pub fn fail_next(&mut self, fails: bool)
-        ensures { station_seen memory_seen self.new ≡ record (station_seen memory_seen self.old) { keeper = memory_seen (failing_next (keeper_of self.old) fails) } }
+        ensures { station_seen memory_seen self.new ≡ record (station_seen memory_seen self.old)
+            { keeper = memory_seen (failing_next (keeper_of self.old) fails) } }
     {
         self.keeper.fail_next(fails);
     }

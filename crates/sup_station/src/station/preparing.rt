@@ -96,7 +96,8 @@ impl<K: Keeper, W: Weigh> Station<K, W> {
 
     // Makes a restart ready.
     pub(super) fn prepare_restart(&mut self, now: u64, weigher: &W) -> Result<Prepared, Refusal>
-        ensures { Prepares W.weight_of (station_seen K.seen self.old) Restart now result (station_seen K.seen self.new) }
+        ensures { Prepares W.weight_of (station_seen K.seen self.old) Restart now result
+            (station_seen K.seen self.new) }
     {
         if self.node.is_some() {
             return Err(Refusal::AlreadyUp);

@@ -1,6 +1,6 @@
 use Rattle.std.proofs.Common.{arith, refl, inl, inr, ◌∙◌}
 use native.Mathlib.Numerals.{unary_clauses}
-use Rattle.sup_station.specs.KeptStations.{kept_station_of}
+use Rattle.sup_station.specs.KeptStations.{station_seen}
 use Rattle.sup_uses.specs.Letters.{StopsExchange}
 use Rattle.sup_uses.proofs.ActLaws.{stopped_by}
 use Rattle.sup_uses.proofs.letters.exchange.Goals as goal
@@ -10,16 +10,16 @@ loop-init g c = ((refl, refl), (refl, refl))
 
 pub loop-preserved : goal.loop-preserved
 loop-preserved g c =
-    let kept = kept_station_of g.K.Keeper.kept in
+    let seen = station_seen g.K.Keeper.seen in
     let there = c.in_ok-there.ensures.uncounted in
     let back = c.in_ok-back.ensures.uncounted in (
       simp unary_clauses (
-        kept c.loop.left,
-        kept c.loop.right,
+        seen c.loop.left,
+        seen c.loop.right,
         c.loop.invariant.0,
         record {
-          between_left = kept c.send.new.from;
-          between_right = kept c.send.new.to;
+          between_left = seen c.send.new.from;
+          between_right = seen c.send.new.to;
           there = c.in_ok-there.there;
           back = c.in_ok-back.back;
           left_sends = c.in_ok-there.ensures.sends;
@@ -32,28 +32,28 @@ loop-preserved g c =
 
 pub returns-in_err-there-clause-stopped : goal.returns-in_err-there-clause-stopped
 returns-in_err-there-clause-stopped g c =
-    let kept = kept_station_of g.K.Keeper.kept in
-    stopped_by (λ r. StopsExchange g.W.Weigh.weight_of c.args.left_name c.args.right_name c.args.times r (kept c.args.left.now) (kept c.args.right.now) (kept c.send.new.from) (kept c.send.new.to))
+    let seen = station_seen g.K.Keeper.seen in
+    stopped_by (λ r. StopsExchange g.W.Weigh.weight_of c.args.left_name c.args.right_name c.args.times r (seen c.args.left.now, seen c.args.right.now) (seen c.send.new.from, seen c.send.new.to))
     c.from_residual.result c.in_err-there.field-0.0 c.from_residual.ensures.1
     (record {
       rounds = c.loop.counter;
       fewer = omega arith;
-      between_left = kept c.loop.left;
-      between_right = kept c.loop.right;
+      between_left = seen c.loop.left;
+      between_right = seen c.loop.right;
       made = c.loop.invariant.0;
       stops = inl c.in_err-there.ensures.stops;
     })
 
 pub returns-in_err-back-clause-stopped : goal.returns-in_err-back-clause-stopped
 returns-in_err-back-clause-stopped g c =
-    let kept = kept_station_of g.K.Keeper.kept in
-    stopped_by (λ r. StopsExchange g.W.Weigh.weight_of c.args.left_name c.args.right_name c.args.times r (kept c.args.left.now) (kept c.args.right.now) (kept c.send-in-loop.new.to) (kept c.send-in-loop.new.from))
+    let seen = station_seen g.K.Keeper.seen in
+    stopped_by (λ r. StopsExchange g.W.Weigh.weight_of c.args.left_name c.args.right_name c.args.times r (seen c.args.left.now, seen c.args.right.now) (seen c.send-in-loop.new.to, seen c.send-in-loop.new.from))
     c.from_residual-in_err-back.result c.in_err-back.field-0.0 c.from_residual-in_err-back.ensures.1
     (record {
       rounds = c.loop.counter;
       fewer = omega arith;
-      between_left = kept c.loop.left;
-      between_right = kept c.loop.right;
+      between_left = seen c.loop.left;
+      between_right = seen c.loop.right;
       made = c.loop.invariant.0;
-      stops = inr (c.in_ok-there.there, kept c.send.new.from, kept c.send.new.to, c.in_ok-there.ensures.sends, c.in_err-back.ensures.stops);
+      stops = inr (c.in_ok-there.there, seen c.send.new.from, seen c.send.new.to, c.in_ok-there.ensures.sends, c.in_err-back.ensures.stops);
     })
