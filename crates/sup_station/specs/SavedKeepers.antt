@@ -1,8 +1,8 @@
 -- What a keeper becomes by what a station asks of it, by the answer that the station gives for it.
-use Rattle.std.specs.Prelude.{◌≡◌, ◌≢◌, false, Some, Result, Ok, Err}
+use Rattle.std.specs.Prelude.{◌≡◌, false, Some, Result, Ok, Err}
 use mathlib.Core.Logic.{◌⊎◌}
 use Rattle.sup_specs.specs.Values.{Bytes}
-use Rattle.sup_keeper.specs.Keepers.{KeeperSeen, SaveFailed, LoadFailed}
+use Rattle.sup_keeper.specs.Keepers.{KeeperSeen, SaveFailed}
 use Rattle.sup_replica.specs.declared.refusal.Refusal.{Refusal}
 use Rattle.sup_replica.specs.declared.refusal.Refusal.TheVariants.{KeepFailed, OutOfMemory}
 
