@@ -1,21 +1,18 @@
 -- A station and its parts, acts of the one as acts of the other, and what an answer says of a keeper that is sound.
 use Rattle.std.proofs.Common.{◌≡◌, ℕ, true, false, List, [], ◌∷◌, ◌++◌, refl, ap, ◌∙◌, sym, subst, Some, None, Ok, Err, inl, inr}
-use Rattle.std.specs.Prelude.{Option, Result}
+use Rattle.std.specs.Prelude.{Option}
 use Rattle.std.specs.Option.{option_map}
 use Rattle.sup_placement.specs.Place.{Weigher}
 use Rattle.sup_keeper.specs.Keepers.{KeeperSeen}
 use Rattle.sup_replica.specs.declared.event.Act.{Act}
-use Rattle.sup_replica.specs.declared.event.Act.TheVariants.{Event as Of, Stop, Restart}
-use Rattle.sup_replica.specs.declared.done.Done.{Done}
 use Rattle.sup_replica.specs.declared.refusal.Refusal.{Refusal}
 use Rattle.sup_replica.specs.declared.refusal.Refusal.TheVariants.{OutOfMemory, HistoryFull, KeepFailed}
 use Rattle.sup_node.specs.declared.node.Node.{Node}
-use Rattle.sup_node.specs.Changes.{image_of}
 use Rattle.sup_node.specs.Contents.{station_of}
 use Rattle.sup_node.specs.NodeStates.{station_in}
-use Rattle.sup_node.specs.NodeSteps.{stepped}
 use Rattle.sup_station.specs.declared.station.Station.{Station}
-use Rattle.sup_station.specs.KeptStations.{StationSeen, station_seen, KeepsImage, CarriesOutAct, AnswersAct}
+use Rattle.sup_station.specs.KeptStations.{StationSeen, station_seen, AnswersAct}
+use Rattle.sup_station.proofs.AnswerLaws.{answered_rest}
 use Rattle.sup_node_gate.specs.declared.view.Holding.{Holding}
 use Rattle.sup_node_gate.specs.Histories.{StationAnswer, is_saved, entered, standing_of, is_entered, may_enter, IsEntered, entry}
 use Rattle.sup_node_gate.specs.Parts.{parts_of, parts_seen, holding_seen, IsLike}
@@ -33,22 +30,9 @@ saved_otherwise : (r : Refusal) → ¬ (r ≡ KeepFailed) → is_saved (Err r) �
 saved_otherwise KeepFailed other = absurd (other refl)
 saved_otherwise r other = refl
 
-image_sound : (step : Result _ Refusal) (old new : KeeperSeen) (image : _) → KeepsImage step old new image → old.sound ≡ true → new.sound ≡ true
-image_sound (Ok move) old new image k h = ap (λ (x : KeeperSeen). x.sound) k ∙ h
-image_sound (Err r) old new image k h = ap (λ (x : KeeperSeen). x.sound) k.2.1 ∙ h
-
-carried_sound : (g : Weigher) (s : StationSeen) (node : Option _) (act : Act) (now : ℕ) (done : Done) (next : Option _) (new : KeeperSeen)
-    → CarriesOutAct g s node act now done next new → s.keeper.sound ≡ true → new.sound ≡ true
-carried_sound g s None (Of event) now done next new x h = absurd x
-carried_sound g s (Some n) (Of event) now done next new x h = image_sound (stepped g n event now x.mail false) s.keeper new (image_of x.move.station.node) x.keeps h
-carried_sound g s None Stop now done next new x h = absurd x
-carried_sound g s (Some n) Stop now done next new x h = ap (λ (k : KeeperSeen). k.sound) x.2 ∙ h
-carried_sound g s None Restart now done next new x h = ap (λ (k : KeeperSeen). k.sound) x.keeps.2.1 ∙ h
-carried_sound g s (Some n) Restart now done next new x h = absurd x
-
 -- a station whose keeper is sound answers no failed save, and stays so
 pub saves_answer : (g : Weigher) (s t : StationSeen) (act : Act) (now : ℕ) (answer : StationAnswer) → AnswersAct g s act now answer t → s.keeper.sound ≡ true → (t.keeper.sound ≡ true) × (is_saved answer ≡ true)
-saves_answer g s t act now (Ok done) a h = (carried_sound g s s.node act now done t.node t.keeper a.2 h, refl)
+saves_answer g s t act now (Ok done) a h = (ap (λ (k : KeeperSeen). k.sound) (answered_rest g s act now done t a) ∙ h, refl)
 saves_answer g s t act now (Err r) (inl x) h = let unsound = x.1.fails.unsound in absurd cc
 saves_answer g s t act now (Err r) (inr x) h = (ap (λ (u : StationSeen). u.keeper.sound) x.1 ∙ h, saved_otherwise r x.0)
 

@@ -19,6 +19,7 @@ use Rattle.sup_replica.specs.Stations.{Station, StationMove}
 use Rattle.sup_node.specs.Changes.{image_of}
 use Rattle.sup_node.specs.NodeSteps.{stepped}
 use Rattle.sup_station.specs.KeptStations.{StationSeen, KeepsImage, CarriesOutAct, AnswersAct, FailsToSave, ComesToSave}
+use Rattle.sup_station.proofs.AnswerLaws.{answered_rest}
 use Rattle.sup_world.specs.declared.answer.Answer.{Answer}
 use Rattle.sup_world.specs.CarriedSteps.{holds}
 use Rattle.sup_world.specs.Moves.{telling, StationActs}
@@ -80,19 +81,6 @@ module _ (g : Weigher) (s : StationSeen) (act : Act) (now : ℕ) (saves : Bool) 
 
 -- ---- how often its keeper has failed
 
-image_counted : (step : Result (StationMove State) Refusal) (old new : KeeperSeen) (image : Image) → KeepsImage step old new image → new.failures ≡ old.failures
-image_counted (Ok move) old new image k = ap (λ (x : KeeperSeen). x.failures) k
-image_counted (Err r) old new image k = ap (λ (x : KeeperSeen). x.failures) k.2.1
-
-carried_counted : (g : Weigher) (s : StationSeen) (node : Option (Station State)) (act : Act) (now : ℕ) (done : Done) (next : Option (Station State)) (new : KeeperSeen)
-    → CarriesOutAct g s node act now done next new → new.failures ≡ s.keeper.failures
-carried_counted g s None (Of event) now done next new x = absurd x
-carried_counted g s (Some n) (Of event) now done next new x = image_counted (stepped g n event now x.mail false) s.keeper new (image_of x.move.station.node) x.keeps
-carried_counted g s None Stop now done next new x = absurd x
-carried_counted g s (Some n) Stop now done next new x = ap (λ (k : KeeperSeen). k.failures) x.2
-carried_counted g s None Restart now done next new x = ap (λ (k : KeeperSeen). k.failures) x.keeps.2.1
-carried_counted g s (Some n) Restart now done next new x = absurd x
-
 -- it failed where that was told, and where a save was to fail
 abbrev FailsTold : Bool → Refusal → StationSeen → StationSeen → Type 0
 FailsTold saves r s t =
@@ -114,7 +102,7 @@ module _ (g : Weigher) (s : StationSeen) (act : Act) (now : ℕ) (saves : Bool) 
   done_counted : (done : Done) (t : StationSeen) → StationActs g s act now saves (Ok done) t → t.keeper.failures ≡ s.keeper.failures
   done_counted done t a =
       ap (λ (u : StationSeen). u.keeper.failures) a.ends
-      ∙ carried_counted g (telling s (not saves)) s.node act now done a.made.node a.made.keeper a.answers.2
+      ∙ ap (λ (k : KeeperSeen). k.failures) (answered_rest g (telling s (not saves)) act now done a.made a.answers)
 
   refused_counted : (r : Refusal) (made t : StationSeen) → AnswersAct g (telling s (not saves)) act now (Err r) made → t ≡ telling made false → FailsTold saves r s t
   refused_counted r made t (inl x) ends = inr (x.0, untold saves s.keeper.failures x.1.fails.unsound, ap (λ (u : StationSeen). u.keeper.failures) ends ∙ x.1.fails.counted)
