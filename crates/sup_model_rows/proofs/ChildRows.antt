@@ -9,6 +9,7 @@ use Rattle.sup_replica.specs.declared.letter.LetterKind.TheVariants.{Push}
 use Rattle.sup_replica.specs.declared.refusal.Refusal.TheVariants.{StaleExit}
 use Rattle.sup_model_rows.specs.Scripts.{◌⇒◌, show, letter, refused, Tells, prints}
 use Rattle.sup_model_rows.proofs.Lines.{join, join_as, leave, start, exit, push, stop, restart, deliver, at_moment}
+use Rattle.sup_model_rows.proofs.SeenWorlds.{tells}
 use Rattle.sup_model_rows.proofs.Words.{a, c, x, y, t, web, job, of_kind, sp, with_arg, restarts, flat, with_intensity, dot, begins, ends, did, did_with, sent}
 
 -- A restart just a period old still counts, so the second is one too many.
@@ -20,7 +21,7 @@ pub restarts_a_period_apart_still_count : Tells flat (a ∷ []) (
     ∷ show a ⇒ prints (codes "node a boot 1\nchild web (a,2) worker permanent 5000 arg= unplaced\n")
     ∷ [])
 unfolding has digits
-restarts_a_period_apart_still_count = (refl, refl)
+restarts_a_period_apart_still_count = tells (refl, refl)
 
 -- An older one does not.
 pub restarts_beyond_the_period_dont_count : Tells flat (a ∷ []) (
@@ -31,7 +32,7 @@ pub restarts_beyond_the_period_dont_count : Tells flat (a ∷ []) (
     ∷ show a ⇒ prints (codes "node a boot 1\nmember a (a,1) label=\nchild web (a,2) worker permanent 5000 arg= on a\nkept web 1.3\n")
     ∷ [])
 unfolding has digits
-restarts_beyond_the_period_dont_count = (refl, refl)
+restarts_beyond_the_period_dont_count = tells (refl, refl)
 
 -- Each run of a child has its specification.
 pub each_run_of_a_child_has_its_specification : Tells flat (a ∷ []) (
@@ -41,7 +42,7 @@ pub each_run_of_a_child_has_its_specification : Tells flat (a ∷ []) (
     ∷ at_moment 16 (exit a web 1 2 Crash) ⇒ did_with a Restarted (begins web (with_arg (codes "x") sp) 1 3 ∷ [])
     ∷ [])
 unfolding has digits
-each_run_of_a_child_has_its_specification = (refl, refl)
+each_run_of_a_child_has_its_specification = tells (refl, refl)
 
 -- With no restart allowed a node gives up at the first.
 pub an_intensity_of_0_gives_up_at_once : Tells (with_intensity 0 flat) (a ∷ []) (
@@ -50,7 +51,7 @@ pub an_intensity_of_0_gives_up_at_once : Tells (with_intensity 0 flat) (a ∷ []
     ∷ exit a x 1 1 Crash ⇒ did a (GaveUp (dot a 1 ∷ []))
     ∷ [])
 unfolding has digits
-an_intensity_of_0_gives_up_at_once = (refl, refl)
+an_intensity_of_0_gives_up_at_once = tells (refl, refl)
 
 -- A restarted child keeps its place. A moment is never before the last one; a node that gives up stops the others.
 pub a_restart_keeps_its_place : Tells flat (a ∷ []) (
@@ -63,7 +64,7 @@ pub a_restart_keeps_its_place : Tells flat (a ∷ []) (
     ∷ show a ⇒ prints (codes "node a boot 1\nchild x (a,2) worker permanent 5000 arg= unplaced\nchild y (a,3) worker permanent 5000 arg= unplaced\n")
     ∷ [])
 unfolding has digits
-a_restart_keeps_its_place = (refl, refl)
+a_restart_keeps_its_place = tells (refl, refl)
 
 -- A transient child is started again after a crash only. An exit of an old run is stale.
 pub a_transient_child_and_a_stale_exit : Tells flat (a ∷ []) (
@@ -75,7 +76,7 @@ pub a_transient_child_and_a_stale_exit : Tells flat (a ∷ []) (
     ∷ show a ⇒ prints (codes "node a boot 1\nmember a (a,1) label=\n")
     ∷ [])
 unfolding has digits
-a_transient_child_and_a_stale_exit = (refl, refl)
+a_transient_child_and_a_stale_exit = tells (refl, refl)
 
 -- A finished child leaves the other entry of its id there, which runs then.
 pub a_finish_removes_the_one_dot_that_ran : Tells flat (a ∷ c ∷ []) (
@@ -88,7 +89,7 @@ pub a_finish_removes_the_one_dot_that_ran : Tells flat (a ∷ c ∷ []) (
     ∷ show a ⇒ prints (codes "node a boot 1\nmember a (a,2) label=\nchild job (c,1) other temporary 5000 arg= on a\nkept job 1.2\n")
     ∷ [])
 unfolding has digits
-a_finish_removes_the_one_dot_that_ran = (refl, refl)
+a_finish_removes_the_one_dot_that_ran = tells (refl, refl)
 
 -- A member leaves, joins again, stops and restarts: each run has an incarnation of its own.
 pub a_member_leaves_rejoins_and_restarts : Tells flat (a ∷ []) (
@@ -101,4 +102,4 @@ pub a_member_leaves_rejoins_and_restarts : Tells flat (a ∷ []) (
     ∷ show a ⇒ prints (codes "node a boot 2\nmember a (a,3) label=back\nchild web (a,2) worker permanent 5000 arg= on a\nkept web 2.1\n")
     ∷ [])
 unfolding has digits
-a_member_leaves_rejoins_and_restarts = (refl, refl)
+a_member_leaves_rejoins_and_restarts = tells (refl, refl)

@@ -8,6 +8,7 @@ use Rattle.sup_replica.specs.declared.letter.LetterKind.TheVariants.{Part, Push,
 use Rattle.sup_replica.specs.declared.refusal.Refusal.TheVariants.{AlreadyMember, NotMember, AlreadyDraining, KeepFailed}
 use Rattle.sup_model_rows.specs.Scripts.{◌⇒◌, show, letter, refused, Tells, prints}
 use Rattle.sup_model_rows.proofs.Lines.{join, join_as, leave, drain, start, ship, push, deliver, fails}
+use Rattle.sup_model_rows.proofs.SeenWorlds.{tells}
 use Rattle.sup_model_rows.proofs.Words.{a, b, web, sp, weighed, flat, dot, begins, ends, did, did_with, sent}
 
 -- A drained member loses its child to one that is open.
@@ -27,7 +28,7 @@ pub a_drained_member_loses_its_child : Tells flat (a ∷ b ∷ []) (
     ∷ show b ⇒ prints (codes "node b boot 1\nmember a (b,2) draining label=\nmember b (b,1) label=\nchild web (a,2) worker permanent 5000 arg= on b\nkept web 1.1\n")
     ∷ [])
 unfolding has digits
-a_drained_member_loses_its_child = (refl, refl)
+a_drained_member_loses_its_child = tells (refl, refl)
 
 -- Two nodes drain one member: it drains once more, with its label, and a leave names both.
 pub a_member_is_drained_by_two : (weight : Weigher) → Tells (weighed weight) (a ∷ b ∷ []) (
@@ -45,7 +46,7 @@ pub a_member_is_drained_by_two : (weight : Weigher) → Tells (weighed weight) (
     ∷ drain a a ⇒ refused NotMember
     ∷ [])
 unfolding has digits
-a_member_is_drained_by_two weight = (refl, refl)
+a_member_is_drained_by_two weight = tells (refl, refl)
 
 -- A drain outlives a leave that has not seen it: the member is there, draining, until it leaves once more.
 pub a_drain_outlives_a_leave_beside_it : (weight : Weigher) → Tells (weighed weight) (a ∷ b ∷ []) (
@@ -63,7 +64,7 @@ pub a_drain_outlives_a_leave_beside_it : (weight : Weigher) → Tells (weighed w
     ∷ show a ⇒ prints (codes "node a boot 1\nmember a (a,2) label=\n")
     ∷ [])
 unfolding has digits
-a_drain_outlives_a_leave_beside_it weight = (refl, refl)
+a_drain_outlives_a_leave_beside_it weight = tells (refl, refl)
 
 -- The winner's status counts: a drain from before a member left and joined again drains it, until it leaves once more.
 pub an_older_drain_counts : Tells flat (a ∷ b ∷ []) (
@@ -81,4 +82,4 @@ pub an_older_drain_counts : Tells flat (a ∷ b ∷ []) (
     ∷ join a ⇒ did_with a (Added (dot a 4)) (begins web sp 1 2 ∷ [])
     ∷ [])
 unfolding has digits
-an_older_drain_counts = (refl, refl)
+an_older_drain_counts = tells (refl, refl)

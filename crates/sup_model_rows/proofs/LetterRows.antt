@@ -8,6 +8,7 @@ use Rattle.sup_replica.specs.declared.letter.LetterKind.TheVariants.{Part, Whole
 use Rattle.sup_replica.specs.declared.refusal.Refusal.TheVariants.{UpToDate, BadMessage, WrongReceiver}
 use Rattle.sup_model_rows.specs.Scripts.{◌⇒◌, show, inspect, letter, ok, refused, Tells, prints}
 use Rattle.sup_model_rows.proofs.Lines.{join, start, replace, delete, ship, push, stop, restart, deliver, deliver_at, deliver_cut}
+use Rattle.sup_model_rows.proofs.SeenWorlds.{tells}
 use Rattle.sup_model_rows.proofs.Words.{a, b, c, x, y, z, web, sp, with_arg, weighed, flat, with_room, dot, begins, ends, did, did_with, sent, knows_parts}
 
 -- An add that a removal has not seen outlives it.
@@ -26,7 +27,7 @@ pub an_add_beside_a_removal : Tells flat (a ∷ b ∷ []) (
     ∷ show b ⇒ prints (codes "node b boot 1\nmember a (a,1) label=\nchild web (a,3) worker permanent 5000 arg=x on a\n")
     ∷ [])
 unfolding has digits
-an_add_beside_a_removal = (refl, refl)
+an_add_beside_a_removal = tells (refl, refl)
 
 -- A child moves to the member of lesser name.
 pub a_child_moves_to_the_lesser_member : Tells flat (a ∷ b ∷ []) (
@@ -39,7 +40,7 @@ pub a_child_moves_to_the_lesser_member : Tells flat (a ∷ b ∷ []) (
     ∷ deliver b 1 ⇒ ok a Absorbed (begins web sp 1 1 ∷ []) (Some (letter a 2 b (Ack 3)))
     ∷ [])
 unfolding has digits
-a_child_moves_to_the_lesser_member = (refl, refl)
+a_child_moves_to_the_lesser_member = tells (refl, refl)
 
 -- What comes again is known, and is acknowledged again.
 pub a_repeated_delivery_is_acknowledged_again : (weight : Weigher) → Tells (weighed weight) (a ∷ b ∷ []) (
@@ -49,7 +50,7 @@ pub a_repeated_delivery_is_acknowledged_again : (weight : Weigher) → Tells (we
     ∷ deliver a 1 ⇒ sent b Known (letter b 2 a (Ack 1))
     ∷ [])
 unfolding has digits
-a_repeated_delivery_is_acknowledged_again weight = (refl, refl)
+a_repeated_delivery_is_acknowledged_again weight = tells (refl, refl)
 
 -- Where the buffer has lost a delta all is sent.
 pub an_overwritten_interval_is_sent_whole : (weight : Weigher) → Tells (with_room 1 (weighed weight)) (a ∷ b ∷ []) (
@@ -64,7 +65,7 @@ pub an_overwritten_interval_is_sent_whole : (weight : Weigher) → Tells (with_r
     ∷ show b ⇒ prints (codes "node b boot 1\nchild x (a,1) worker permanent 5000 arg= unplaced\nchild y (a,2) worker permanent 5000 arg= unplaced\nchild z (a,3) worker permanent 5000 arg= unplaced\n")
     ∷ [])
 unfolding has digits
-an_overwritten_interval_is_sent_whole weight = (refl, refl)
+an_overwritten_interval_is_sent_whole weight = tells (refl, refl)
 
 -- A node that restarted takes an acknowledgement from before, and sends what came after it.
 pub an_interval_after_a_restart : (weight : Weigher) → Tells (weighed weight) (a ∷ b ∷ []) (
@@ -79,7 +80,7 @@ pub an_interval_after_a_restart : (weight : Weigher) → Tells (weighed weight) 
     ∷ ship a b ⇒ sent a Sent (letter a 2 b (Part 2))
     ∷ [])
 unfolding has digits
-an_interval_after_a_restart weight = (refl, refl)
+an_interval_after_a_restart weight = tells (refl, refl)
 
 -- A message that is cut short is none; one for another node is refused.
 pub cut_and_misdirected_messages : (weight : Weigher) → Tells (weighed weight) (a ∷ b ∷ c ∷ []) (
@@ -90,7 +91,7 @@ pub cut_and_misdirected_messages : (weight : Weigher) → Tells (weighed weight)
     ∷ deliver a 1 ⇒ sent b Absorbed (letter b 1 a (Ack 1))
     ∷ [])
 unfolding has digits
-cut_and_misdirected_messages weight = (refl, refl)
+cut_and_misdirected_messages weight = tells (refl, refl)
 
 -- Pushes that come out of order leave a gap, until the last has come.
 pub pushes_out_of_order_leave_a_gap : (weight : Weigher) → Tells (weighed weight) (a ∷ b ∷ []) (
@@ -109,7 +110,7 @@ pub pushes_out_of_order_leave_a_gap : (weight : Weigher) → Tells (weighed weig
     ∷ inspect b ⇒ knows_parts 3 3 ((a, 3) ∷ []) []
     ∷ [])
 unfolding has digits
-pushes_out_of_order_leave_a_gap weight = (refl, refl)
+pushes_out_of_order_leave_a_gap weight = tells (refl, refl)
 
 -- A removal that comes before its add.
 pub a_removal_overtakes_its_add : (weight : Weigher) → Tells (weighed weight) (a ∷ b ∷ []) (
@@ -123,4 +124,4 @@ pub a_removal_overtakes_its_add : (weight : Weigher) → Tells (weighed weight) 
     ∷ inspect b ⇒ knows_parts 1 1 ((a, 1) ∷ []) []
     ∷ [])
 unfolding has digits
-a_removal_overtakes_its_add weight = (refl, refl)
+a_removal_overtakes_its_add weight = tells (refl, refl)

@@ -1,5 +1,6 @@
 mod Words
 mod Lines
+mod SeenWorlds
 mod TableRows
 mod ChildRows
 mod LetterRows

@@ -8,6 +8,7 @@ use Rattle.sup_replica.specs.declared.letter.LetterKind.TheVariants.{Part, Push,
 use Rattle.sup_replica.specs.declared.refusal.Refusal.TheVariants.{Down, KeepFailed}
 use Rattle.sup_model_rows.specs.Scripts.{◌⇒◌, show, letter, refused, Tells, prints}
 use Rattle.sup_model_rows.proofs.Lines.{join, start, replace, delete, ship, push, stop, restart, deliver, fails}
+use Rattle.sup_model_rows.proofs.SeenWorlds.{tells}
 use Rattle.sup_model_rows.proofs.Words.{a, b, x, web, sp, with_arg, weighed, flat, dot, begins, ends, did, did_with, sent}
 
 -- A save that fails leaves the dot free.
@@ -20,7 +21,7 @@ pub a_failed_save_leaves_the_dot_free : (weight : Weigher) → Tells (weighed we
     ∷ show a ⇒ prints (codes "node a boot 2\nchild x (a,1) worker permanent 5000 arg= unplaced\n")
     ∷ [])
 unfolding has digits
-a_failed_save_leaves_the_dot_free weight = (refl, refl)
+a_failed_save_leaves_the_dot_free weight = tells (refl, refl)
 
 -- A restart whose save fails leaves the node down.
 pub a_failed_save_of_a_restart : (weight : Weigher) → Tells (weighed weight) (a ∷ []) (
@@ -31,7 +32,7 @@ pub a_failed_save_of_a_restart : (weight : Weigher) → Tells (weighed weight) (
     ∷ show a ⇒ prints (codes "node a boot 2\n")
     ∷ [])
 unfolding has digits
-a_failed_save_of_a_restart weight = (refl, refl)
+a_failed_save_of_a_restart weight = tells (refl, refl)
 
 -- A stopped node takes nothing in. The message can come again later.
 pub a_delivery_at_a_stopped_node : (weight : Weigher) → Tells (weighed weight) (a ∷ b ∷ []) (
@@ -43,7 +44,7 @@ pub a_delivery_at_a_stopped_node : (weight : Weigher) → Tells (weighed weight)
     ∷ deliver a 1 ⇒ sent b Absorbed (letter b 1 a (Ack 1))
     ∷ [])
 unfolding has digits
-a_delivery_at_a_stopped_node weight = (refl, refl)
+a_delivery_at_a_stopped_node weight = tells (refl, refl)
 
 -- A step whose save fails changes nothing, and does the same when it is made again.
 pub an_add_beside_a_removal_with_failed_saves : Tells flat (a ∷ b ∷ []) (
@@ -67,4 +68,4 @@ pub an_add_beside_a_removal_with_failed_saves : Tells flat (a ∷ b ∷ []) (
     ∷ show b ⇒ prints (codes "node b boot 1\nmember a (a,1) label=\nchild web (a,3) worker permanent 5000 arg=x on a\n")
     ∷ [])
 unfolding has digits
-an_add_beside_a_removal_with_failed_saves = (refl, refl)
+an_add_beside_a_removal_with_failed_saves = tells (refl, refl)

@@ -9,6 +9,7 @@ use Rattle.sup_replica.specs.declared.letter.LetterKind.TheVariants.{Part, Ack}
 use Rattle.sup_replica.specs.declared.refusal.Refusal.TheVariants.{Down, AlreadyUp, UnknownNode, AlreadyPresent, NotFound, AlreadyMember, NotMember, NameTaken, NoSuchChild, NameUnknown, UpToDate, NoSuchMessage, KeepFailed, BadMessage, NothingToPush}
 use Rattle.sup_model_rows.specs.Scripts.{◌⇒◌, settle, show, find, letter, refused, settled, Tells, prints}
 use Rattle.sup_model_rows.proofs.Lines.{join, leave, start, replace, delete, register, unregister, ship, push, stop, restart, deliver, raw, fails}
+use Rattle.sup_model_rows.proofs.SeenWorlds.{tells}
 use Rattle.sup_model_rows.proofs.Words.{a, b, c, x, z, n, web, www, db, api, of_kind, sp, weighed, flat, with_messages, dot, begins, ends, did, did_with, sent}
 
 -- the messages among the raw words
@@ -30,7 +31,7 @@ pub an_empty_node_is_shown : (weight : Weigher) → Tells (weighed weight) (a �
     show a ⇒ prints (codes "node a boot 1\n")
     ∷ [])
 unfolding has digits
-an_empty_node_is_shown weight = (refl, refl)
+an_empty_node_is_shown weight = tells (refl, refl)
 
 -- Without members a child is nowhere.
 pub a_child_is_unplaced_without_members : (weight : Weigher) → Tells (weighed weight) (a ∷ []) (
@@ -38,7 +39,7 @@ pub a_child_is_unplaced_without_members : (weight : Weigher) → Tells (weighed 
     ∷ show a ⇒ prints (codes "node a boot 1\nchild web (a,1) worker permanent 5000 arg= unplaced\n")
     ∷ [])
 unfolding has digits
-a_child_is_unplaced_without_members weight = (refl, refl)
+a_child_is_unplaced_without_members weight = tells (refl, refl)
 
 -- The first refusals.
 pub first_refusals : (weight : Weigher) → Tells (weighed weight) (a ∷ b ∷ []) (
@@ -51,7 +52,7 @@ pub first_refusals : (weight : Weigher) → Tells (weighed weight) (a ∷ b ∷ 
     ∷ ship a a ⇒ refused UnknownNode
     ∷ [])
 unfolding has digits
-first_refusals weight = (refl, refl)
+first_refusals weight = tells (refl, refl)
 
 -- Words that look like endings are ids.
 pub words_that_look_like_endings_are_ids : (weight : Weigher) → Tells (weighed weight) (a ∷ []) (
@@ -62,7 +63,7 @@ pub words_that_look_like_endings_are_ids : (weight : Weigher) → Tells (weighed
     ∷ show a ⇒ prints (codes "node a boot 1\nchild !fail (a,2) worker permanent 5000 arg= unplaced\nchild @5 (a,1) worker permanent 5000 arg= unplaced\nchild kind=k (a,3) z permanent 5000 arg= unplaced\n")
     ∷ [])
 unfolding has digits
-words_that_look_like_endings_are_ids weight = (refl, refl)
+words_that_look_like_endings_are_ids weight = tells (refl, refl)
 
 -- A member starts its child.
 pub a_member_starts_its_child : Tells flat (a ∷ []) (
@@ -72,7 +73,7 @@ pub a_member_starts_its_child : Tells flat (a ∷ []) (
     ∷ show a ⇒ prints (codes "node a boot 1\nmember a (a,1) label=\nchild web (a,2) worker permanent 5000 arg= on a\nkept web 1.1\n")
     ∷ [])
 unfolding has digits
-a_member_starts_its_child = (refl, refl)
+a_member_starts_its_child = tells (refl, refl)
 
 -- A name is where its child is, and goes with it.
 pub names_follow_their_child : Tells flat (a ∷ []) (
@@ -87,7 +88,7 @@ pub names_follow_their_child : Tells flat (a ∷ []) (
     ∷ unregister a www ⇒ refused NameUnknown
     ∷ [])
 unfolding has digits
-names_follow_their_child = (refl, refl)
+names_follow_their_child = tells (refl, refl)
 
 -- A name that is taken back goes with its losers.
 pub unregister_takes_winner_and_loser : (weight : Weigher) → Tells (weighed weight) (a ∷ b ∷ []) (
@@ -102,7 +103,7 @@ pub unregister_takes_winner_and_loser : (weight : Weigher) → Tells (weighed we
     ∷ unregister a n ⇒ did a (Removed (dot b 1 ∷ dot a 2 ∷ []))
     ∷ [])
 unfolding has digits
-unregister_takes_winner_and_loser weight = (refl, refl)
+unregister_takes_winner_and_loser weight = tells (refl, refl)
 
 -- The least dot wins. Settling sends six messages, since one of the ships has nothing to send.
 pub the_least_dot_wins : (weight : Weigher) → Tells (weighed weight) (a ∷ b ∷ c ∷ []) (
@@ -112,7 +113,7 @@ pub the_least_dot_wins : (weight : Weigher) → Tells (weighed weight) (a ∷ b 
     ∷ show b ⇒ prints (codes "node b boot 1\nchild db (a,1) quick permanent 5000 arg= unplaced\nloser child db (c,1)\n")
     ∷ [])
 unfolding has digits
-the_least_dot_wins weight = (refl, refl)
+the_least_dot_wins weight = tells (refl, refl)
 
 -- Each refusal in its order. Of the two words that come raw the second is a message.
 pub each_refusal_in_order : (weight : Weigher) → Tells (with_messages words_that_are_messages (weighed weight)) (a ∷ b ∷ []) (
@@ -134,7 +135,7 @@ pub each_refusal_in_order : (weight : Weigher) → Tells (with_messages words_th
     ∷ raw a (codes "{\"from\":\"b\",\"kind\":\"ack\",\"n\":1,\"to\":\"a\",\"v\":1}") ⇒ refused NoSuchMessage
     ∷ [])
 unfolding has digits
-each_refusal_in_order weight = (refl, refl)
+each_refusal_in_order weight = tells (refl, refl)
 
 -- Raw words: two of them are messages, which nobody sent.
 pub raw_words_are_messages_or_not : (weight : Weigher) → Tells (with_messages words_that_are_messages (weighed weight)) (a ∷ []) (
@@ -149,7 +150,7 @@ pub raw_words_are_messages_or_not : (weight : Weigher) → Tells (with_messages 
     ∷ raw a (codes "{\"ctx\":{\"cloud\":[[\"a\",2]],\"vector\":{}},\"from\":\"a\",\"kind\":\"push\",\"rows\":[],\"to\":\"b\",\"v\":1}") ⇒ refused NoSuchMessage
     ∷ [])
 unfolding has digits
-raw_words_are_messages_or_not weight = (refl, refl)
+raw_words_are_messages_or_not weight = tells (refl, refl)
 
 -- Raw words of either version are messages, of another none.
 pub raw_words_of_both_versions : (weight : Weigher) → Tells (with_messages words_of_both_versions (weighed weight)) (a ∷ []) (
@@ -158,4 +159,4 @@ pub raw_words_of_both_versions : (weight : Weigher) → Tells (with_messages wor
     ∷ raw a (codes "{\"from\":\"b\",\"kind\":\"ack\",\"n\":1,\"to\":\"a\",\"v\":3}") ⇒ refused BadMessage
     ∷ [])
 unfolding has digits
-raw_words_of_both_versions weight = (refl, refl)
+raw_words_of_both_versions weight = tells (refl, refl)

@@ -105,10 +105,9 @@ abbrev pub told_by : {K : Type 0} → Knowledge K → (K → List Dot) → Optio
 told_by k dots o nodes asked = plays k dots (real_new k o.setting o.room (codec_of o.messages) nodes) asked
 
 -- a script in which each line tells what stands beside it, whether stations keep tables or lists of operations
-abbrev pub Tells : Options → List Bytes → List (Asked × Telling) → Type 0
-Tells o nodes lines =
-    (told_by by_tables (λ s. s.context) o nodes (map (λ l. l.0) lines) ≡ map (λ l. l.1) lines)
-    × (told_by by_operations (λ ops. rising dot_cmp (flat_map dots_of ops)) o nodes (map (λ l. l.0) lines) ≡ map (λ l. l.1) lines)
+pub record Tells (o : Options) (nodes : List Bytes) (lines : List (Asked × Telling)) : Type 0 where
+  pub over_tables : told_by by_tables (λ s. s.context) o nodes (map (λ l. l.0) lines) ≡ map (λ l. l.1) lines
+  pub over_operations : told_by by_operations (λ ops. rising dot_cmp (flat_map dots_of ops)) o nodes (map (λ l. l.0) lines) ≡ map (λ l. l.1) lines
 
 -- the steps of a script, without what else it asks
 abbrev pub steps_in : List Asked → List Step
