@@ -117,8 +117,14 @@ impl<D: Disk> Keeper for DiskKeeper<D> {
     ghost use Rattle.std.specs.Prelude.{true, false};
 
     // A disk may fail at any time, and a load gives the copy.
-    ghost seen = { λ k. record { found = k.copy; failures = k.failures;
-        failing = k.lost; sound = false; readable = true; lost = k.lost } };
+    ghost seen = { λ k. record {
+      found = k.copy;
+      failures = k.failures;
+      failing = k.lost;
+      sound = false;
+      readable = true;
+      lost = k.lost;
+    } };
 
     fn save(&mut self, bytes: &[u8]) -> Result<(), KeepFault>
         ensures keeps { OnOk result (self.new.copy ≡ Some bytes.now) }

@@ -72,8 +72,14 @@ impl Keeper for FuseKeeper {
     ghost use Rattle.std.specs.Prelude.{false, Some};
 
     // A load may fail where no save would be answered with success, so nothing can be said.
-    ghost seen = { λ k. record { found = Some k.inner.bytes; failures = k.failures;
-        failing = false; sound = false; readable = false; lost = false } };
+    ghost seen = { λ k. record {
+      found = Some k.inner.bytes;
+      failures = k.failures;
+      failing = false;
+      sound = false;
+      readable = false;
+      lost = false;
+    } };
 
     fn save(&mut self, bytes: &[u8]) -> Result<(), KeepFault>
         ensures blows { self.old.left ≡ Some 0 → (result ≡ Err Failed) × (self.new.inner ≡ self.old.inner) }

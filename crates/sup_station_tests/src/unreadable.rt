@@ -30,8 +30,14 @@ impl Unreadable {
 impl Keeper for Unreadable {
     ghost use Rattle.std.specs.Prelude.{false, None};
 
-    ghost seen = { λ k. record { found = None; failures = k.failures;
-        failing = false; sound = false; readable = false; lost = false } };
+    ghost seen = { λ k. record {
+      found = None;
+      failures = k.failures;
+      failing = false;
+      sound = false;
+      readable = false;
+      lost = false;
+    } };
 
     fn save(&mut self, _bytes: &[u8]) -> Result<(), KeepFault> {
         Err(self.fails())
