@@ -253,8 +253,8 @@ def open_in(status):
 
 
 def runs_in(status):
-    """Where each child runs that was started here."""
-    found = {child["id"]: [run[0] for run in child["runs"]] for child in status["children"]}
+    """Where each child runs that was started here, once its process is told: a run that was just begun has none yet."""
+    found = {child["id"]: [run[0] for run in child["runs"] if run[2]] for child in status["children"]}
     return {ident: found.get(ident, []) for ident in CHILDREN}
 
 
