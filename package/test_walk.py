@@ -22,6 +22,7 @@ from package.test_package import call, programs
 
 MISSING = "root" if os.geteuid() else next((package for package, command in (("debootstrap", "debootstrap"), ("iproute2", "ip"), ("dpkg", "dpkg-deb")) if not shutil.which(command)), None)
 CHILDREN = [f"web{number}" for number in range(5)]
+ALL = ["a", "b", "c"]
 NEWER = "99.0.0"
 PATH = "/usr/sbin:/usr/bin:/sbin:/bin"
 
@@ -101,6 +102,11 @@ class Machine:
     def status(self):
         return json.loads(self.do("sebrakt status --json"))
 
+    def tell_log(self):
+        """The last that its agent has said, for who looks why something failed."""
+        log = self.folder / "log"
+        print(f"    of {self.name}:", *(log.read_text(errors="replace").splitlines()[-30:] if log.exists() else ["no log"]), sep="\n    ", flush=True)
+
     def end(self):
         if self.first and self.first.poll() is None:
             self.kill()
@@ -154,6 +160,14 @@ class Walk(unittest.TestCase):
         return cls.folder / "base"
 
     def test_the_walk_of_the_page(self):
+        try:
+            self.walk()
+        except BaseException:
+            for machine in self.machines.values():
+                machine.tell_log()
+            raise
+
+    def walk(self):
         a, b, c = self.machines.values()
         clock = Clock()
         for machine in self.machines.values():
@@ -163,11 +177,11 @@ class Walk(unittest.TestCase):
         a.begin_agent()
         self.make_members(told)
         self.assertIn("is there already", a.do(f"sebrakt init --name a --address {a.address}:7001", status=2))
-        until(40, lambda: self.open_at(a) == ["a", "b", "c"], "all are members")
+        until(40, lambda: self.open_at(a) == ALL, "all are members")
         clock.tell("three are members")
         for child in CHILDREN:
             a.do(f"sebrakt start {child} --kind sleep --arg 100000 --wait")
-        until(20, self.all_run, "each child runs once")
+        until(20, lambda: self.is_well(ALL), "each child runs once, at its place")
         self.assertGreater(len(set(self.places().values())), 1)
         clock.tell("five children run")
         self.kill_one(c, clock)
@@ -186,25 +200,27 @@ class Walk(unittest.TestCase):
             machine.begin_agent()
 
     def open_at(self, machine):
-        return sorted(one["name"] for one in machine.status()["machines"] if one["member"] == "open")
+        return open_in(machine.status())
 
-    def places(self, at="a"):
+    def is_well(self, names, at="a"):
+        """Whether one status tells that these are the members and that each child runs once, at its place among them: who has just come back takes some over."""
+        status = self.machines[at].status()
+        return open_in(status) == names and {child["id"]: [child["place"]] for child in status["children"]} == runs_in(status)
+
+    def places(self):
         """Where each child runs that runs once."""
-        return {child["id"]: child["runs"][0][0] for child in self.machines[at].status()["children"] if len(child["runs"]) == 1}
+        return {ident: where[0] for ident, where in runs_in(self.machines["a"].status()).items() if len(where) == 1}
 
     def processes(self):
         return {child["id"]: [run[:1] + run[2:3] for run in child["runs"]] for child in self.machines["a"].status()["children"]}
 
-    def all_run(self, at="a"):
-        return sorted(self.places(at)) == CHILDREN
-
     def kill_one(self, machine, clock):
         machine.kill()
-        until(40, lambda: self.all_run() and machine.name not in self.places().values(), "its children run elsewhere")
+        until(40, lambda: self.is_well(without(machine)), "its children run elsewhere")
         clock.tell(f"{machine.name} killed, and all children elsewhere")
         machine.begin()
         machine.begin_agent()
-        until(40, lambda: self.open_at(self.machines["a"]) == ["a", "b", "c"] and self.all_run(), "it is back")
+        until(40, lambda: self.is_well(ALL), "it is back, with its children")
         clock.tell(f"{machine.name} is back")
 
     def upgrade_each(self, clock):
@@ -214,21 +230,36 @@ class Walk(unittest.TestCase):
             machine.install(self.packages[1])
             self.assertIn(NEWER, machine.do("dpkg-query -W sebrakt"))
             until(120, lambda: "goes on as its newer program" in machine.do("env XDG_CONFIG_HOME=/etc sebrakt upgrade || true"), "it is upgraded, once it has the time")
-            until(40, lambda: self.open_at(machine) == ["a", "b", "c"] and self.all_run(machine.name), f"{machine.name} is well")
+            until(40, lambda: self.is_well(ALL, machine.name), f"{machine.name} is well")
             self.assertTrue((machine.root / "etc/sebrakt/secret").exists())
-        until(40, self.all_run, "a knows that all run")  # it hears of those of the last one a moment later
+        until(40, lambda: self.is_well(ALL), "a knows that all run")  # it hears of those of the last one a moment later
         need(self.processes() == before, f"no child ends by an upgrade: {before}, now {self.processes()}")
         clock.tell("each upgraded")
 
     def remove(self, machine, clock):
         machine.end_agent()
-        until(20, lambda: self.all_run() and machine.name not in self.places().values(), "its children run elsewhere")
+        until(20, lambda: self.is_well(without(machine)), "its children run elsewhere")
         machine.do("dpkg -r sebrakt")
         self.assertTrue((machine.root / f"var/lib/sebrakt/{machine.name}.image").exists())
         self.assertFalse((machine.root / "usr/lib/sebrakt").exists())
         machine.do("dpkg -P sebrakt")
         self.assertFalse((machine.root / "etc/sebrakt").exists())
         clock.tell(f"{machine.name} purged")
+
+
+def open_in(status):
+    """The members that a status tells of, but for those that are drained."""
+    return sorted(one["name"] for one in status["machines"] if one["member"] == "open")
+
+
+def runs_in(status):
+    """Where each child runs that was started here, once its process is told: a run that was just begun has none yet."""
+    found = {child["id"]: [run[0] for run in child["runs"] if run[2]] for child in status["children"]}
+    return {ident: found.get(ident, []) for ident in CHILDREN}
+
+
+def without(machine):
+    return [name for name in ALL if name != machine.name]
 
 
 class Clock:

@@ -31,8 +31,9 @@ def newest_dot(answer, name):
     return max(map(int, dots), default=0)
 
 
-def knows_any_dot(answer):
-    return any(line.startswith(("vector ", "cloud ")) for line in answer.lines)
+def who_gave_dots(answer):
+    """The machines of whose dots `inspect` shows any."""
+    return set(re.findall(r"^(?:vector |cloud \()([^ ,]+)", "\n".join(answer.lines), re.MULTILINE))
 
 
 def whole_letter(image, sender, to):

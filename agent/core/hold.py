@@ -11,6 +11,7 @@ class Hold:
         self.since, self.first_word = now, 1  # until all others have heard the word of this number, nothing begins
         self.own, self.whole = None, frozenset()   # its newest dot; whose whole state it has taken up
         self.is_empty, self.is_old = False, False  # whether its image knows nothing; whether others knew more than it
+        self.has_met, self.first_others = False, None  # whether its image knows entries of others; which others it knew when it began, before these told it
         self.was_there = False                # whether it has run children before it met what hinders it now
         self.is_sure = False                  # whether it has begun
         self.unsealed, self.minds_secrets = set(), True  # the peers that it reached, and whose lines are sealed by another secret; whether that hinders it
@@ -18,7 +19,7 @@ class Hold:
 
     def begin_anew(self, next_word, now):
         """It begins, was held, or was hindered: it judges nobody by the time before that."""
-        self.since, self.first_word, self.members.judge_from = now, next_word, now
+        self.since, self.first_word, self.members.judge_from, self.first_others = now, next_word, now, self.members.others
 
     def begin_alone(self):
         """A person's word: nobody knows more than this machine, or nobody who does will come back."""
@@ -26,6 +27,8 @@ class Hold:
 
     def look(self, now):
         """What hinders it."""
+        if self.first_others is None:
+            self.first_others = self.members.others
         state = self.why(now)
         self.was_there = state == "" or self.was_there and state not in word.ASIDE
         return state
@@ -44,18 +47,22 @@ class Hold:
         if not self.is_image_good():
             return word.OLD
         unheard = self.unheard(now)
-        if now < self.ends() and (self.may_meet_any and (self.is_empty or not self.members.others) or self.untold() or unheard):
+        if now < self.ends() and (self.may_meet_others() or self.untold() or unheard):
             return word.BEGINS
         if unheard:
             return word.UNHEARD
         return word.FULL if self.is_full() else word.LATER if self.comes_later(now) else ""
 
+    def may_meet_others(self):
+        """Whether it may meet machines of which neither its words nor its image tell: nobody knows which there are, or it took all others out."""
+        return self.may_meet_any and self.is_empty or not self.first_others and (self.may_meet_any or self.has_met)
+
     def ends(self):
         return self.since + self.options.grace
 
     def untold(self):
-        """The others that haven't told what they run since this one begins, or not all that they know."""
-        return [name for name in sorted(self.members.others) if self.sight.echo.get(name, 0) < self.first_word or name not in self.whole]
+        """The others that haven't told what they run since this one begins, or not all that they know. Who was taken out meanwhile may run something yet."""
+        return [name for name in sorted(self.members.others | self.first_others) if self.sight.echo.get(name, 0) < self.first_word or name not in self.whole]
 
     def unheard(self, now):
         """Those that it hears, that haven't told all that they know, and don't tell to have heard what it says: no time passes over them. Who has begun knew
@@ -72,7 +79,8 @@ class Hold:
     # -- an image that was lost, or an older one
 
     def take_first_look(self, seen):
-        self.own, self.is_empty = answer.newest_dot(seen, self.name), not answer.knows_any_dot(seen)
+        self.own, known = answer.newest_dot(seen, self.name), answer.who_gave_dots(seen)
+        self.is_empty, self.has_met = not known, bool(known - {self.name})
 
     def compare(self, sender, seen):
         """Behind a whole state: whether its sender knew more of this machine than its image. Then dots could be given again."""

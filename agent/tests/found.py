@@ -150,6 +150,44 @@ at 0 begin b
 at 0 begin c
 end 8
 """
+TOOK_THE_OTHER_OUT = """
+flavour seeds
+machines a b
+chance 3090975024
+at 0.000 names a
+at 0.000 begin b
+at 0.903 begin a
+at 4.349 ask b start g4 kind=good shutdown=300
+at 8.704 kill-agent b 3.931
+at 11.217 cut 4 a>b b>a
+at 13.920 kill-agent a 3.442
+end 23.5
+"""
+TAKEN_OUT_MEANWHILE = """
+flavour broker
+machines a b c
+chance 3890331193
+option knows_peers 0
+at 0.725 begin b
+at 1.117 begin c
+at 1.871 begin a
+at 3.431 ask a start i2 kind=ignore shutdown=1000
+at 3.518 ask a start g5 kind=good shutdown=300
+at 3.591 ask c start g4 kind=good shutdown=1000
+at 3.691 ask a start g1 kind=good shutdown=300
+at 3.966 ask b start i3 kind=ignore shutdown=300
+at 4.353 ask c start g6 kind=good shutdown=2000
+at 6.180 cut 4 a>c b>c c>a c>b
+at 6.306 kill-node a
+at 6.510 ask c delete g1
+at 8.819 stop-agent b 4
+at 9.477 lose-power a 6.445
+at 10.326 ask a delete g1
+at 10.880 ask c replace i3 kind=good arg=945
+at 10.972 ask a replace i2 kind=good arg=802
+at 11.030 cut 4 a>b a>c b>a c>a
+end 11.5
+"""
 STARTED_BEHIND_A_JOIN = """
 flavour slow
 machines a b c
@@ -171,6 +209,8 @@ FOUND = {  # as the simulator made them small, or as they were told
     "an older image isn't gone on with beside a machine that is heard, and doesn't hear": UNHEARD,
     "a machine that is heard for a moment, and may be dead then, is waited for no longer": CUT_OFF_AT_ITS_BEGIN,
     "two machines that name the same third one alone, and begin at once, become members": NAMED_BY_TWO,
+    "a machine that names nobody and took the other one out waits for it when it comes back": TOOK_THE_OTHER_OUT,
+    "a machine that comes back waits for one that was taken out meanwhile": TAKEN_OUT_MEANWHILE,
     "a child that is started right behind a join begins at its place": STARTED_BEHIND_A_JOIN,
     "behind a broker a machine that took all others out waits for those that it may meet when it comes back": BEHIND_A_BROKER,
 }

@@ -66,6 +66,10 @@ def take_no_runs(runs, table):
     runs.keys = table["keys"]
 
 
+def waits_for_members_alone(self):
+    return [name for name in UNTOLD(self) if name in self.members.others]
+
+
 def tell_a_join_with_the_next_turn(self, one, before):
     if self.core.name not in one.whole:
         self.send_whole(one)
@@ -77,7 +81,7 @@ def misses_words_that_cannot_have_come_yet(self, now):
     return word.UNHEARD if state == word.BEGINS and has_begun and not self.untold() and self.unheard(now) else state
 
 
-TAKE, TAKE_LETTER, TAKE_NEWS, WHY = shell.Shell.take, letters.Letters.take, telling.Telling.take_news, hold.Hold.why
+TAKE, TAKE_LETTER, TAKE_NEWS, WHY, UNTOLD = shell.Shell.take, letters.Letters.take, telling.Telling.take_news, hold.Hold.why, hold.Hold.untold
 MUTANTS = [
     # as agents once were
     Mutant("a cut between two of three makes children jump", "cut", ("settles under a cut that stands",),
@@ -125,6 +129,10 @@ MUTANTS = [
            found.NAMED_BY_TWO),
     Mutant("what who begins had to refuse is sent again with the next turn alone", "slow", ("nobody pays",),
            {(letters.Letters, "take_word"): tell_a_join_with_the_next_turn}, found.STARTED_BEHIND_A_JOIN),
+    Mutant("who took all others out and names nobody begins at once", "seeds", ("once while all hear one another",),
+           {(hold.Hold, "may_meet_others"): lambda self: self.may_meet_any and (self.is_empty or not self.members.others)}, found.TOOK_THE_OTHER_OUT),
+    Mutant("who begins waits for nobody that was taken out meanwhile", "broker", ("once while all hear one another",), {(hold.Hold, "untold"): waits_for_members_alone},
+           found.TAKEN_OUT_MEANWHILE),
     Mutant("letters are taken of whose sender's whole state nothing is known", "image", ("no dot is given twice",), {(letters.Letters, "take"): take_any_letter},
            found.CUT_OFF_AT_ITS_BEGIN),
 ]

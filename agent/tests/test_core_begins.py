@@ -89,6 +89,29 @@ class Begins(unittest.TestCase):
             states.add(machine.core.state)
         self.assertEqual((machine.begun(), states), (["w"], {word.BEGINS, ""}))
 
+    def test_who_names_nobody_and_has_met_others_waits_for_those_that_may_come(self):
+        for seen, began_before in (["vector a 1", "vector b 3"], []), (["vector a 1"], ["w"]):
+            machine = Machine([], answers=False)
+            machine.answers["inspect"] = ["node a boot 2", *seen]
+            machine.is_quick = True
+            machine.take("answered", [machine.answer(line) for line, in of(machine.done, "ask")])
+            machine.wait(2.9)
+            self.assertEqual(machine.begun(), began_before, seen)
+            machine.wait(0.3)
+            self.assertEqual(machine.begun(), ["w"], seen)
+
+    def test_who_was_taken_out_meanwhile_is_waited_for(self):
+        machine = Machine(["b", "c"])
+        machine.core.members.peers.clear()  # its image alone told of them
+        machine.take("link", "b", True)
+        machine.hear()
+        machine.answers["deliver"], machine.answers["members"] = ["ok absorbed"], [f"member {one} ({one},1) label=x" for one in "ab"]
+        machine.take("letter", "b", (1, "b's"), "whole {}")
+        machine.hear_for(2)
+        self.assertEqual((machine.core.members.others, machine.begun()), ({"b"}, []))
+        machine.hear_for(1.2)
+        self.assertEqual(machine.begun(), ["w"])
+
     def test_who_does_not_hear_a_machine_that_began_is_waited_for_no_longer_once_it_is_silent(self):
         machine = Machine(["b"])
         machine.hear_for(5, heard={})

@@ -89,12 +89,13 @@ class Upgraded(Machines):
         return all(one["member"] == "open" and not one["hinders"] and one["how"] in ("here", "in touch") for one in told["machines"])
 
     def processes(self, idents=IDS):
-        """The process of each child, once each is told: a run that was just begun has none yet."""
+        """The process of each child, once each is told: a run that was just begun has none yet, and of one elsewhere nothing may be known."""
         found = {}
 
         def are_told():
-            found.update((child["id"], child["runs"][0][2]) for child in self.status(self.names[0])["children"] if child["id"] in idents)
-            return all(found.values())
+            runs = {child["id"]: child["runs"] for child in self.status(self.names[0])["children"] if child["id"] in idents}
+            found.update((ident, of[0][2] if of else 0) for ident, of in runs.items())
+            return found.keys() == set(idents) and all(found.values())
 
         until(10, are_told, f"the processes of {idents} are told")
         return found

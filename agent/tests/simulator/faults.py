@@ -29,6 +29,7 @@ def lose(world, seconds, chance, *pairs):
 def delay(world, seconds, late, *pairs):
     """delay SECONDS LATE A>B.. : lines from A to B are so late."""
     degrade(world, world.network.slow, late, seconds, pairs)
+    world.after(float(seconds) + float(late), world.network.changes)
 
 
 # -- agents and machines

@@ -114,7 +114,8 @@ class Network:
 
     def is_good(self, pair):
         one, other = map(self.world.machines.get, pair)
-        return self.is_connected(one, other) and pair not in self.cuts and self.loss.get(pair, 0) <= LOSSY and self.slow.get(pair, 0) <= SLOW
+        is_late = self.last.get(pair, 0) > self.world.now + SLOW  # lines of before wait yet, and all others behind them
+        return self.is_connected(one, other) and not is_late and pair not in self.cuts and self.loss.get(pair, 0) <= LOSSY and self.slow.get(pair, 0) <= SLOW
 
 
 def reach(names, has_line):

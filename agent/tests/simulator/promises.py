@@ -1,6 +1,7 @@
 """What the agents promise: each as a function, by whose name it is told, that gives what in a world breaks it."""
 import collections
 
+from core.node import NO_NODE
 from simulator.nodes import weight
 
 BOUND = 45               # seconds after the last fault within which all has to be well
@@ -130,16 +131,18 @@ def begins_are_bounded(world, script):
 
 
 def no_command_is_lost(world, script):
-    """What was answered `ok` by a machine whose disk held isn't lost."""
-    done = {"start": set(), "delete": set(), "replace": set()}
+    """What was answered `ok` by a machine whose disk held isn't lost. What nobody answered, since the node ended meanwhile, may be done or not."""
+    done, untold = {"start": set(), "delete": set(), "replace": set()}, set()
     for token, command in world.commands.items():
         reply, (verb, ident) = world.replies.get(token, [""])[0], command.line.split(" ")[:2]
         if reply.startswith("ok") and verb in done and not is_lost(world, command, reply):
             done[verb].add(ident)
+        elif reply in ("", *NO_NODE) and verb != "start":
+            untold.add(ident)
     there = {key for table, key, _ in next(iter(world.machines.values())).state().rows.values() if table == "child"}
-    for ident in done["start"] - done["delete"] - done["replace"] - there:
+    for ident in done["start"] - done["delete"] - done["replace"] - untold - there:
         yield f"{ident} was started, and isn't there"
-    for ident in done["delete"] & there - done["replace"]:
+    for ident in done["delete"] & there - done["replace"] - untold:
         if not any(machine.losses for machine in world.machines.values()):
             yield f"{ident} was deleted, and is there"
 
