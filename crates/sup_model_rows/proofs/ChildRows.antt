@@ -9,7 +9,7 @@ use Rattle.sup_replica.specs.declared.letter.LetterKind.TheVariants.{Push}
 use Rattle.sup_replica.specs.declared.refusal.Refusal.TheVariants.{StaleExit}
 use Rattle.sup_model_rows.specs.Scripts.{◌⇒◌, show, letter, refused, Tells, prints}
 use Rattle.sup_model_rows.proofs.Lines.{join, join_as, leave, start, exit, push, stop, restart, deliver, at_moment}
-use Rattle.sup_model_rows.proofs.SeenWorlds.{tells}
+use Rattle.sup_model_rows.proofs.ComputedWorlds.{tells}
 use Rattle.sup_model_rows.proofs.Words.{a, c, x, y, t, web, job, of_kind, sp, with_arg, restarts, flat, with_intensity, dot, begins, ends, did, did_with, sent}
 
 -- A restart just a period old still counts, so the second is one too many.

@@ -8,7 +8,7 @@ use Rattle.sup_replica.specs.declared.letter.LetterKind.TheVariants.{Part, Push,
 use Rattle.sup_replica.specs.declared.refusal.Refusal.TheVariants.{AlreadyMember, NotMember, AlreadyDraining, KeepFailed}
 use Rattle.sup_model_rows.specs.Scripts.{◌⇒◌, show, letter, refused, Tells, prints}
 use Rattle.sup_model_rows.proofs.Lines.{join, join_as, leave, drain, start, ship, push, deliver, fails}
-use Rattle.sup_model_rows.proofs.SeenWorlds.{tells}
+use Rattle.sup_model_rows.proofs.ComputedWorlds.{tells}
 use Rattle.sup_model_rows.proofs.Words.{a, b, web, sp, weighed, flat, dot, begins, ends, did, did_with, sent}
 
 -- A drained member loses its child to one that is open.

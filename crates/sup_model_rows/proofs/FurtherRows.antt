@@ -10,7 +10,7 @@ use Rattle.sup_replica.specs.declared.refusal.Refusal.TheVariants.{UpToDate}
 use Rattle.sup_replica.specs.Stations.{a_delta}
 use Rattle.sup_model_rows.specs.Scripts.{◌⇒◌, letter, refused, Tells, mail_after}
 use Rattle.sup_model_rows.proofs.Lines.{start, ship, stop, restart, deliver}
-use Rattle.sup_model_rows.proofs.SeenWorlds.{tells, mail_is_seen}
+use Rattle.sup_model_rows.proofs.ComputedWorlds.{tells, mail_computes}
 use Rattle.sup_model_rows.proofs.Words.{a, b, x, y, sp, weighed, dot, did, sent}
 
 -- A restart forgets what was acknowledged, and the deltas: all is sent, though the other knows it.
@@ -33,4 +33,4 @@ pub an_interval_brings_the_new_row_alone : (weight : Weigher) → mail_after (we
     (start a x sp ∷ ship a b ∷ deliver a 1 ∷ stop a ∷ restart a ∷ deliver b 1 ∷ ship a b ∷ start a y sp ∷ ship a b ∷ []) a 2
     ≡ Some (a_delta a b 2 false (record { context = dot a 2 ∷ []; rows = row_of (dot a 2) (Child y sp) ∷ [] }))
 unfolding has
-an_interval_brings_the_new_row_alone weight = mail_is_seen (weighed weight) (a ∷ b ∷ []) (start a x sp ∷ ship a b ∷ deliver a 1 ∷ stop a ∷ restart a ∷ deliver b 1 ∷ ship a b ∷ start a y sp ∷ ship a b ∷ []) a 2
+an_interval_brings_the_new_row_alone weight = mail_computes (weighed weight) (a ∷ b ∷ []) (start a x sp ∷ ship a b ∷ deliver a 1 ∷ stop a ∷ restart a ∷ deliver b 1 ∷ ship a b ∷ start a y sp ∷ ship a b ∷ []) a 2

@@ -8,7 +8,7 @@ use Rattle.sup_replica.specs.declared.letter.LetterKind.TheVariants.{Part, Whole
 use Rattle.sup_replica.specs.declared.refusal.Refusal.TheVariants.{UpToDate, BadMessage, WrongReceiver}
 use Rattle.sup_model_rows.specs.Scripts.{◌⇒◌, show, inspect, letter, ok, refused, Tells, prints}
 use Rattle.sup_model_rows.proofs.Lines.{join, start, replace, delete, ship, push, stop, restart, deliver, deliver_at, deliver_cut}
-use Rattle.sup_model_rows.proofs.SeenWorlds.{tells}
+use Rattle.sup_model_rows.proofs.ComputedWorlds.{tells}
 use Rattle.sup_model_rows.proofs.Words.{a, b, c, x, y, z, web, sp, with_arg, weighed, flat, with_room, dot, begins, ends, did, did_with, sent, knows_parts}
 
 -- An add that a removal has not seen outlives it.

@@ -1,6 +1,6 @@
 mod Words
 mod Lines
-mod SeenWorlds
+mod ComputedWorlds
 mod TableRows
 mod ChildRows
 mod LetterRows

@@ -8,7 +8,7 @@ use Rattle.sup_replica.specs.declared.letter.LetterKind.TheVariants.{Part, Push,
 use Rattle.sup_replica.specs.declared.refusal.Refusal.TheVariants.{Down, KeepFailed}
 use Rattle.sup_model_rows.specs.Scripts.{◌⇒◌, show, letter, refused, Tells, prints}
 use Rattle.sup_model_rows.proofs.Lines.{join, start, replace, delete, ship, push, stop, restart, deliver, fails}
-use Rattle.sup_model_rows.proofs.SeenWorlds.{tells}
+use Rattle.sup_model_rows.proofs.ComputedWorlds.{tells}
 use Rattle.sup_model_rows.proofs.Words.{a, b, x, web, sp, with_arg, weighed, flat, dot, begins, ends, did, did_with, sent}
 
 -- A save that fails leaves the dot free.

@@ -9,7 +9,7 @@ use Rattle.sup_replica.specs.declared.letter.LetterKind.TheVariants.{Part, Ack}
 use Rattle.sup_replica.specs.declared.refusal.Refusal.TheVariants.{Down, AlreadyUp, UnknownNode, AlreadyPresent, NotFound, AlreadyMember, NotMember, NameTaken, NoSuchChild, NameUnknown, UpToDate, NoSuchMessage, KeepFailed, BadMessage, NothingToPush}
 use Rattle.sup_model_rows.specs.Scripts.{◌⇒◌, settle, show, find, letter, refused, settled, Tells, prints}
 use Rattle.sup_model_rows.proofs.Lines.{join, leave, start, replace, delete, register, unregister, ship, push, stop, restart, deliver, raw, fails}
-use Rattle.sup_model_rows.proofs.SeenWorlds.{tells}
+use Rattle.sup_model_rows.proofs.ComputedWorlds.{tells}
 use Rattle.sup_model_rows.proofs.Words.{a, b, c, x, z, n, web, www, db, api, of_kind, sp, weighed, flat, with_messages, dot, begins, ends, did, did_with, sent}
 
 -- the messages among the raw words
