@@ -1,5 +1,6 @@
 //! Stories of a keeper over a disk.
 
+use crate::sure::{Sure, open_surely, replace_surely, save_surely};
 use std::process::Abort;
 use sup_disk::{
     Disk, DiskKeeper, FileLock, ImageKeeper, LockFault, MemDisk, Next, ReplaceFault, SystemDisk,
@@ -165,4 +166,16 @@ fn a_file_in_a_folder_that_is_not_there_keeps_nothing(rt: HostRuntime) {
     let mut keeper = opened(&rt, disk);
     assert_eq!(rt; keeper.save(b"one"), Err(KeepFault::Failed));
     assert!(rt; keeper.is_new() && !keeper.is_lost());
+}
+
+#[test]
+fn over_a_disk_that_works_each_save_holds(rt: HostRuntime) {
+    let mut disk = Sure;
+    replace_surely(&mut disk, b"one");
+    let mut keeper = open_surely(rt.alloc());
+    assert!(rt; save_surely(&mut keeper, b"one").is_ok());
+    assert!(rt; save_surely(&mut keeper, b"another").is_ok());
+    assert_eq!(rt; keeper.stored(), b"another".as_slice());
+    assert_eq!(rt; keeper.failures(), 0);
+    assert!(rt; !keeper.is_lost());
 }
