@@ -1,5 +1,5 @@
 -- A station and its parts, acts of the one as acts of the other, and what an answer says of a keeper that is sound.
-use Rattle.std.proofs.Common.{◌≡◌, ℕ, true, false, List, [], ◌∷◌, ◌++◌, refl, ap, ◌∙◌, sym, subst, Some, None, Ok, Err, inl, inr}
+use Rattle.std.proofs.Common.{◌≡◌, ◌+◌, ℕ, Bool, true, false, List, [], ◌∷◌, ◌++◌, refl, ap, ◌∙◌, sym, subst, Some, None, Ok, Err, inl, inr}
 use Rattle.std.specs.Prelude.{Option}
 use Rattle.std.specs.Option.{option_map}
 use Rattle.sup_placement.specs.Place.{Weigher}
@@ -35,6 +35,17 @@ pub saves_answer : (g : Weigher) (s t : StationSeen) (act : Act) (now : ℕ) (an
 saves_answer g s t act now (Ok done) a h = (ap (λ (k : KeeperSeen). k.sound) (answered_rest g s act now done t a) ∙ h, refl)
 saves_answer g s t act now (Err r) (inl x) h = let unsound = x.1.fails.unsound in absurd cc
 saves_answer g s t act now (Err r) (inr x) h = (ap (λ (u : StationSeen). u.keeper.sound) x.1 ∙ h, saved_otherwise r x.0)
+
+-- the count after a call that failed, or that didn't
+abbrev pub count_after : Bool → ℕ → ℕ
+count_after true n = n
+count_after false n = n + 1
+
+-- the keeper's count rises by one where the answer says that it failed, and else it stays
+pub counts_answer : (g : Weigher) (s t : StationSeen) (act : Act) (now : ℕ) (answer : StationAnswer) → AnswersAct g s act now answer t → t.keeper.failures ≡ count_after (is_saved answer) s.keeper.failures
+counts_answer g s t act now (Ok done) a = ap (λ (k : KeeperSeen). k.failures) (answered_rest g s act now done t a)
+counts_answer g s t act now (Err r) (inl x) = x.1.fails.counted ∙ ap (λ (q : Refusal). count_after (is_saved (Err q)) s.keeper.failures) (sym x.0)
+counts_answer g s t act now (Err r) (inr x) = ap (λ (u : StationSeen). u.keeper.failures) x.1 ∙ ap (λ b. count_after b s.keeper.failures) (sym (saved_otherwise r x.0))
 
 pub enters : (r : Refusal) → is_entered r ≡ true → standing_of r ≡ entered
 enters HistoryFull e = absurd cc
