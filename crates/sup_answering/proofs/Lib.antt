@@ -3,4 +3,3 @@ pub mod OnePeerLaws
 pub mod LentStationLaws
 pub mod ToldTextLaws
 pub mod UnbegunNodeLaws
-pub mod CountLaws

@@ -1,11 +1,11 @@
 //! How a node begins.
 
-ghost use Rattle.std.specs.Prelude.{◌≡◌, ◌≢◌, [], true, false, Ok, IfOk, IfErr};
+ghost use Rattle.std.specs.Prelude.{◌≡◌, [], true, false, Ok, IfOk, IfErr};
 ghost use Rattle.sup_replica.specs.declared.refusal.Refusal.TheVariants.{BadMessage};
-ghost use Rattle.sup_station.specs.KeptStations.{RefusesRestart, keeper_of, kept_station_of};
+ghost use Rattle.sup_keeper.specs.Keepers.{kept};
+ghost use Rattle.sup_station.specs.KeptStations.{IsForeign, keeper_of, station_seen};
 ghost use Rattle.sup_told.specs.Told.{told_text};
-ghost use Rattle.sup_answering.specs.AnsweringNodes.{RisesWhere};
-ghost use Rattle.sup_answering.specs.BegunNodes.{BeginsStation, FailsAtSave, IsImageFault, IsNoBegin, IsUnkept, LeavesStation, standing_of, stopped, stopped_over};
+ghost use Rattle.sup_answering.specs.BegunNodes.{BeginsNode, FailsToBegin, IsImageFault, IsWhyStopped, stopped};
 
 use crate::filter::Filter;
 use std::alloc::{AllocError, Global};
@@ -68,8 +68,8 @@ pub struct Unbegun<K: ImageKeeper, W: Weigh + Drop> {
 /// # Errors
 ///
 /// As [`BeginFault`] tells. The station is one of this name and settings that was stopped then, and keeps what was kept; or, where memory was
-/// refused to the first answer of a node that had begun, it is that node's. The keeper's count of failures has risen, by one, where the
-/// refusal is `KeepFailed`, and only there. Over a keeper that can be read, that is told of a next boot only where its save fails.
+/// refused to the first answer of a node that had begun, it is that node's. The keeper has failed once more where the refusal is
+/// `KeepFailed`, and only there. Over a keeper that can be read, that is told of a next boot only where its save fails.
 pub fn begin<K: ImageKeeper, W: Weigh + Drop>(
     alloc: Global,
     name: NodeName,
@@ -78,14 +78,12 @@ pub fn begin<K: ImageKeeper, W: Weigh + Drop>(
     is_new: bool,
     weigher: W,
 ) -> Result<Begun<K, W>, Unbegun<K, W>>
-    ensures begins { IfOk result (λ b. BeginsStation K.kept W.weight_of is_new name config keeper b.filter.station b.first.items) }
+    ensures begins { IfOk result (λ b. BeginsNode W.weight_of is_new (stopped name config (K.seen keeper))
+        (station_seen K.seen b.filter.station) b.first.items) }
     ensures name { IfOk result (λ b. b.filter.name ≡ name) }
     ensures peers { IfOk result (λ b. b.filter.peers.items ≡ []) }
-    ensures uncounted { IfOk result (λ b. K.failures (keeper_of b.filter.station) ≡ K.failures keeper) }
-    ensures fault { IfErr result (λ u. IsNoBegin W.weight_of is_new name config (K.kept keeper) u.fault) }
-    ensures leaves { IfErr result (λ u. LeavesStation W.weight_of is_new (stopped_over name config (K.kept keeper) (K.found keeper)) u.fault (standing_of K.kept K.found u.station)) }
-    ensures counted { IfErr result (λ u. RisesWhere (IsUnkept u.fault) (K.failures keeper) (K.failures (keeper_of u.station))) }
-    ensures order { IfErr result (λ u. is_new ≡ false → K.readable keeper ≡ true → IsUnkept u.fault → FailsAtSave W.weight_of name config (K.kept keeper)) }
+    ensures fault { IfErr result (λ u. FailsToBegin W.weight_of is_new (stopped name config (K.seen keeper)) u.fault
+        (station_seen K.seen u.station)) }
 {
     if is_new {
         open(alloc, name, config, keeper, weigher)
@@ -102,13 +100,12 @@ fn open<K: ImageKeeper, W: Weigh + Drop>(
     keeper: K,
     weigher: W,
 ) -> Result<Begun<K, W>, Unbegun<K, W>>
-    ensures begins { IfOk result (λ b. BeginsStation K.kept W.weight_of true name config keeper b.filter.station b.first.items) }
+    ensures begins { IfOk result (λ b. BeginsNode W.weight_of true (stopped name config (K.seen keeper))
+        (station_seen K.seen b.filter.station) b.first.items) }
     ensures name { IfOk result (λ b. b.filter.name ≡ name) }
     ensures peers { IfOk result (λ b. b.filter.peers.items ≡ []) }
-    ensures uncounted { IfOk result (λ b. K.failures (keeper_of b.filter.station) ≡ K.failures keeper) }
-    ensures fault { IfErr result (λ u. IsNoBegin W.weight_of true name config (K.kept keeper) u.fault) }
-    ensures leaves { IfErr result (λ u. LeavesStation W.weight_of true (stopped_over name config (K.kept keeper) (K.found keeper)) u.fault (standing_of K.kept K.found u.station)) }
-    ensures counted { IfErr result (λ u. RisesWhere (IsUnkept u.fault) (K.failures keeper) (K.failures (keeper_of u.station))) }
+    ensures fault { IfErr result (λ u. FailsToBegin W.weight_of true (stopped name config (K.seen keeper)) u.fault
+        (station_seen K.seen u.station)) }
 {
     let station = match Station::new(alloc, name, config, keeper) {
         Ok(station) => station,
@@ -131,7 +128,7 @@ fn unopened<K: ImageKeeper, W: Weigh + Drop>(
 ) -> Unbegun<K, W>
     ensures fault { result.fault ≡ BeginFault.Refused refused.reason }
     ensures keeper { keeper_of result.station ≡ refused.keeper }
-    ensures station { kept_station_of K.kept result.station ≡ stopped name config (K.kept refused.keeper) }
+    ensures station { station_seen K.seen result.station ≡ stopped name config (K.seen refused.keeper) }
 {
     let Refused { keeper, reason } = refused;
     Unbegun {
@@ -148,14 +145,12 @@ fn go_on<K: ImageKeeper, W: Weigh + Drop>(
     keeper: K,
     weigher: W,
 ) -> Result<Begun<K, W>, Unbegun<K, W>>
-    ensures begins { IfOk result (λ b. BeginsStation K.kept W.weight_of false name config keeper b.filter.station b.first.items) }
+    ensures begins { IfOk result (λ b. BeginsNode W.weight_of false (stopped name config (K.seen keeper))
+        (station_seen K.seen b.filter.station) b.first.items) }
     ensures name { IfOk result (λ b. b.filter.name ≡ name) }
     ensures peers { IfOk result (λ b. b.filter.peers.items ≡ []) }
-    ensures uncounted { IfOk result (λ b. K.failures (keeper_of b.filter.station) ≡ K.failures keeper) }
-    ensures fault { IfErr result (λ u. IsNoBegin W.weight_of false name config (K.kept keeper) u.fault) }
-    ensures leaves { IfErr result (λ u. LeavesStation W.weight_of false (stopped_over name config (K.kept keeper) (K.found keeper)) u.fault (standing_of K.kept K.found u.station)) }
-    ensures counted { IfErr result (λ u. RisesWhere (IsUnkept u.fault) (K.failures keeper) (K.failures (keeper_of u.station))) }
-    ensures order { IfErr result (λ u. K.readable keeper ≡ true → IsUnkept u.fault → FailsAtSave W.weight_of name config (K.kept keeper)) }
+    ensures fault { IfErr result (λ u. FailsToBegin W.weight_of false (stopped name config (K.seen keeper)) u.fault
+        (station_seen K.seen u.station)) }
 {
     let mut station = Station::stopped(alloc, name, config, keeper);
     match station.step(Act::Restart, 0, &weigher) {
@@ -206,11 +201,8 @@ fn restart_fault<K: ImageKeeper, W: Weigh + Drop>(
     station: &Station<K, W>,
     refusal: Refusal,
 ) -> BeginFault
-    requires { RefusesRestart W.weight_of (kept_station_of K.kept station.now) refusal }
-    ensures fault { let s = kept_station_of K.kept station.now in IsNoBegin W.weight_of false s.name s.config s.kept result }
-    ensures same { (r : Refusal) → result ≡ BeginFault.Refused r → r ≡ refusal }
-    ensures refused { refusal ≢ BadMessage → result ≡ BeginFault.Refused refusal }
-    ensures wants { result ≡ BeginFault.NoMemory → refusal ≡ BadMessage }
+    requires { refusal ≡ BadMessage → IsForeign (station_seen K.seen station.now).name (kept (K.seen (keeper_of station.now))) }
+    ensures { IsWhyStopped refusal (station_seen K.seen station.now).name (kept (K.seen (keeper_of station.now))) result }
 {
     match refusal {
         Refusal::BadMessage => image_fault(alloc, station.keeper().stored()),

@@ -1,8 +1,8 @@
 //! A station that answers lines.
 
-ghost use Rattle.std.specs.Prelude.{◌≡◌, ◌<◌, ◌≤◌, ◌+◌, Err, IfOk, OnOk, OnErr};
-ghost use Rattle.sup_replica.specs.declared.refusal.Refusal.TheVariants.{KeepFailed};
-ghost use Rattle.sup_station.specs.KeptStations.{AnswersAct, keeper_of, kept_station_of};
+ghost use Rattle.std.specs.Prelude.{◌≡◌, IfOk, OnOk, OnErr};
+ghost use Rattle.sup_keeper.specs.Keepers.{kept};
+ghost use Rattle.sup_station.specs.KeptStations.{AnswersAct, keeper_of, station_seen};
 ghost use Rattle.sup_node_text.specs.Shown.{show_text, where_text};
 ghost use Rattle.sup_told.specs.Told.{ended_text};
 ghost use Rattle.sup_answering.specs.Heard.{HearsPeers, with_peer};
@@ -38,10 +38,10 @@ impl<K: ImageKeeper, W: Weigh + Drop> Filter<K, W> {
     ///
     /// Where memory was refused, for the text or to note who acknowledged. What is asked for may be done then, and nothing else is.
     pub fn answer_asked(&mut self, asked: Option<Asked>) -> Result<Vec<u8>, AllocError>
-        ensures answers { IfOk result (λ text. AnswersAsked W.weight_of (node_at K.kept K.failures K.lost self.old.name self.old.station self.old.peers) asked text.items
-            (node_at K.kept K.failures K.lost self.new.name self.new.station self.new.peers)) }
-        ensures lacks { OnErr result (LacksAsked W.weight_of (node_at K.kept K.failures K.lost self.old.name self.old.station self.old.peers) asked
-            (node_at K.kept K.failures K.lost self.new.name self.new.station self.new.peers)) }
+        ensures answers { IfOk result (λ text. AnswersAsked W.weight_of (node_at K.seen self.old.name self.old.station self.old.peers) asked text.items
+            (node_at K.seen self.new.name self.new.station self.new.peers)) }
+        ensures lacks { OnErr result (LacksAsked W.weight_of (node_at K.seen self.old.name self.old.station self.old.peers) asked
+            (node_at K.seen self.new.name self.new.station self.new.peers)) }
     {
         match asked {
             None => bad_text(self.alloc),
@@ -56,10 +56,10 @@ impl<K: ImageKeeper, W: Weigh + Drop> Filter<K, W> {
 
     // Does an event, and tells its end.
     fn answer_event(&mut self, event: Event, now: u64) -> Result<Vec<u8>, AllocError>
-        ensures done { IfOk result (λ text. IsDone W.weight_of (node_at K.kept K.failures K.lost self.old.name self.old.station self.old.peers) event now text.items
-            (node_at K.kept K.failures K.lost self.new.name self.new.station self.new.peers)) }
-        ensures lacks { OnErr result (LacksDone W.weight_of (node_at K.kept K.failures K.lost self.old.name self.old.station self.old.peers) event now
-            (node_at K.kept K.failures K.lost self.new.name self.new.station self.new.peers)) }
+        ensures done { IfOk result (λ text. IsDone W.weight_of (node_at K.seen self.old.name self.old.station self.old.peers) event now text.items
+            (node_at K.seen self.new.name self.new.station self.new.peers)) }
+        ensures lacks { OnErr result (LacksDone W.weight_of (node_at K.seen self.old.name self.old.station self.old.peers) event now
+            (node_at K.seen self.new.name self.new.station self.new.peers)) }
     {
         let act = Act::Event(event);
         let end = self.step(&act, now);
@@ -69,11 +69,7 @@ impl<K: ImageKeeper, W: Weigh + Drop> Filter<K, W> {
 
     // As the station's own step, which takes the act.
     fn step(&mut self, act: &Act, now: u64) -> Result<Done, Refusal>
-        ensures goes { AnswersAct W.weight_of (kept_station_of K.kept self.old.station) act.now now result (kept_station_of K.kept self.new.station) }
-        ensures rose { result ≡ Err KeepFailed → K.failures (keeper_of self.old.station) < K.failures (keeper_of self.new.station) }
-        ensures told { K.failures (keeper_of self.old.station) < K.failures (keeper_of self.new.station) → result ≡ Err KeepFailed }
-        ensures never_falls { K.failures (keeper_of self.old.station) ≤ K.failures (keeper_of self.new.station) }
-        ensures by_one { K.failures (keeper_of self.new.station) ≤ K.failures (keeper_of self.old.station) + 1 }
+        ensures goes { AnswersAct W.weight_of (station_seen K.seen self.old.station) act.now now result (station_seen K.seen self.new.station) }
         ensures name { self.new.name ≡ self.old.name }
         ensures peers { self.new.peers.items ≡ self.old.peers.items }
     {
@@ -112,14 +108,14 @@ impl<K: ImageKeeper, W: Weigh + Drop> Filter<K, W> {
     }
 
     fn show(&self) -> Result<Vec<u8>, AllocError>
-        ensures { IfOk result (λ text. text.items ≡ ended_text (show_text W.weight_of self.now.name (shown_at K.kept self.now.station))) }
+        ensures { IfOk result (λ text. text.items ≡ ended_text (show_text W.weight_of self.now.name (shown_at K.seen self.now.station))) }
     {
         let lines = show_text(self.alloc, &self.name, self.station.node(), &self.weigher)?;
         ended_text(lines)
     }
 
     fn inspect(&self) -> Result<Vec<u8>, AllocError>
-        ensures { IfOk result (λ text. IsInspectedBy W.weight_of (node_at K.kept K.failures K.lost self.now.name self.now.station self.now.peers) text.items) }
+        ensures { IfOk result (λ text. IsInspectedBy W.weight_of (node_at K.seen self.now.name self.now.station self.now.peers) text.items) }
     {
         let peers = in_order(self.alloc, self.peers.as_slice())?;
         let lines = inspect_text(
@@ -133,14 +129,14 @@ impl<K: ImageKeeper, W: Weigh + Drop> Filter<K, W> {
     }
 
     fn members(&self) -> Result<Vec<u8>, AllocError>
-        ensures { IfOk result (λ text. text.items ≡ ended_text (members_of self.now.name (kept_station_of K.kept self.now.station).node)) }
+        ensures { IfOk result (λ text. text.items ≡ ended_text (members_of self.now.name (station_seen K.seen self.now.station).node)) }
     {
         let lines = members_of(self.alloc, &self.name, self.station.node())?;
         ended_text(lines)
     }
 
     fn image(&self) -> Result<Vec<u8>, AllocError>
-        ensures { IfOk result (λ text. text.items ≡ ended_text (ended_text (kept_station_of K.kept self.now.station).kept)) }
+        ensures { IfOk result (λ text. text.items ≡ ended_text (ended_text (kept (K.seen (keeper_of self.now.station))))) }
     {
         let mut text = self.station.keeper().stored().to_vec(self.alloc)?;
         text.push(b'\n')?;
@@ -149,7 +145,7 @@ impl<K: ImageKeeper, W: Weigh + Drop> Filter<K, W> {
     }
 
     fn lead(&self, sought: &Name) -> Result<Vec<u8>, AllocError>
-        ensures { IfOk result (λ text. text.items ≡ ended_text (where_text W.weight_of self.now.name (shown_at K.kept self.now.station) sought.now)) }
+        ensures { IfOk result (λ text. text.items ≡ ended_text (where_text W.weight_of self.now.name (shown_at K.seen self.now.station) sought.now)) }
     {
         let lines = where_text(
             self.alloc,
@@ -163,19 +159,19 @@ impl<K: ImageKeeper, W: Weigh + Drop> Filter<K, W> {
 }
 
 impl<K: ImageKeeper, W: Weigh + Drop> Answerer<K> for Filter<K, W> {
-    ghost use Rattle.sup_station.specs.KeptStations.{keeper_of, kept_station_of};
+    ghost use Rattle.sup_station.specs.KeptStations.{keeper_of, station_seen};
     ghost use Rattle.sup_answering.specs.AnsweringNodes.{AnswersLine, LacksLine, known};
-    ghost use Rattle.sup_answering.specs.ServedHosts.{StandsBehind};
+    ghost use Rattle.sup_answering.specs.ServedHosts.{IsKeeperOf};
 
-    ghost over = { λ f. K.lost (keeper_of f.station) };
+    ghost over = { λ f. (K.seen (keeper_of f.station)).lost };
 
-    ghost answers = { λ s heard text t. AnswersLine W.weight_of (known s.name (kept_station_of K.kept s.station) s.peers.items (K.failures (keeper_of s.station)) (K.lost (keeper_of s.station))) heard text
-        (known t.name (kept_station_of K.kept t.station) t.peers.items (K.failures (keeper_of t.station)) (K.lost (keeper_of t.station))) };
+    ghost answers = { λ s heard text t. AnswersLine W.weight_of (known s.name (station_seen K.seen s.station) s.peers.items) heard text
+        (known t.name (station_seen K.seen t.station) t.peers.items) };
 
-    ghost lacks = { λ s heard t. LacksLine W.weight_of (known s.name (kept_station_of K.kept s.station) s.peers.items (K.failures (keeper_of s.station)) (K.lost (keeper_of s.station))) heard
-        (known t.name (kept_station_of K.kept t.station) t.peers.items (K.failures (keeper_of t.station)) (K.lost (keeper_of t.station))) };
+    ghost lacks = { λ s heard t. LacksLine W.weight_of (known s.name (station_seen K.seen s.station) s.peers.items) heard
+        (known t.name (station_seen K.seen t.station) t.peers.items) };
 
-    ghost shows = { λ s keeper. StandsBehind K.kept K.failures K.lost (known s.name (kept_station_of K.kept s.station) s.peers.items (K.failures (keeper_of s.station)) (K.lost (keeper_of s.station))) keeper };
+    ghost shows = { λ s keeper. IsKeeperOf K.seen (known s.name (station_seen K.seen s.station) s.peers.items) keeper };
 
     fn answer(&mut self, line: Option<&[u8]>) -> Result<Vec<u8>, AllocError> {
         let asked = match line {

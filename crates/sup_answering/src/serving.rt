@@ -1,7 +1,7 @@
 //! A node that answers until its host says no more.
 
 ghost use Rattle.sup_answering.specs.AnsweringNodes.{node_at};
-ghost use Rattle.sup_answering.specs.ServedHosts.{ServesHost, StandsBehind};
+ghost use Rattle.sup_answering.specs.ServedHosts.{IsKeeperOf, ServesHost};
 
 use crate::filter::Filter;
 use std::alloc::Global;
@@ -23,9 +23,9 @@ pub fn serve<K: ImageKeeper, W: Weigh + Drop, H: Host<K>>(
     first: &[u8],
     host: &mut H,
 ) -> Result<TalkEnd, TalkFault>
-    ensures { ServesHost W.weight_of (StandsBehind K.kept K.failures K.lost) LINE_LIMIT
-        (node_at K.kept K.failures K.lost filter.old.name filter.old.station filter.old.peers)
-        (node_at K.kept K.failures K.lost filter.new.name filter.new.station filter.new.peers) first.now (H.seen host.old) (H.seen host.new) result }
+    ensures { ServesHost W.weight_of (IsKeeperOf K.seen) LINE_LIMIT
+        (node_at K.seen filter.old.name filter.old.station filter.old.peers)
+        (node_at K.seen filter.new.name filter.new.station filter.new.peers) first.now (H.seen host.old) (H.seen host.new) result }
 {
     match host.tell(first, filter.keeper()) {
         Ok(()) => talk(alloc, filter, host),

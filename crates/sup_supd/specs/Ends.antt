@@ -1,6 +1,6 @@
 -- How a node's run ends, and what it leaves.
 use Rattle.std.specs.Prelude.{◌≡◌, ◌⊎◌, ℕ, Bool, true, false, List, [], ◌++◌, codes, Option, Some, None, Result, Ok, Err}
-use Rattle.sup_specs.specs.Values.{Bytes}
+use Rattle.sup_keeper.specs.Keepers.{KeeperSeen}
 use Rattle.sup_placement.specs.Place.{Weigher}
 use Rattle.sup_jobs.specs.Faults.{image_fault_name, fault_text}
 use Rattle.sup_jobs.specs.declared.fault.Fault.TheVariants.{Device, OutOfMemory}
@@ -8,20 +8,19 @@ use Rattle.sup_jobs.specs.declared.fault.Ended.{Ended}
 use Rattle.sup_jobs.specs.Tells.{Tells}
 use Rattle.sup_command_line.specs.declared.request.Weighing.{Weighing}
 use Rattle.sup_command_line.specs.declared.request.Weighing.TheVariants as weighing
-use Rattle.sup_replica.specs.Configs.{Config}
 use Rattle.sup_replica.specs.declared.refusal.Refusal.{Refusal}
 use Rattle.sup_replica.specs.declared.refusal.Refusal.TheVariants.{CountSpent, OutOfMemory as NoRoom}
 use Rattle.sup_disk.specs.Crashes.{What}
-use Rattle.sup_disk.specs.Copies.{Filed, kept_of}
-use Rattle.sup_station.specs.KeptStations.{KeptStation, keeper_of, kept_station_of}
+use Rattle.sup_disk.specs.Copies.{Filed}
+use Rattle.sup_station.specs.KeptStations.{StationSeen, keeper_of, station_seen}
 use Rattle.sup_talk.specs.Hosts.{Seen}
 use Rattle.sup_talk.specs.declared.talking.TalkEnd.{TalkEnd}
 use Rattle.sup_talk.specs.declared.talking.TalkEnd.TheVariants.{Ended as HeardOut, Over, Spent}
 use Rattle.sup_talk.specs.declared.talking.TalkFault.{TalkFault}
 use Rattle.sup_talk.specs.declared.talking.TalkFault.TheVariants.{Device as Broken, OutOfMemory as Wanting}
-use Rattle.sup_answering.specs.AnsweringNodes.{AnsweringNode, RisesWhere}
-use Rattle.sup_answering.specs.BegunNodes.{BeginsNode, FailsAtSave, IsNoBegin, IsUnkept, LeavesStation, stopped_over}
-use Rattle.sup_answering.specs.ServedHosts.{ServesHost, StandsBehind}
+use Rattle.sup_answering.specs.AnsweringNodes.{AnsweringNode}
+use Rattle.sup_answering.specs.BegunNodes.{BeginsNode, FailsToBegin}
+use Rattle.sup_answering.specs.ServedHosts.{IsKeeperOf, ServesHost}
 use Rattle.sup_answering.specs.declared.begin.BeginFault.{BeginFault}
 use Rattle.sup_answering.specs.declared.begin.BeginFault.TheVariants.{BadImage, OthersImage, Refused, NoMemory}
 use Rattle.sup_supd.specs.declared.left.Left.{Left}
@@ -57,70 +56,42 @@ end_told (Err Wanting) = record { status = 3; line = fault_text OutOfMemory }
 abbrev pub IsToldAs : Told → Option (List ℕ) → Option (List ℕ) → Ended → Type 0
 IsToldAs told before written ended = (ended.status ≡ told.status) × Tells ended.told before written told.line
 
--- what a contract sees of a keeper of images
-pub record KeeperSeen : Type 0 where
-  pub kept : Bytes
-  pub found : Option Bytes  -- what stands where it keeps them
-  pub failures : ℕ  -- how often it has failed
-  pub lost : Bool  -- what outlives it may be other bytes
-
--- the keeper, where this is what it keeps, what stands where it does, how often it has failed and whether it is lost
-abbrev pub seen_of : {K : Type 0} → (K → Bytes) → (K → Option Bytes) → (K → ℕ) → (K → Bool) → K → KeeperSeen
-seen_of kept found failures lost keeper = record { kept = kept keeper; found = found keeper; failures = failures keeper; lost = lost keeper }
-
--- a keeper over a disk: the bytes that it keeps, and all that a contract sees of it
-abbrev pub file_kept : {D : Type 0} → Filed D → Bytes
-file_kept keeper = kept_of keeper.copy
-
+-- what a contract sees of a keeper over a disk, which may fail at any time, and gives what it keeps
 abbrev pub file_seen : {D : Type 0} → Filed D → KeeperSeen
-file_seen keeper = record { kept = file_kept keeper; found = keeper.copy; failures = keeper.failures; lost = keeper.lost }
+file_seen keeper = record { found = keeper.copy; failures = keeper.failures; failing = keeper.lost; sound = false; readable = true; lost = keeper.lost }
 
 -- what a run leaves: its station, how that weighs children, and the keeper that it has
 pub record LeftNode (K : Type 0) : Type 0 where
   pub weighing : Weighing
-  pub station : KeptStation
+  pub station : StationSeen
   pub keeper : K
 
--- the same of a station, where this is what its keeper keeps
-abbrev pub left_node : {K : Type 0} {g : _} → (K → Bytes) → Left K g → LeftNode K
-left_node kept (Sha256 station) = record { weighing = weighing.Sha256; station = kept_station_of kept station; keeper = keeper_of station }
-left_node kept (Flat station) = record { weighing = weighing.Flat; station = kept_station_of kept station; keeper = keeper_of station }
+-- the same of a station
+abbrev pub left_node : {K : Type 0} {g : _} → (K → KeeperSeen) → Left K g → LeftNode K
+left_node seen (Sha256 station) = record { weighing = weighing.Sha256; station = station_seen seen station; keeper = keeper_of station }
+left_node seen (Flat station) = record { weighing = weighing.Flat; station = station_seen seen station; keeper = keeper_of station }
 
 abbrev pub left_keeper : {K : Type 0} {g : _} → Left K g → K
 left_keeper (Sha256 station) = keeper_of station
 left_keeper (Flat station) = keeper_of station
 
--- the node didn't begin, and its station and the keeper of that, which can be read or may not be, are left so
-pub record StaysUnbegun (weigher : Weigher) (is_new readable : Bool) (name : Bytes) (config : Config) (keeper : KeeperSeen) (station : KeptStation) (left : KeeperSeen) (fault : BeginFault) : Type 0 where
-  pub why : IsNoBegin weigher is_new name config keeper.kept fault
-  pub leaves : LeavesStation weigher is_new (stopped_over name config keeper.kept keeper.found) fault (record { station = station; found = left.found })
-  pub keeps : left.kept ≡ station.kept
-  pub counted : RisesWhere (IsUnkept fault) keeper.failures left.failures
-  pub order : is_new ≡ false → readable ≡ true → IsUnkept fault → FailsAtSave weigher name config keeper.kept
-
--- the keeper, where this is what a contract sees of it, stands behind the node
-abbrev pub Backs : {K : Type 0} → (K → KeeperSeen) → AnsweringNode → K → Type 0
-Backs seen node keeper = StandsBehind (λ k. (seen k).kept) (λ k. (seen k).failures) (λ k. (seen k).lost) node keeper
-
--- The node began, and served its host until this end. With each text that the host was told, the first too, and while its next line was
--- awaited, it was shown the keeper, which stood behind the node as the last text left it; and the station that is left is the node's at its end, with the keeper behind that.
-pub record ServedUntil {K : Type 0} (weigher : Weigher) (seen : K → KeeperSeen) (most : ℕ) (is_new : Bool) (name : Bytes) (config : Config) (keeper : K) (station : KeptStation) (left : K) (before after : Seen K) (end : Result TalkEnd TalkFault) : Type 0 where
+-- The stopped node began, and served its host until this end. With each text that the host was told, the first too, and while its next line
+-- was awaited, it was shown the keeper of the node as the last text left it; and the station that is left is the node's at its end.
+pub record ServedUntil {K : Type 0} (weigher : Weigher) (seen : K → KeeperSeen) (most : ℕ) (is_new : Bool) (old left : StationSeen) (before after : Seen K) (end : Result TalkEnd TalkFault) : Type 0 where
   pub first : List ℕ
   pub begun : AnsweringNode
   pub last : AnsweringNode
-  pub named : begun.name ≡ name
+  pub named : begun.name ≡ old.name
   pub alone : begun.peers ≡ []
-  pub begins : BeginsNode weigher is_new name config (seen keeper).kept begun.kept_station first
-  pub uncounted : begun.failures ≡ (seen keeper).failures
-  pub serves : ServesHost weigher (Backs seen) most begun last first before after end
-  pub stays : station ≡ last.kept_station
-  pub leaves : Backs seen last left
+  pub begins : BeginsNode weigher is_new old begun.station first
+  pub serves : ServesHost weigher (IsKeeperOf seen) most begun last first before after end
+  pub stays : left ≡ last.station
 
--- How a node's run ends, over a keeper that can be read or may not be: it didn't begin, and its host was told nothing; or it served.
-abbrev pub RunsTo : {K : Type 0} → Weigher → (K → KeeperSeen) → ℕ → Bool → Bool → Bytes → Config → K → KeptStation → K → Seen K → Seen K → Option (List ℕ) → Option (List ℕ) → Ended → Type 0
-RunsTo weigher seen most is_new readable name config keeper station left before after errors_before errors_written ended =
-    ((fault : BeginFault) × StaysUnbegun weigher is_new readable name config (seen keeper) station (seen left) fault × (after ≡ before) × IsToldAs (fault_told fault) errors_before errors_written ended)
-    ⊎ ((end : Result TalkEnd TalkFault) × ServedUntil weigher seen most is_new name config keeper station left before after end × IsToldAs (end_told end) errors_before errors_written ended)
+-- How the run of a stopped node ends: it didn't begin, and its host was told nothing; or it served.
+abbrev pub RunsTo : {K : Type 0} → Weigher → (K → KeeperSeen) → ℕ → Bool → StationSeen → StationSeen → Seen K → Seen K → Option (List ℕ) → Option (List ℕ) → Ended → Type 0
+RunsTo weigher seen most is_new old left before after errors_before errors_written ended =
+    ((fault : BeginFault) × FailsToBegin weigher is_new old fault left × (after ≡ before) × IsToldAs (fault_told fault) errors_before errors_written ended)
+    ⊎ ((end : Result TalkEnd TalkFault) × ServedUntil weigher seen most is_new old left before after end × IsToldAs (end_told end) errors_before errors_written ended)
 
 -- there is no file yet
 abbrev pub is_unfiled : What → Bool

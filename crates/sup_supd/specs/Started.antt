@@ -8,7 +8,8 @@ use Rattle.sup_disk.specs.declared.lock.LockFault.{LockFault}
 use Rattle.sup_jobs.specs.declared.fault.Ended.{Ended}
 use Rattle.sup_lines.specs.Words.{Word}
 use Rattle.sup_talk.specs.Hosts.{Flow, Seen}
-use Rattle.sup_supd.specs.Ends.{IsToldAs, LeftNode, RunsTo, file_kept, file_seen, is_unfiled, left_node}
+use Rattle.sup_answering.specs.BegunNodes.{stopped}
+use Rattle.sup_supd.specs.Ends.{IsToldAs, LeftNode, RunsTo, file_seen, is_unfiled, left_node}
 use Rattle.sup_supd.specs.Reasons.{IsWhyFor, of_lock, why_told}
 use Rattle.sup_supd.specs.Words.{Setting, settings_of}
 use Rattle.sup_supd.specs.declared.leaves.Leaves.{Leaves}
@@ -30,7 +31,7 @@ abbrev pub left_of : {I D : Type 0} {g : _} → Leaves I D (Left (Filed D) g) �
 left_of (Images images) = Images images
 left_of Nothing = Nothing
 left_of (Image disk) = Image disk
-left_of (Station left) = Station (left_node file_kept left)
+left_of (Station left) = Station (left_node file_seen left)
 
 module _ {I D : Type 0} (may_have : D → What → Type 0) (may_refuse : D → Error → Type 0) (takes : I → Word → Result D LockFault → Type 0) (images : I) where
   -- The keeper was opened over an image that was taken at this path: it is sound, and a loss of power leaves what it keeps, and nothing that
@@ -48,7 +49,9 @@ module _ {I D : Type 0} (may_have : D → What → Type 0) (may_refuse : D → E
     pub keeper : Filed D
     pub opens : OpensAt setting.image keeper
     pub weighs : left.weighing ≡ setting.weighing
-    pub runs : RunsTo (weight_of setting.weighing) file_seen 67108864 (is_unfiled keeper.copy) true setting.name setting.config keeper left.station left.keeper before after errors_before errors_written ended
+    pub runs : RunsTo (weight_of setting.weighing) file_seen 67108864 (is_unfiled keeper.copy) (stopped setting.name setting.config (file_seen keeper))
+        left.station before after errors_before errors_written ended
+    pub keeps : left.station.keeper ≡ file_seen left.keeper
 
   -- Why no node runs, by what is set, and what is left then: the images, where the words are refused, or memory was; nothing, where the image
   -- can't be taken; and one that was taken and refuses to be read, of which no more is possible than before.

@@ -41,6 +41,9 @@ impl Disk for LockedFile {
 
     ghost may_refuse = { λ _ _. Unit {0} };
 
+    // A file may fail at any time.
+    ghost works = { λ _. ⊥ };
+
     fn write_beside(&mut self, bytes: &[u8]) -> io::Result<()> {
         self.disk.write_beside(bytes)
     }

@@ -1,10 +1,11 @@
 //! A node's run, from what is kept and its host to its status.
 
-ghost use Rattle.std.specs.Prelude.{◌≡◌, true};
+ghost use Rattle.std.specs.Prelude.{◌≡◌};
 ghost use Rattle.sup_command_line.specs.Weighings.{weight_of};
 ghost use Rattle.sup_jobs.specs.Tells.{Tells};
-ghost use Rattle.sup_station.specs.KeptStations.{keeper_of, kept_station_of};
-ghost use Rattle.sup_supd.specs.Ends.{IsToldAs, RunsTo, end_told, fault_told, file_kept, file_seen, is_unfiled, left_node, refusal_told, seen_of};
+ghost use Rattle.sup_station.specs.KeptStations.{station_seen};
+ghost use Rattle.sup_answering.specs.BegunNodes.{stopped};
+ghost use Rattle.sup_supd.specs.Ends.{IsToldAs, RunsTo, end_told, fault_told, file_seen, is_unfiled, left_node, refusal_told};
 
 use crate::left::Left;
 use std::alloc::Global;
@@ -36,10 +37,11 @@ pub fn run_node<K: ImageKeeper, H: Host<K>, E: Write>(
     host: &mut H,
     errors: &mut E,
 ) -> (Ended, Left<K>)
-    ensures runs { let left = left_node K.kept result.1 in
-        RunsTo (weight_of weighing) (seen_of K.kept K.found K.failures K.lost) LINE_LIMIT is_new (K.readable keeper) name config
-        keeper left.station left.keeper (H.seen host.old) (H.seen host.new) (E.contents errors.old) (E.contents errors.new) result.0 }
-    ensures weighs { (left_node K.kept result.1).weighing ≡ weighing }
+    ensures runs { RunsTo (weight_of weighing) K.seen LINE_LIMIT is_new (stopped name config (K.seen keeper))
+        (left_node K.seen result.1).station (H.seen host.old) (H.seen host.new)
+        (E.contents errors.old) (E.contents errors.new) result.0 }
+    ensures weighs { (left_node K.seen result.1).weighing ≡ weighing }
+    ensures keeps { (left_node K.seen result.1).station.keeper ≡ K.seen (left_node K.seen result.1).keeper }
 {
     match weighing {
         Weighing::Sha256 => {
@@ -74,10 +76,11 @@ pub fn run_filed<D: Disk, H: Host<DiskKeeper<D>>, E: Write>(
     host: &mut H,
     errors: &mut E,
 ) -> (Ended, Left<DiskKeeper<D>>)
-    ensures runs { let left = left_node file_kept result.1 in
-        RunsTo (weight_of weighing) file_seen LINE_LIMIT (is_unfiled keeper.copy) true name config
-        keeper left.station left.keeper (H.seen host.old) (H.seen host.new) (E.contents errors.old) (E.contents errors.new) result.0 }
-    ensures weighs { (left_node file_kept result.1).weighing ≡ weighing }
+    ensures runs { RunsTo (weight_of weighing) file_seen LINE_LIMIT (is_unfiled keeper.copy) (stopped name config (file_seen keeper))
+        (left_node file_seen result.1).station (H.seen host.old) (H.seen host.new)
+        (E.contents errors.old) (E.contents errors.new) result.0 }
+    ensures weighs { (left_node file_seen result.1).weighing ≡ weighing }
+    ensures keeps { (left_node file_seen result.1).station.keeper ≡ file_seen (left_node file_seen result.1).keeper }
 {
     let is_new = keeper.is_new();
     run_node(alloc, name, config, weighing, keeper, is_new, host, errors)
@@ -93,8 +96,8 @@ fn run_by<K: ImageKeeper, W: Weigh + Drop, H: Host<K>, E: Write>(
     host: &mut H,
     errors: &mut E,
 ) -> (Ended, Station<K, W>)
-    ensures { RunsTo W.weight_of (seen_of K.kept K.found K.failures K.lost) LINE_LIMIT is_new (K.readable keeper) name config
-        keeper (kept_station_of K.kept result.1) (keeper_of result.1) (H.seen host.old) (H.seen host.new) (E.contents errors.old) (E.contents errors.new) result.0 }
+    ensures { RunsTo W.weight_of K.seen LINE_LIMIT is_new (stopped name config (K.seen keeper)) (station_seen K.seen result.1)
+        (H.seen host.old) (H.seen host.new) (E.contents errors.old) (E.contents errors.new) result.0 }
 {
     match begin(alloc, name, config, keeper, is_new, weigher) {
         Ok(begun) => {

@@ -27,6 +27,8 @@ impl Disk for Held {
 
     ghost may_refuse = { λ held error. held.unread ≡ Some (error_kind error) };
 
+    ghost works = { λ _. Unit {0} };
+
     fn write_beside(&mut self, _bytes: &[u8]) -> io::Result<()> {
         Ok(())
     }

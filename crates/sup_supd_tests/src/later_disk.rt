@@ -23,6 +23,9 @@ impl Disk for LaterDisk {
 
     ghost may_refuse = { λ _ _. ⊥ };
 
+    // It fails later.
+    ghost works = { λ _. ⊥ };
+
     fn write_beside(&mut self, _bytes: &[u8]) -> io::Result<()> {
         if self.holds == 0 && !self.fails_late {
             return Err(io::Error::from(ErrorKind::Other));

@@ -1,15 +1,11 @@
-use Rattle.std.proofs.Common.{◌∙◌, ap}
-use Rattle.sup_station.specs.KeptStations.{kept_station_of}
-use Rattle.sup_answering.proofs.UnbegunNodeLaws.{no_begin, unrefused}
+use Rattle.std.proofs.Common.{◌∙◌, ap, inl, inr, subst}
+use Rattle.sup_specs.specs.Values.{Bytes}
+use Rattle.sup_keeper.specs.Keepers.{kept}
+use Rattle.sup_answering.specs.BegunNodes.{IsImageFault}
+use Rattle.sup_answering.proofs.UnbegunNodeLaws.{foreign_fault}
 use Rattle.sup_answering.proofs.begin.restart_fault.Goals as goal
 
-pub returns-in-BadMessage-clause-fault : goal.returns-in-BadMessage-clause-fault
-returns-in-BadMessage-clause-fault g c =
-    no_begin g.W.Weigh.weight_of (kept_station_of g.K.Keeper.kept c.args.station.now) _ c.image_fault.result (rw c.in-BadMessage.is at c.requires)
-    (c.stored.ensures ∙ ap g.K.Keeper.kept c.keeper.ensures) c.image_fault.ensures
-
-pub returns-in-BadMessage-clause-same : goal.returns-in-BadMessage-clause-same
-returns-in-BadMessage-clause-same g c = λ r e. absurd (unrefused _ c.image_fault.result r c.image_fault.ensures e)
-
-pub returns-in_default-clause-fault : goal.returns-in_default-clause-fault
-returns-in_default-clause-fault g c = (c.in_default.not-BadMessage, c.requires)
+pub returns-in-BadMessage : goal.returns-in-BadMessage
+returns-in-BadMessage g c =
+    inl (c.in-BadMessage.is, foreign_fault _ _ c.image_fault.result (c.requires c.in-BadMessage.is)
+    (subst (λ (bytes : Bytes). IsImageFault bytes c.image_fault.result) (c.stored.ensures ∙ ap (λ k. kept (g.K.Keeper.seen k)) c.keeper.ensures) c.image_fault.ensures))

@@ -1,5 +1,5 @@
 use Rattle.std.proofs.Common.{inl, inr, refl}
-use Rattle.sup_supd.specs.Ends.{file_kept, left_node}
+use Rattle.sup_supd.specs.Ends.{file_seen, left_node}
 use Rattle.sup_supd.specs.Words.{set_of}
 use Rattle.sup_supd.proofs.program.run_set.Goals as goal
 
@@ -18,7 +18,7 @@ pub returns : goal.returns
 returns g c = inl (
   set_of c.args.settings,
   refl,
-  left_node file_kept c.run_filed-left.result.1,
+  left_node file_seen c.run_filed-left.result.1,
   refl,
   record {
     keeper = c.in-Ok-open.keeper;
@@ -32,5 +32,6 @@ returns g c = inl (
     };
     weighs = c.run_filed-left.ensures.weighs;
     runs = c.run_filed-left.ensures.runs;
+    keeps = c.run_filed-left.ensures.keeps;
   },
 )
