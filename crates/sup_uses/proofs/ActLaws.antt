@@ -10,7 +10,7 @@ use Rattle.sup_keeper.specs.Keepers.{KeeperSeen}
 use Rattle.sup_station.specs.KeptStations.{StationSeen, AnswersAct}
 use Rattle.sup_station.proofs.AnswerLaws.{answered_rest}
 use Rattle.sup_uses.specs.Acts.{MakesActs}
-use Rattle.sup_uses.specs.Letters.{HasFailed, HasNotFailed}
+use Rattle.sup_uses.specs.Letters.{CountsFailure, CountsNone, HasFailed, HasNotFailed}
 
 pub makes_more : (g : Weigher) (s : StationSeen) (acts : List Act) (t : StationSeen) (act : Act) (done : Done) (u : StationSeen)
     → MakesActs g s acts t → AnswersAct g t act 0 (Ok done) u → MakesActs g s (acts ++ act ∷ []) u
@@ -45,7 +45,14 @@ pub refused_counted : (g : Weigher) (s : StationSeen) (act : Act) (r : Refusal) 
 refused_counted g s act r t (inl x) e = let one = x.1.fails.counted in omega (arith, one)
 refused_counted g s act r t (inr x) e = absurd (x.0 e)
 
--- one that is refused for another reason counts none, and changes nothing
-pub refused_other : (g : Weigher) (s : StationSeen) (act : Act) (r : Refusal) (t : StationSeen) → AnswersAct g s act 0 (Err r) t → r ≢ KeepFailed → (t ≡ s) × AnswersAct g s act 0 (Err r) s
-refused_other g s act r t (inl x) other = absurd (other x.0)
-refused_other g s act r t (inr x) other = (x.1, inr (x.0, refl, x.2))
+-- of two stations: a failure since then is one since before, where none was between; and in the other order
+pub counted_since : (s t u : StationSeen × StationSeen) → CountsNone s t → CountsFailure t u → CountsFailure s u
+counted_since s t u none (inl x) = inl (subst (λ n. n < u.0.keeper.failures) none.0 x)
+counted_since s t u none (inr x) = inr (subst (λ n. n < u.1.keeper.failures) none.1 x)
+
+pub none_since : (s t u : StationSeen × StationSeen) → CountsNone s t → CountsNone t u → CountsNone s u
+none_since s t u a b = (b.0 ∙ a.0, b.1 ∙ a.1)
+
+pub counted_swapped : (s t : StationSeen × StationSeen) → CountsFailure (s.1, s.0) (t.1, t.0) → CountsFailure s t
+counted_swapped s t (inl x) = inr x
+counted_swapped s t (inr x) = inl x

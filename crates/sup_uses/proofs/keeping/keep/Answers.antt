@@ -17,7 +17,7 @@ returns-in-Err-step-clause-refused g c =
       all = cut_at acts l.act-index c.in_ok-act.act c.act-item.result c.loop-act-test.true here c.act-item.is;
       before = station_seen images_seen l.station;
       made = l.invariant;
-      refuses = (refused_sound g.W.Weigh.weight_of (station_seen images_seen l.station) c.in_ok-act.act c.in-Err-step.field-0 (station_seen images_seen c.step.new.self) refl c.in-Err-step.ensures).0;
+      refuses = (refused_sound g.W.Weigh.weight_of (station_seen images_seen l.station) c.in_ok-act.act c.in-Err-step.refusal (station_seen images_seen c.step.new.self) refl c.in-Err-step.ensures).0;
     })
 
 pub loop-act-preserved : goal.loop-act-preserved

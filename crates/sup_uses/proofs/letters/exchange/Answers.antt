@@ -1,8 +1,9 @@
-use Rattle.std.proofs.Common.{arith, refl, inl, inr, ◌∙◌}
+use Rattle.std.proofs.Common.{arith, refl, ap, inl, inr, ◌∙◌, Err}
+use Rattle.sup_replica.specs.declared.refusal.Refusal.TheVariants.{KeepFailed}
 use native.Mathlib.Numerals.{unary_clauses}
-use Rattle.sup_station.specs.KeptStations.{station_seen}
+use Rattle.sup_station.specs.KeptStations.{StationSeen, station_seen}
 use Rattle.sup_uses.specs.Letters.{StopsExchange}
-use Rattle.sup_uses.proofs.ActLaws.{stopped_by}
+use Rattle.sup_uses.proofs.ActLaws.{counted_since, counted_swapped, handed_on, none_since, stopped_by}
 use Rattle.sup_uses.proofs.letters.exchange.Goals as goal
 
 pub loop-init : goal.loop-init
@@ -57,3 +58,19 @@ returns-in_err-back-clause-stopped g c =
       made = c.loop.invariant.0;
       stops = inr (c.in_ok-there.there, seen c.send.new.from, seen c.send.new.to, c.in_ok-there.ensures.sends, c.in_err-back.ensures.stops);
     })
+
+pub returns-in_err-there-clause-rose : goal.returns-in_err-there-clause-rose
+returns-in_err-there-clause-rose g c = λ is.
+    let seen = station_seen g.K.Keeper.seen in
+    counted_since (seen c.args.left.now, seen c.args.right.now) (seen c.loop.left, seen c.loop.right) (seen c.send.new.from, seen c.send.new.to) c.loop.invariant.1
+    (c.in_err-there.ensures.rose (ap (λ r. Err r) (handed_on c.from_residual.result c.in_err-there.field-0.0 KeepFailed c.from_residual.ensures.1 is)))
+
+pub returns-in_err-back-clause-rose : goal.returns-in_err-back-clause-rose
+returns-in_err-back-clause-rose g c = λ is.
+    let seen = station_seen g.K.Keeper.seen in
+    let start : StationSeen × StationSeen = (seen c.args.left.now, seen c.args.right.now) in
+    let between : StationSeen × StationSeen = (seen c.send.new.from, seen c.send.new.to) in
+    let end : StationSeen × StationSeen = (seen c.send-in-loop.new.to, seen c.send-in-loop.new.from) in
+    counted_since start between end (none_since start (seen c.loop.left, seen c.loop.right) between c.loop.invariant.1 c.in_ok-there.ensures.uncounted)
+    (counted_swapped between end
+    (c.in_err-back.ensures.rose (ap (λ r. Err r) (handed_on c.from_residual-in_err-back.result c.in_err-back.field-0.0 KeepFailed c.from_residual-in_err-back.ensures.1 is))))
