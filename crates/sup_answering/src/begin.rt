@@ -201,8 +201,10 @@ fn restart_fault<K: ImageKeeper, W: Weigh + Drop>(
     station: &Station<K, W>,
     refusal: Refusal,
 ) -> BeginFault
-    requires { refusal ≡ BadMessage → IsForeign (station_seen K.seen station.now).name (kept (K.seen (keeper_of station.now))) }
-    ensures { IsWhyStopped refusal (station_seen K.seen station.now).name (kept (K.seen (keeper_of station.now))) result }
+    requires { refusal ≡ BadMessage → IsForeign (station_seen K.seen station.now).name
+        (kept (K.seen (keeper_of station.now))) }
+    ensures { IsWhyStopped refusal (station_seen K.seen station.now).name
+        (kept (K.seen (keeper_of station.now))) result }
 {
     match refusal {
         Refusal::BadMessage => image_fault(alloc, station.keeper().stored()),

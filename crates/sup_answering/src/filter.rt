@@ -38,9 +38,11 @@ impl<K: ImageKeeper, W: Weigh + Drop> Filter<K, W> {
     ///
     /// Where memory was refused, for the text or to note who acknowledged. What is asked for may be done then, and nothing else is.
     pub fn answer_asked(&mut self, asked: Option<Asked>) -> Result<Vec<u8>, AllocError>
-        ensures answers { IfOk result (λ text. AnswersAsked W.weight_of (node_at K.seen self.old.name self.old.station self.old.peers) asked text.items
+        ensures answers { IfOk result (λ text. AnswersAsked W.weight_of
+            (node_at K.seen self.old.name self.old.station self.old.peers) asked text.items
             (node_at K.seen self.new.name self.new.station self.new.peers)) }
-        ensures lacks { OnErr result (LacksAsked W.weight_of (node_at K.seen self.old.name self.old.station self.old.peers) asked
+        ensures lacks { OnErr result
+            (LacksAsked W.weight_of (node_at K.seen self.old.name self.old.station self.old.peers) asked
             (node_at K.seen self.new.name self.new.station self.new.peers)) }
     {
         match asked {
@@ -56,9 +58,11 @@ impl<K: ImageKeeper, W: Weigh + Drop> Filter<K, W> {
 
     // Does an event, and tells its end.
     fn answer_event(&mut self, event: Event, now: u64) -> Result<Vec<u8>, AllocError>
-        ensures done { IfOk result (λ text. IsDone W.weight_of (node_at K.seen self.old.name self.old.station self.old.peers) event now text.items
+        ensures done { IfOk result (λ text. IsDone W.weight_of
+            (node_at K.seen self.old.name self.old.station self.old.peers) event now text.items
             (node_at K.seen self.new.name self.new.station self.new.peers)) }
-        ensures lacks { OnErr result (LacksDone W.weight_of (node_at K.seen self.old.name self.old.station self.old.peers) event now
+        ensures lacks { OnErr result
+            (LacksDone W.weight_of (node_at K.seen self.old.name self.old.station self.old.peers) event now
             (node_at K.seen self.new.name self.new.station self.new.peers)) }
     {
         let act = Act::Event(event);
@@ -69,7 +73,8 @@ impl<K: ImageKeeper, W: Weigh + Drop> Filter<K, W> {
 
     // As the station's own step, which takes the act.
     fn step(&mut self, act: &Act, now: u64) -> Result<Done, Refusal>
-        ensures goes { AnswersAct W.weight_of (station_seen K.seen self.old.station) act.now now result (station_seen K.seen self.new.station) }
+        ensures goes { AnswersAct W.weight_of (station_seen K.seen self.old.station) act.now now result
+            (station_seen K.seen self.new.station) }
         ensures name { self.new.name ≡ self.old.name }
         ensures peers { self.new.peers.items ≡ self.old.peers.items }
     {
@@ -108,14 +113,16 @@ impl<K: ImageKeeper, W: Weigh + Drop> Filter<K, W> {
     }
 
     fn show(&self) -> Result<Vec<u8>, AllocError>
-        ensures { IfOk result (λ text. text.items ≡ ended_text (show_text W.weight_of self.now.name (shown_at K.seen self.now.station))) }
+        ensures { IfOk result (λ text. text.items ≡ ended_text
+            (show_text W.weight_of self.now.name (shown_at K.seen self.now.station))) }
     {
         let lines = show_text(self.alloc, &self.name, self.station.node(), &self.weigher)?;
         ended_text(lines)
     }
 
     fn inspect(&self) -> Result<Vec<u8>, AllocError>
-        ensures { IfOk result (λ text. IsInspectedBy W.weight_of (node_at K.seen self.now.name self.now.station self.now.peers) text.items) }
+        ensures { IfOk result (λ text. IsInspectedBy W.weight_of
+            (node_at K.seen self.now.name self.now.station self.now.peers) text.items) }
     {
         let peers = in_order(self.alloc, self.peers.as_slice())?;
         let lines = inspect_text(
@@ -129,14 +136,16 @@ impl<K: ImageKeeper, W: Weigh + Drop> Filter<K, W> {
     }
 
     fn members(&self) -> Result<Vec<u8>, AllocError>
-        ensures { IfOk result (λ text. text.items ≡ ended_text (members_of self.now.name (station_seen K.seen self.now.station).node)) }
+        ensures { IfOk result
+            (λ text. text.items ≡ ended_text (members_of self.now.name (station_seen K.seen self.now.station).node)) }
     {
         let lines = members_of(self.alloc, &self.name, self.station.node())?;
         ended_text(lines)
     }
 
     fn image(&self) -> Result<Vec<u8>, AllocError>
-        ensures { IfOk result (λ text. text.items ≡ ended_text (ended_text (kept (K.seen (keeper_of self.now.station))))) }
+        ensures { IfOk result
+            (λ text. text.items ≡ ended_text (ended_text (kept (K.seen (keeper_of self.now.station))))) }
     {
         let mut text = self.station.keeper().stored().to_vec(self.alloc)?;
         text.push(b'\n')?;
@@ -145,7 +154,8 @@ impl<K: ImageKeeper, W: Weigh + Drop> Filter<K, W> {
     }
 
     fn lead(&self, sought: &Name) -> Result<Vec<u8>, AllocError>
-        ensures { IfOk result (λ text. text.items ≡ ended_text (where_text W.weight_of self.now.name (shown_at K.seen self.now.station) sought.now)) }
+        ensures { IfOk result (λ text. text.items ≡ ended_text
+            (where_text W.weight_of self.now.name (shown_at K.seen self.now.station) sought.now)) }
     {
         let lines = where_text(
             self.alloc,
@@ -165,10 +175,12 @@ impl<K: ImageKeeper, W: Weigh + Drop> Answerer<K> for Filter<K, W> {
 
     ghost over = { λ f. (K.seen (keeper_of f.station)).lost };
 
-    ghost answers = { λ s heard text t. AnswersLine W.weight_of (known s.name (station_seen K.seen s.station) s.peers.items) heard text
+    ghost answers = { λ s heard text t. AnswersLine W.weight_of
+        (known s.name (station_seen K.seen s.station) s.peers.items) heard text
         (known t.name (station_seen K.seen t.station) t.peers.items) };
 
-    ghost lacks = { λ s heard t. LacksLine W.weight_of (known s.name (station_seen K.seen s.station) s.peers.items) heard
+    ghost lacks = { λ s heard t. LacksLine W.weight_of
+        (known s.name (station_seen K.seen s.station) s.peers.items) heard
         (known t.name (station_seen K.seen t.station) t.peers.items) };
 
     ghost shows = { λ s keeper. IsKeeperOf K.seen (known s.name (station_seen K.seen s.station) s.peers.items) keeper };

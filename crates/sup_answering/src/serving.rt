@@ -25,7 +25,8 @@ pub fn serve<K: ImageKeeper, W: Weigh + Drop, H: Host<K>>(
 ) -> Result<TalkEnd, TalkFault>
     ensures { ServesHost W.weight_of (IsKeeperOf K.seen) LINE_LIMIT
         (node_at K.seen filter.old.name filter.old.station filter.old.peers)
-        (node_at K.seen filter.new.name filter.new.station filter.new.peers) first.now (H.seen host.old) (H.seen host.new) result }
+        (node_at K.seen filter.new.name filter.new.station filter.new.peers) first.now (H.seen host.old)
+        (H.seen host.new) result }
 {
     match host.tell(first, filter.keeper()) {
         Ok(()) => talk(alloc, filter, host),

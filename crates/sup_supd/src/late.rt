@@ -30,7 +30,8 @@ pub(crate) fn buffered<R: Read + Drop>(
     alloc: Global,
     reader: R,
 ) -> Result<BufReader<LateReader<R>>, R>
-    ensures new { IfOk result (λ b. reader_remaining (λ late. late_remaining R.remaining late.reader) b ≡ R.remaining reader) }
+    ensures new { IfOk result
+        (λ b. reader_remaining (λ late. late_remaining R.remaining late.reader) b ≡ R.remaining reader) }
     ensures back { IfErr result (λ r. r ≡ reader) }
 {
     match BufReader::new(alloc, LateReader { reader: None }) {

@@ -76,7 +76,8 @@ pub fn run_filed<D: Disk, H: Host<DiskKeeper<D>>, E: Write>(
     host: &mut H,
     errors: &mut E,
 ) -> (Ended, Left<DiskKeeper<D>>)
-    ensures runs { RunsTo (weight_of weighing) file_seen LINE_LIMIT (is_unfiled keeper.copy) (stopped name config (file_seen keeper))
+    ensures runs { RunsTo (weight_of weighing) file_seen LINE_LIMIT (is_unfiled keeper.copy)
+        (stopped name config (file_seen keeper))
         (left_node file_seen result.1).station (H.seen host.old) (H.seen host.new)
         (E.contents errors.old) (E.contents errors.new) result.0 }
     ensures weighs { (left_node file_seen result.1).weighing ≡ weighing }
@@ -96,7 +97,8 @@ fn run_by<K: ImageKeeper, W: Weigh + Drop, H: Host<K>, E: Write>(
     host: &mut H,
     errors: &mut E,
 ) -> (Ended, Station<K, W>)
-    ensures { RunsTo W.weight_of K.seen LINE_LIMIT is_new (stopped name config (K.seen keeper)) (station_seen K.seen result.1)
+    ensures { RunsTo W.weight_of K.seen LINE_LIMIT is_new (stopped name config (K.seen keeper))
+        (station_seen K.seen result.1)
         (H.seen host.old) (H.seen host.new) (E.contents errors.old) (E.contents errors.new) result.0 }
 {
     match begin(alloc, name, config, keeper, is_new, weigher) {

@@ -20,15 +20,15 @@ pub struct Supctl<'a, T> {
 }
 
 impl<T: Threads + Wait + Sync, R: Read + Drop, W: Write + Drop, E: Write> Start<R, W, E>
-    for Supctl<'_, T>
-{
+    for Supctl<'_, T> {
     type Left = (R, W);
 
     ghost program = { λ _. programs.Supctl };
 
     ghost may_run = { λ _. IsSync T.row };
 
-    ghost runs = { λ _ words reader writer before after done. RunsAll R.remaining W.contents E.contents (map string_bytes words)
+    ghost runs = { λ _ words reader writer before after done. RunsAll R.remaining W.contents E.contents
+        (map string_bytes words)
         reader done.1.0 writer done.1.1 before after done.0 };
 
     ghost fails = { λ _ error reader writer before after done. RunsWithout R.remaining W.contents E.contents error
