@@ -1,6 +1,6 @@
 //! What a program can be asked about itself, and by which words.
 
-ghost use Rattle.std.specs.Prelude.{◌≡◌, drop, map, string_bytes};
+ghost use Rattle.std.specs.Prelude.{◌≡◌, map, string_bytes};
 ghost use Rattle.sup_about.specs.Askings.{asked_by_one, asked_by_two, asked_of, command_of, is_help};
 
 /// A program of the repository.
@@ -38,14 +38,14 @@ pub enum Asked {
     Version,
 }
 
-/// What all words that the program was started with ask about it, its own name first. None where they ask nothing about it, so that it is
-/// to run: it is asked by one word behind its name, or by two of which the first is a command of it.
+/// What the words behind a program's name ask about it. None where they ask nothing, so that it is to run: it is asked by one word, or by
+/// two of which the first is a command of it.
 pub fn asked_in(program: Program, words: &[String]) -> Option<Asked>
-    ensures { result ≡ asked_of program (map string_bytes (drop 1 words.now)) }
+    ensures { result ≡ asked_of program (map string_bytes words.now) }
 {
     match words {
-        [_, word] => asked_by_one(word.as_str()),
-        [_, name, word] => asked_by_two(program, name.as_str(), word.as_str()),
+        [word] => asked_by_one(word.as_str()),
+        [name, word] => asked_by_two(program, name.as_str(), word.as_str()),
         _ => None,
     }
 }

@@ -1,10 +1,12 @@
-//! What stands beside a program, and where it writes.
+//! A program, what stands beside it, where its words are put, and where it writes.
 
 ghost use Rattle.std.specs.Prelude.{◌≡◌, IfSome, Some, option_map};
 
-use std::alloc::Global;
+use std::alloc::{AllocError, Global};
+use std::env::Args;
 use std::io::{self, ErrorKind, Write};
-use sup_about::Beside;
+use sup_about::{Beside, Program, Room, Start};
+use sup_jobs::Ended;
 
 /// A line that stands beside a program, or nothing.
 #[derive(Clone, Copy)]
@@ -40,5 +42,75 @@ impl Write for Full {
 
     fn flush(&mut self) -> io::Result<()> {
         Ok(())
+    }
+}
+
+/// What a program did.
+#[derive(Drop)]
+pub enum Did {
+    /// It ran with these words.
+    Ran(Vec<String>),
+    /// It was told that its words can't be had, for an error of this kind.
+    Failed(ErrorKind),
+    /// It didn't run.
+    Rested,
+}
+
+/// A program that tells with what it was run.
+#[derive(Drop)]
+pub struct Telling {
+    pub program: Program,
+}
+
+impl<W: Write + Drop, E: Write> Start<(), W, E> for Telling {
+    type Left = (Did, W);
+
+    ghost program = { λ telling. telling.program };
+
+    ghost may_run = { λ _. Unit {0} };
+
+    ghost runs = { λ _ _ _ _ _ _ _. Unit {0} };
+
+    ghost fails = { λ _ _ _ _ _ _ _. Unit {0} };
+
+    ghost rests = { λ _ _ writer left. left.1 ≡ writer };
+
+    fn program(&self) -> Program {
+        self.program
+    }
+
+    fn run(
+        self,
+        _alloc: Global,
+        words: io::Result<Vec<String>>,
+        _reader: (),
+        writer: W,
+        _errors: &mut E,
+    ) -> (Ended, (Did, W)) {
+        let did = match words {
+            Ok(words) => Did::Ran(words),
+            Err(error) => Did::Failed(error.kind()),
+        };
+        let ended = Ended {
+            status: 7,
+            told: Ok(()),
+        };
+        (ended, (did, writer))
+    }
+
+    fn rest(self, _reader: (), writer: W) -> (Did, W) {
+        (Did::Rested, writer)
+    }
+}
+
+/// No memory for words.
+#[derive(Drop)]
+pub struct NoRoom;
+
+impl Room for NoRoom {
+    ghost may_lack = { λ _. Unit {0} };
+
+    fn words_of(self, _arguments: Args) -> Result<Vec<String>, AllocError> {
+        Err(AllocError)
     }
 }

@@ -1,56 +1,85 @@
-//! What words ask of a program.
+//! What words ask of a program, and with which it runs.
 
+use crate::fakes::{Did, NoRoom, Note, Telling};
 use std::alloc::{AllocError, Global};
 use std::env::Args;
 use std::io::{self, ErrorKind};
 use std::process::Abort;
-use sup_about::{Asked, Command, Looked, Program, look};
+use sup_about::{Asked, Command, Program, Room, SystemRoom, asked_in, run_asking};
 
-fn arguments_of(alloc: Global, words: &[&str]) -> Result<Args, AllocError> {
-    let mut arguments = Vec::new(alloc);
+const PROVED: &[u8] = b"supd 0.9.0, kit-1 of a test, proved\n";
+
+fn words_of(alloc: Global, words: &[&str]) -> Result<Vec<String>, AllocError> {
+    let mut texts = Vec::new(alloc);
     for word in words {
-        let word = String::from_str(alloc, word)?;
-        arguments.push(word)?;
+        let text = String::from_str(alloc, word)?;
+        texts.push(text)?;
     }
-    Ok(arguments.into_iter())
+    Ok(texts)
 }
 
-fn looked(rt: &(impl Abort + AllocGlobal), program: Program, words: &[&str]) -> Looked {
-    let arguments = arguments_of(rt.alloc(), words).expect(rt, "room");
-    look(rt.alloc(), program, Ok(arguments))
+fn arguments_of(rt: &(impl Abort + AllocGlobal), words: &[&str]) -> Args {
+    let words = words_of(rt.alloc(), words).expect(rt, "room");
+    words.into_iter()
 }
 
-// Expects that these words, the program's name first, ask this about it.
+// Expects that these words behind its name ask this about the program.
 fn expect_asked(rt: &(impl Abort + AllocGlobal), program: Program, words: &[&str], wanted: Asked) {
-    match looked(rt, program, words) {
-        Looked::Asks(asked) => assert_eq!(rt; asked, wanted),
-        Looked::Runs(_) => rt.panic("an answer"),
-    }
+    let words = words_of(rt.alloc(), words).expect(rt, "room");
+    assert_eq!(rt; asked_in(program, words.as_slice()), Some(wanted));
 }
 
-// Expects that the program runs with these words as they are.
+// Expects what the program writes that is started with these arguments, where a line stands beside it, and how it ends. What it did.
+fn started<M: Room>(
+    rt: &(impl Abort + AllocGlobal),
+    program: Program,
+    arguments: io::Result<Args>,
+    room: M,
+    answer: &[u8],
+    status: u8,
+) -> Did {
+    let alloc = rt.alloc();
+    let mut told = Vec::new(alloc);
+    let exit = run_asking(
+        alloc,
+        Telling { program },
+        arguments,
+        room,
+        Note { line: Some(PROVED) },
+        (),
+        Vec::new(alloc),
+        &mut told,
+    );
+    let (did, written) = exit.left;
+    assert_eq!(rt; written.as_slice(), answer);
+    assert!(rt; told.is_empty());
+    assert!(rt; exit.ended.status == status && exit.ended.told.is_ok());
+    did
+}
+
+// Expects that the program runs with these words behind its name as they are.
 fn expect_run(rt: &(impl Abort + AllocGlobal), program: Program, words: &[&str]) {
-    match looked(rt, program, words) {
-        Looked::Asks(_) => rt.panic("a run"),
-        Looked::Runs(arguments) => {
-            let mut left = arguments.expect(rt, "arguments");
-            for word in words {
-                match left.next() {
-                    Some(argument) => assert_eq!(rt; argument.as_str(), *word),
-                    None => rt.panic("all words"),
-                }
-            }
-            assert!(rt; left.next().is_none());
+    let arguments = Ok(arguments_of(rt, words));
+    let room = SystemRoom { alloc: rt.alloc() };
+    let Did::Ran(left) = started(rt, program, arguments, room, b"", 7) else {
+        panic!(rt; "a run")
+    };
+    let mut left = left.into_iter();
+    for word in words.iter().skip(1) {
+        match left.next() {
+            Some(argument) => assert_eq!(rt; argument.as_str(), *word),
+            None => rt.panic("all words"),
         }
     }
+    assert!(rt; left.next().is_none());
 }
 
 #[test]
 fn one_word_asks_for_help_or_the_version(rt: HostRuntime) {
     for program in [Program::Supctl, Program::Supd, Program::Supdraw] {
-        expect_asked(&rt, program, &["x", "--help"], Asked::Help);
-        expect_asked(&rt, program, &["x", "-h"], Asked::Help);
-        expect_asked(&rt, program, &["x", "--version"], Asked::Version);
+        expect_asked(&rt, program, &["--help"], Asked::Help);
+        expect_asked(&rt, program, &["-h"], Asked::Help);
+        expect_asked(&rt, program, &["--version"], Asked::Version);
     }
 }
 
@@ -58,14 +87,22 @@ fn one_word_asks_for_help_or_the_version(rt: HostRuntime) {
 fn a_command_and_a_word_ask_for_its_help(rt: HostRuntime) {
     let supctl = Program::Supctl;
     let simulate = Asked::HelpOf(Command::Simulate);
-    expect_asked(&rt, supctl, &["x", "simulate", "--help"], simulate);
-    expect_asked(&rt, supctl, &["x", "simulate", "-h"], simulate);
+    expect_asked(&rt, supctl, &["simulate", "--help"], simulate);
+    expect_asked(&rt, supctl, &["simulate", "-h"], simulate);
     let cluster = Asked::HelpOf(Command::Cluster);
-    expect_asked(&rt, supctl, &["x", "cluster", "-h"], cluster);
+    expect_asked(&rt, supctl, &["cluster", "-h"], cluster);
     let place = Asked::HelpOf(Command::Place);
-    expect_asked(&rt, supctl, &["x", "place", "--help"], place);
+    expect_asked(&rt, supctl, &["place", "--help"], place);
     let inspect = Asked::HelpOf(Command::Inspect);
-    expect_asked(&rt, supctl, &["x", "inspect", "--help"], inspect);
+    expect_asked(&rt, supctl, &["inspect", "--help"], inspect);
+}
+
+#[test]
+fn a_program_that_is_asked_answers_and_does_not_run(rt: HostRuntime) {
+    let arguments = Ok(arguments_of(&rt, &["x", "--version"]));
+    let room = SystemRoom { alloc: rt.alloc() };
+    let did = started(&rt, Program::Supd, arguments, room, PROVED, 0);
+    assert!(rt; matches!(did, Did::Rested));
 }
 
 #[test]
@@ -90,8 +127,21 @@ fn all_other_words_are_run_with_as_they_are(rt: HostRuntime) {
 #[test]
 fn arguments_that_cant_be_had_ask_nothing(rt: HostRuntime) {
     for kind in [ErrorKind::InvalidData, ErrorKind::OutOfMemory] {
-        match look(rt.alloc(), Program::Supd, Err(io::Error::from(kind))) {
-            Looked::Runs(Err(error)) => assert!(rt; error.kind() == kind),
+        let room = SystemRoom { alloc: rt.alloc() };
+        let error = Err(io::Error::from(kind));
+        match started(&rt, Program::Supd, error, room, b"", 7) {
+            Did::Failed(found) => assert!(rt; found == kind),
+            _ => rt.panic("the error"),
+        }
+    }
+}
+
+#[test]
+fn words_without_room_are_told_to_the_run_as_want_of_memory(rt: HostRuntime) {
+    for word in ["--help", "a"] {
+        let arguments = Ok(arguments_of(&rt, &["x", word]));
+        match started(&rt, Program::Supdraw, arguments, NoRoom, b"", 7) {
+            Did::Failed(found) => assert!(rt; found == ErrorKind::OutOfMemory),
             _ => rt.panic("the error"),
         }
     }

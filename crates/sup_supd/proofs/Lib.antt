@@ -1,1 +1,2 @@
 pub mod NewHosts
+mod ResultLaws

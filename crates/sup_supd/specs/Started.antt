@@ -1,9 +1,6 @@
 -- What the program does with what it was started with.
-use Rattle.std.specs.Prelude.{◌≡◌, ◌⊎◌, ℕ, false, true, List, drop, map, string_bytes, Option, Some, None, Result, Ok, Err}
-use Rattle.std.specs.Vec.Iter.{into_iter_items}
+use Rattle.std.specs.Prelude.{◌≡◌, ◌⊎◌, ℕ, false, true, List, Option, Some, None, Result, Ok, Err}
 use Rattle.std.specs.declared.io.Error.{Error}
-use Rattle.std.specs.declared.string.String.{String}
-use Rattle.std.specs.declared.vec.IntoIter.{IntoIter}
 use Rattle.sup_command_line.specs.Weighings.{weight_of}
 use Rattle.sup_disk.specs.Copies.{Filed}
 use Rattle.sup_disk.specs.Crashes.{What, NoMore, OnlyThis}
@@ -23,10 +20,6 @@ use Rattle.sup_supd.specs.declared.unserved.Unserved.TheVariants.{Words, Device,
 -- what is known of the bytes that a reader has left, or a writer has got
 abbrev pub KnownBytes : Type 0
 KnownBytes = Option (List ℕ)
-
--- the words behind the program's name
-abbrev pub words_in : {Y Z : Type 0} → IntoIter (String Y) Z → List Word
-words_in arguments = map string_bytes (drop 1 (into_iter_items arguments))
 
 -- a reader and a writer, of which nothing was heard yet
 abbrev pub new_host : KnownBytes → KnownBytes → Flow
@@ -73,10 +66,9 @@ module _ {I D : Type 0} (may_have : D → What → Type 0) (may_refuse : D → E
       ((setting : Setting) × (set ≡ Some setting) × (node : LeftNode (Filed D)) × (left ≡ Station node) × RunsImage setting node before after errors_before errors_written ended)
       ⊎ ((why : Unserved) × IsWhyNot set why left × (after ≡ before) × IsToldAs (why_told why) errors_before errors_written ended)
 
-  -- It goes by the words behind the program's name, the first argument; or tells why the arguments can't be had.
-  abbrev pub RunsArguments : {Y Z : Type 0} → Result (IntoIter (String Y) Z) Error → Seen (Filed D) → Seen (Filed D) → KnownBytes → KnownBytes → Leaves I D (LeftNode (Filed D)) → Ended → Type 0
-  RunsArguments (Ok arguments) before after errors_before errors_written left ended = RunsSet (settings_of (words_in arguments)) before after errors_before errors_written left ended
-  RunsArguments (Err error) before after errors_before errors_written left ended =
+  -- No node ran, since its words can't be had, and the error writer was told so.
+  abbrev pub RunsWithout : Error → Seen (Filed D) → Seen (Filed D) → KnownBytes → KnownBytes → Leaves I D (LeftNode (Filed D)) → Ended → Type 0
+  RunsWithout error before after errors_before errors_written left ended =
       (why : Unserved) × IsWhyFor error Words why × (left ≡ Images images) × (after ≡ before) × IsToldAs (why_told why) errors_before errors_written ended
 
 -- no node ran, for this reason, and the images are left

@@ -16,5 +16,5 @@ pub use late::LateReader;
 pub use leaves::Leaves;
 pub use left::Left;
 pub use node::{run_filed, run_node};
-pub use program::{Ran, run_arguments, run_started};
+pub use program::{Supd, run_given, run_supd};
 pub use settings::{Settings, read_settings};

@@ -1,12 +1,16 @@
-//! The program's run, from its arguments, its streams and its images to its status.
+//! The program's run, from its words, its streams and its images to its status.
 
-ghost use Rattle.std.specs.Prelude.{◌≡◌, drop, Some, IfErr, IfOk, map, string_bytes};
+ghost use Rattle.std.specs.Prelude.{◌≡◌, ℕ, List, Some, Err, IfErr, IfOk, map, string_bytes};
 ghost use Rattle.std.specs.Process.{exit_status};
-ghost use Rattle.std.specs.Vec.Iter.{into_iter_items};
+ghost use Rattle.sup_about.specs.Answers.{IsAnswer, IsPut};
+ghost use Rattle.sup_about.specs.Starts.{RunsAsking};
+ghost use Rattle.sup_about.specs.declared.asked.Program.TheVariants as programs;
 ghost use Rattle.sup_lines.specs.Words.{texts};
 ghost use Rattle.sup_talk.specs.Hosts.{seen_of};
-ghost use Rattle.sup_supd.specs.Started.{EndsUnserved, RunsArguments, RunsSet, left_of, new_host, words_in};
+ghost use Rattle.sup_supd.specs.Started.{EndsUnserved, RunsSet, RunsWithout, left_of, new_host};
 ghost use Rattle.sup_supd.specs.Words.{set_of, settings_of};
+ghost use Rattle.sup_supd.specs.declared.leaves.Leaves.TheVariants.{Images};
+ghost use Rattle.sup_supd.specs.declared.unserved.Unserved.TheVariants.{OutOfMemory};
 
 use crate::images::Images;
 use crate::late::{LateReader, buffered};
@@ -18,67 +22,100 @@ use crate::unserved::{Unserved, refuse, why_for, why_untaken};
 use std::alloc::{AllocError, Global};
 use std::env::Args;
 use std::io::{self, BufReader, Read, Write};
-use std::process::ExitCode;
+use sup_about::{Beside, Exit, Program, Room, Start, run_asking};
 use sup_disk::{DiskKeeper, Unopened};
 use sup_jobs::Ended;
 use sup_talk::{Host, Streams};
 
-/// What a run of the program leaves.
+/// The program `supd`, with all images, of which it takes one at most.
 #[derive(Drop)]
-pub struct Ran<L: Drop, S: Drop> {
-    /// What the program exits with: its status.
-    pub code: ExitCode,
-    /// Its status, and whether all was told.
-    pub ended: Ended,
-    /// What is left of its images.
-    pub left: L,
-    /// The streams.
-    pub streams: S,
+pub struct Supd<I: Images> {
+    pub images: I,
 }
 
-/// Runs the node that the words after the program's name set, as [`run_arguments`] does, until its host, who speaks by the reader and
-/// hears by the writer, says no more. Where memory for a buffer is refused, nobody is heard or told anything: the reader and the writer are
-/// given back as they were, and the images.
-pub fn run_started<I: Images, R: Read + Drop, W: Write + Drop, E: Write>(
-    alloc: Global,
-    arguments: io::Result<Args>,
-    images: I,
-    reader: R,
-    writer: W,
-    errors: &mut E,
-) -> Ran<
-    Leaves<I, I::Disk, Left<DiskKeeper<I::Disk>>>,
-    Result<Streams<BufReader<LateReader<R>>, W>, (R, W)>,
->
-    ensures runs { IfOk result.streams (λ host. RunsArguments I.Disk.may_have I.Disk.may_refuse I.takes images arguments
-        (seen_of (new_host (R.remaining reader) (W.contents writer))) (seen_of host)
-        (E.contents errors.old) (E.contents errors.new) (left_of result.left) result.ended) }
-    ensures memory { IfErr result.streams (λ both. EndsUnserved images Unserved.OutOfMemory
-        (E.contents errors.old) (E.contents errors.new) (left_of result.left) result.ended) }
-    ensures unheard { IfErr result.streams (λ both. both.0 ≡ reader) }
-    ensures unwritten { IfErr result.streams (λ both. both.1 ≡ writer) }
-    ensures code { exit_status result.code ≡ result.ended.status }
-{
-    match streams_of(alloc, reader, writer) {
-        Ok(mut host) => {
-            let (ended, left) = run_arguments(alloc, arguments, images, &mut host, errors);
-            Ran {
-                code: ExitCode::from(ended.status),
-                ended,
-                left,
-                streams: Ok(host),
+// The node that the words set runs until its host, who speaks by the reader and hears by the writer, says no more. Where memory for a
+// buffer is refused, nobody is heard or told anything: the reader and the writer are left as they were, and the images.
+impl<I: Images, R: Read + Drop, W: Write + Drop, E: Write> Start<R, W, E> for Supd<I> {
+    type Left = (
+        Leaves<I, I::Disk, Left<DiskKeeper<I::Disk>>>,
+        Result<Streams<BufReader<LateReader<R>>, W>, (R, W)>,
+    );
+
+    ghost program = { λ _. programs.Supd };
+
+    ghost may_run = { λ _. Unit {0} };
+
+    ghost runs = { λ supd words reader writer before after done. IfOk done.1.1 (λ host.
+            RunsSet I.Disk.may_have I.Disk.may_refuse I.takes supd.images (settings_of (map string_bytes words))
+                (seen_of (new_host (R.remaining reader) (W.contents writer))) (seen_of host)
+                (E.contents before) (E.contents after) (left_of done.1.0) done.0)
+        × IfErr done.1.1 (λ both. (both ≡ (reader, writer))
+            × EndsUnserved supd.images OutOfMemory (E.contents before) (E.contents after) (left_of done.1.0) done.0) };
+
+    ghost fails = { λ supd error reader writer before after done. IfOk done.1.1 (λ host.
+            RunsWithout I.Disk.may_have I.Disk.may_refuse I.takes supd.images error
+                (seen_of (new_host (R.remaining reader) (W.contents writer))) (seen_of host)
+                (E.contents before) (E.contents after) (left_of done.1.0) done.0)
+        × IfErr done.1.1 (λ both. (both ≡ (reader, writer))
+            × EndsUnserved supd.images OutOfMemory (E.contents before) (E.contents after) (left_of done.1.0) done.0) };
+
+    ghost rests = { λ supd reader writer left. (left_of left.0 ≡ Images supd.images) × (left.1 ≡ Err (reader, writer)) };
+
+    fn program(&self) -> Program {
+        Program::Supd
+    }
+
+    fn run(
+        self,
+        alloc: Global,
+        words: io::Result<Vec<String>>,
+        reader: R,
+        writer: W,
+        errors: &mut E,
+    ) -> (Ended, Self::Left) {
+        match streams_of(alloc, reader, writer) {
+            Ok(mut host) => {
+                let (ended, left) = run_given(alloc, words, self.images, &mut host, errors);
+                (ended, (left, Ok(host)))
             }
-        }
-        Err(both) => {
-            let refused = refuse(errors, Unserved::OutOfMemory);
-            Ran {
-                code: ExitCode::from(refused.status),
-                ended: refused,
-                left: Leaves::Images(images),
-                streams: Err(both),
+            Err(both) => {
+                let refused = refuse(errors, Unserved::OutOfMemory);
+                (refused, (Leaves::Images(self.images), Err(both)))
             }
         }
     }
+
+    fn rest(self, reader: R, writer: W) -> Self::Left {
+        (Leaves::Images(self.images), Err((reader, writer)))
+    }
+}
+
+/// Runs the program by its arguments, as [`run_asking`] does.
+pub fn run_supd<I: Images, M: Room, B: Beside, R: Read + Drop, W: Write + Drop, E: Write>(
+    alloc: Global,
+    supd: Supd<I>,
+    arguments: io::Result<Args>,
+    room: M,
+    beside: B,
+    reader: R,
+    writer: W,
+    errors: &mut E,
+) -> Exit<(
+    Leaves<I, I::Disk, Left<DiskKeeper<I::Disk>>>,
+    Result<Streams<BufReader<LateReader<R>>, W>, (R, W)>,
+)>
+    ensures code { exit_status result.code ≡ result.ended.status }
+    ensures asking { RunsAsking (M.may_lack room)
+        (λ error. ⟦<Supd<I> as Start<R, W, E>>⟧.fails supd error reader writer errors.old errors.new (result.ended, result.left))
+        (λ words. ⟦<Supd<I> as Start<R, W, E>>⟧.runs supd words reader writer errors.old errors.new (result.ended, result.left))
+        (λ asked. (text : List ℕ) × IsAnswer (B.may_be beside) programs.Supd asked text
+            × (written : W) × ⟦<Supd<I> as Start<R, W, E>>⟧.rests supd reader written result.left
+            × IsPut text (W.contents writer) (W.contents written) (E.contents errors.old) (E.contents errors.new) result.ended)
+        programs.Supd arguments }
+{
+    run_asking(
+        alloc, supd, arguments, room, beside, reader, writer, errors,
+    )
 }
 
 // An `Err` is want of memory, and gives both back.
@@ -97,53 +134,30 @@ fn streams_of<R: Read + Drop, W: Write + Drop>(
     }
 }
 
-/// Runs the node that the words after the program's name set, over a keeper of its image, until its host says no more: [`run_filed`] has
-/// the rest. Answers the exit status: that of the run, or `USAGE` where the words are refused, and 3 where the image can't be taken or
-/// read, or memory was refused; and what is left of the images: where no node ran, they are as they were, or an image that can't be read.
-pub fn run_arguments<I: Images, H: Host<DiskKeeper<I::Disk>>, E: Write>(
+/// Runs the node that the words set, over a keeper of its image, until its host says no more: [`run_filed`] has the rest. Answers the exit
+/// status: that of the run, or `USAGE` where the words are refused, and 3 where the image can't be taken or read, or memory was refused;
+/// and what is left of the images: where no node ran, they are as they were, or an image that can't be read.
+pub fn run_given<I: Images, H: Host<DiskKeeper<I::Disk>>, E: Write>(
     alloc: Global,
-    arguments: io::Result<Args>,
+    words: io::Result<Vec<String>>,
     images: I,
     host: &mut H,
     errors: &mut E,
 ) -> (Ended, Leaves<I, I::Disk, Left<DiskKeeper<I::Disk>>>)
-    ensures { RunsArguments I.Disk.may_have I.Disk.may_refuse I.takes images arguments (H.seen host.old) (H.seen host.new)
-        (E.contents errors.old) (E.contents errors.new) (left_of result.1) result.0 }
+    ensures runs { IfOk words (λ given. RunsSet I.Disk.may_have I.Disk.may_refuse I.takes images
+        (settings_of (map string_bytes given.items)) (H.seen host.old) (H.seen host.new)
+        (E.contents errors.old) (E.contents errors.new) (left_of result.1) result.0) }
+    ensures fails { IfErr words (λ error. RunsWithout I.Disk.may_have I.Disk.may_refuse I.takes images error
+        (H.seen host.old) (H.seen host.new)
+        (E.contents errors.old) (E.contents errors.new) (left_of result.1) result.0) }
 {
-    match arguments {
-        Ok(arguments) => run_given(alloc, arguments, images, host, errors),
+    match words {
+        Ok(words) => run_words(alloc, words.as_slice(), images, host, errors),
         Err(error) => {
             let why = why_for(&error, Unserved::Words);
             (refuse(errors, why), Leaves::Images(images))
         }
     }
-}
-
-fn run_given<I: Images, H: Host<DiskKeeper<I::Disk>>, E: Write>(
-    alloc: Global,
-    arguments: Args,
-    images: I,
-    host: &mut H,
-    errors: &mut E,
-) -> (Ended, Leaves<I, I::Disk, Left<DiskKeeper<I::Disk>>>)
-    ensures { RunsSet I.Disk.may_have I.Disk.may_refuse I.takes images (settings_of (words_in arguments)) (H.seen host.old) (H.seen host.new)
-        (E.contents errors.old) (E.contents errors.new) (left_of result.1) result.0 }
-{
-    match words_of(alloc, arguments) {
-        Ok(words) => run_words(alloc, words.as_slice(), images, host, errors),
-        Err(_) => (
-            refuse(errors, Unserved::OutOfMemory),
-            Leaves::Images(images),
-        ),
-    }
-}
-
-// The words after the program's name, which is the first of its arguments.
-fn words_of(alloc: Global, arguments: Args) -> Result<Vec<String>, AllocError>
-    ensures { IfOk result (λ words. words.items ≡ drop 1 (into_iter_items arguments)) }
-{
-    let words = arguments.skip(1).collect(alloc)?;
-    Ok(words)
 }
 
 fn run_words<I: Images, H: Host<DiskKeeper<I::Disk>>, E: Write>(

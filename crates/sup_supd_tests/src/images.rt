@@ -1,14 +1,14 @@
-//! Stories of the program, from its arguments and its images to its status.
+//! Stories of the program, from its words and its images to its status.
 
 ghost use Rattle.std.specs.Prelude.{◌≡◌, Some};
 ghost use Rattle.std.specs.IoError.{error_kind};
 
 use std::alloc::{AllocError, Global};
-use std::env::Args;
 use std::io::{self, ErrorKind};
 use std::process::Abort;
+use sup_about::Start;
 use sup_disk::{Disk, FileLock, LockFault};
-use sup_supd::{Images, Leaves, Ran, SystemImages, run_started};
+use sup_supd::{Images, Leaves, Supd, SystemImages};
 
 /// An image that was taken: it was never saved, and can be read or, for an error of this kind, can't.
 #[derive(Drop)]
@@ -91,16 +91,16 @@ const SOUND: Place = Place {
     unread: None,
 };
 
-fn arguments_of(alloc: Global, words: &[&str]) -> Result<Args, AllocError> {
-    let mut arguments = Vec::new(alloc);
+fn words_of(alloc: Global, words: &[&str]) -> Result<Vec<String>, AllocError> {
+    let mut texts = Vec::new(alloc);
     for word in words {
-        let word = String::from_str(alloc, word)?;
-        arguments.push(word)?;
+        let text = String::from_str(alloc, word)?;
+        texts.push(text)?;
     }
-    Ok(arguments.into_iter())
+    Ok(texts)
 }
 
-// Expects how a run over these words ends, the program's name first, whose host says nothing, what it is told, and what is left.
+// Expects how a run by these words ends, whose host says nothing, what it is told, and what is left.
 fn expect_words(
     rt: &(impl Abort + AllocGlobal),
     words: &[&str],
@@ -110,14 +110,14 @@ fn expect_words(
     line: &[u8],
     leaves: &str,
 ) {
-    let arguments = arguments_of(rt.alloc(), words).expect(rt, "room");
-    expect(rt, Ok(arguments), place, said, status, line, leaves);
+    let words = words_of(rt.alloc(), words).expect(rt, "room");
+    expect(rt, Ok(words), place, said, status, line, leaves);
 }
 
-// Expects how a run over these arguments ends, whose host says nothing, what it is told, and what is left.
+// The same by these words, or with none that can be had.
 fn expect(
     rt: &(impl Abort + AllocGlobal),
-    arguments: io::Result<Args>,
+    words: io::Result<Vec<String>>,
     place: Place,
     said: &[u8],
     status: u8,
@@ -126,20 +126,9 @@ fn expect(
 ) {
     let alloc = rt.alloc();
     let mut told = Vec::new(alloc);
-    let ran = run_started(
-        alloc,
-        arguments,
-        place,
-        b"".as_slice(),
-        Vec::new(alloc),
-        &mut told,
-    );
-    let Ran {
-        code: _,
-        ended,
-        left,
-        streams,
-    } = ran;
+    let supd = Supd { images: place };
+    let (ended, (left, streams)) =
+        supd.run(alloc, words, b"".as_slice(), Vec::new(alloc), &mut told);
     assert_eq!(rt; ended.status, status);
     assert_eq!(rt; left_word(&left), leaves);
     assert_eq!(rt; told.as_slice(), line);
@@ -151,7 +140,7 @@ fn expect(
 
 // The same of a node whose place tells these faults.
 fn expect_faulty(rt: &(impl Abort + AllocGlobal), place: Place, line: &[u8], leaves: &str) {
-    let words = ["supd", "a", "--image", "x"];
+    let words = ["a", "--image", "x"];
     expect_words(rt, &words, place, b"", 3, line, leaves);
 }
 
@@ -160,17 +149,17 @@ const USAGE_LINE: &[u8] =
 
 #[test]
 fn a_node_runs_over_its_image_until_its_host_says_no_more(rt: HostRuntime) {
-    let words = ["supd", "a", "--image", "x"];
+    let words = ["a", "--image", "x"];
     expect_words(&rt, &words, SOUND, b"ok boot 1\n\n", 0, b"", "station");
-    let others = ["supd", "a", "--image", "y"];
+    let others = ["a", "--image", "y"];
     expect_words(&rt, &others, SOUND, b"", 3, b"device\n", "nothing");
 }
 
 #[test]
 fn words_that_set_no_node_are_told_the_usage(rt: HostRuntime) {
-    expect_words(&rt, &["supd"], SOUND, b"", 2, USAGE_LINE, "images");
-    expect_words(&rt, &["supd", "a"], SOUND, b"", 2, USAGE_LINE, "images");
-    let unnamed = ["a", "--image", "x"];
+    expect_words(&rt, &[], SOUND, b"", 2, USAGE_LINE, "images");
+    expect_words(&rt, &["a"], SOUND, b"", 2, USAGE_LINE, "images");
+    let unnamed = ["--image", "x"];
     expect_words(&rt, &unnamed, SOUND, b"", 2, USAGE_LINE, "images");
 }
 
@@ -218,25 +207,26 @@ fn an_image_that_cant_be_read_is_told(rt: HostRuntime) {
 #[test]
 fn a_file_is_nobody_elses_as_long_as_its_nodes_station_lives(rt: HostRuntime) {
     let alloc = rt.alloc();
-    let words = ["supd", "a", "--image", "held.image"];
-    let arguments = arguments_of(alloc, &words).expect(&rt, "room");
+    let words = words_of(alloc, &["a", "--image", "held.image"]).expect(&rt, "room");
     let mut told = Vec::new(alloc);
-    let ran = run_started(
+    let supd = Supd {
+        images: SystemImages { rt: &rt },
+    };
+    let (ended, left) = supd.run(
         alloc,
-        Ok(arguments),
-        SystemImages { rt: &rt },
+        Ok(words),
         b"".as_slice(),
         Vec::new(alloc),
         &mut told,
     );
-    assert_eq!(rt; ran.ended.status, 0);
+    assert_eq!(rt; ended.status, 0);
     assert!(rt;
         matches!(
             FileLock::beside(alloc, &rt, "held.image"),
             Err(LockFault::Taken)
         )
     );
-    drop(ran);
+    drop(left);
     assert!(rt; FileLock::beside(alloc, &rt, "held.image").is_ok());
     assert_eq!(rt; told.as_slice(), b"".as_slice());
 }

@@ -1,22 +1,23 @@
 //! The program `supctl`: scripts over a cluster of supervisor nodes, runs of it by threads, placement, and stored images.
 #![tactic(auto)]
 
-mod asking;
+mod supctl;
 
-use asking::run_asking;
 use std::env;
 use std::process::ExitCode;
-use sup_about::SystemBeside;
+use sup_about::{SystemBeside, SystemRoom, run_asking};
+use supctl::Supctl;
 
 fn main(rt: HostRuntime) -> ExitCode {
-    let (code, _told) = run_asking(
-        &rt,
+    let exit = run_asking(
         rt.alloc(),
+        Supctl { rt: &rt },
         env::args(&rt),
+        SystemRoom { alloc: rt.alloc() },
         SystemBeside { rt: &rt },
-        &mut rt.stdin(),
-        &mut rt.stdout(),
+        rt.stdin(),
+        rt.stdout(),
         &mut rt.stderr(),
     );
-    code
+    exit.code
 }

@@ -3,16 +3,21 @@
 
 use std::env;
 use std::process::ExitCode;
-use sup_supd::{SystemImages, run_started};
+use sup_about::{SystemBeside, SystemRoom};
+use sup_supd::{Supd, SystemImages, run_supd};
 
 fn main(rt: HostRuntime) -> ExitCode {
-    let ran = run_started(
+    let exit = run_supd(
         rt.alloc(),
+        Supd {
+            images: SystemImages { rt: &rt },
+        },
         env::args(&rt),
-        SystemImages { rt: &rt },
+        SystemRoom { alloc: rt.alloc() },
+        SystemBeside { rt: &rt },
         rt.stdin(),
         rt.stdout(),
         &mut rt.stderr(),
     );
-    ran.code
+    exit.code
 }

@@ -1,9 +1,8 @@
-use Rattle.std.proofs.Common.{inl, inr, refl}
-use Rattle.sup_supd.specs.declared.unserved.Unserved.TheVariants.{OutOfMemory}
+use Rattle.std.proofs.Common.{refl}
 use Rattle.sup_supd.proofs.program.run_given.Goals as goal
 
-pub returns-in-Ok : goal.returns-in-Ok
-returns-in-Ok g c = rw (c.as_slice.ensures.value, c.in-Ok.ensures) at c.run_words.ensures
+pub returns-in-Ok-clause-runs : goal.returns-in-Ok-clause-runs
+returns-in-Ok-clause-runs g c = rw c.in-Ok.is (rw c.as_slice.ensures.value at c.run_words.ensures)
 
-pub returns-in-Err : goal.returns-in-Err
-returns-in-Err g c = inr (OutOfMemory, (refl, inl refl), refl, c.refuse.ensures)
+pub returns-in-Err-clause-fails : goal.returns-in-Err-clause-fails
+returns-in-Err-clause-fails g c = rw c.in-Err.is (c.why_for-why.result, c.why_for-why.ensures, refl, refl, c.refuse.ensures)

@@ -1,8 +1,0 @@
-use Rattle.std.proofs.Common.{rules, ◌≡◌, refl}
-use Rattle.std.specs.Process.{exit_status}
-use Rattle.supdraw.proofs.run_started.Goals as goal
-
-pub returns : goal.returns
-returns g c =
-    let same : c.run_behind_name-ended.result.status ≡ exit_status c.from.result = search rules in
-    (c.run_behind_name-ended.result, same, refl, c.run_behind_name-ended.ensures)
