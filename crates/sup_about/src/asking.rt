@@ -45,8 +45,8 @@ pub fn run_asking<S: Start<R, W, E>, M: Room, B: Beside, R, W: Write, E: Write>(
         (λ error. S.fails start error reader writer errors.old errors.new (result.ended, result.left))
         (λ words. S.runs start words reader writer errors.old errors.new (result.ended, result.left))
         (λ asked. (text : List ℕ) × IsAnswer (B.may_be beside) (S.program start) asked text
-            × (written : W) × S.rests start reader written result.left
-            × IsPut text (W.contents writer) (W.contents written) (E.contents errors.old) (E.contents errors.new) result.ended)
+        × (written : W) × S.rests start reader written result.left
+        × IsPut text (W.contents writer) (W.contents written) (E.contents errors.old) (E.contents errors.new) result.ended)
         (S.program start) arguments }
 {
     let (ended, left) = run_looking(
@@ -74,8 +74,8 @@ fn run_looking<S: Start<R, W, E>, M: Room, B: Beside, R, W: Write, E: Write>(
         (λ error. S.fails start error reader writer errors.old errors.new result)
         (λ words. S.runs start words reader writer errors.old errors.new result)
         (λ asked. (text : List ℕ) × IsAnswer (B.may_be beside) (S.program start) asked text
-            × (written : W) × S.rests start reader written result.1
-            × IsPut text (W.contents writer) (W.contents written) (E.contents errors.old) (E.contents errors.new) result.0)
+        × (written : W) × S.rests start reader written result.1
+        × IsPut text (W.contents writer) (W.contents written) (E.contents errors.old) (E.contents errors.new) result.0)
         (S.program start) arguments }
 {
     let words = match arguments {

@@ -46,18 +46,18 @@ impl<I: Images, R: Read + Drop, W: Write + Drop, E: Write> Start<R, W, E> for Su
     ghost may_run = { λ _. Unit {0} };
 
     ghost runs = { λ supd words reader writer before after done. IfOk done.1.1 (λ host.
-            RunsSet I.Disk.may_have I.Disk.may_refuse I.takes supd.images (settings_of (map string_bytes words))
-                (seen_of (new_host (R.remaining reader) (W.contents writer))) (seen_of host)
-                (E.contents before) (E.contents after) (left_of done.1.0) done.0)
+        RunsSet I.Disk.may_have I.Disk.may_refuse I.takes supd.images (settings_of (map string_bytes words))
+        (seen_of (new_host (R.remaining reader) (W.contents writer))) (seen_of host)
+        (E.contents before) (E.contents after) (left_of done.1.0) done.0)
         × IfErr done.1.1 (λ both. (both ≡ (reader, writer))
-            × EndsUnserved supd.images OutOfMemory (E.contents before) (E.contents after) (left_of done.1.0) done.0) };
+        × EndsUnserved supd.images OutOfMemory (E.contents before) (E.contents after) (left_of done.1.0) done.0) };
 
     ghost fails = { λ supd error reader writer before after done. IfOk done.1.1 (λ host.
-            RunsWithout I.Disk.may_have I.Disk.may_refuse I.takes supd.images error
-                (seen_of (new_host (R.remaining reader) (W.contents writer))) (seen_of host)
-                (E.contents before) (E.contents after) (left_of done.1.0) done.0)
+        RunsWithout I.Disk.may_have I.Disk.may_refuse I.takes supd.images error
+        (seen_of (new_host (R.remaining reader) (W.contents writer))) (seen_of host)
+        (E.contents before) (E.contents after) (left_of done.1.0) done.0)
         × IfErr done.1.1 (λ both. (both ≡ (reader, writer))
-            × EndsUnserved supd.images OutOfMemory (E.contents before) (E.contents after) (left_of done.1.0) done.0) };
+        × EndsUnserved supd.images OutOfMemory (E.contents before) (E.contents after) (left_of done.1.0) done.0) };
 
     ghost rests = { λ supd reader writer left. (left_of left.0 ≡ Images supd.images) × (left.1 ≡ Err (reader, writer)) };
 
@@ -100,22 +100,22 @@ pub fn run_supd<I: Images, M: Room, B: Beside, R: Read + Drop, W: Write + Drop, 
     reader: R,
     writer: W,
     errors: &mut E,
-) -> Exit<(
-    Leaves<I, I::Disk, Left<DiskKeeper<I::Disk>>>,
-    Result<Streams<BufReader<LateReader<R>>, W>, (R, W)>,
-)>
+) -> Exit<
+    (
+        Leaves<I, I::Disk, Left<DiskKeeper<I::Disk>>>,
+        Result<Streams<BufReader<LateReader<R>>, W>, (R, W)>,
+    ),
+>
     ensures code { exit_status result.code ≡ result.ended.status }
     ensures asking { RunsAsking (M.may_lack room)
         (λ error. ⟦<Supd<I> as Start<R, W, E>>⟧.fails supd error reader writer errors.old errors.new (result.ended, result.left))
         (λ words. ⟦<Supd<I> as Start<R, W, E>>⟧.runs supd words reader writer errors.old errors.new (result.ended, result.left))
         (λ asked. (text : List ℕ) × IsAnswer (B.may_be beside) programs.Supd asked text
-            × (written : W) × ⟦<Supd<I> as Start<R, W, E>>⟧.rests supd reader written result.left
-            × IsPut text (W.contents writer) (W.contents written) (E.contents errors.old) (E.contents errors.new) result.ended)
+        × (written : W) × ⟦<Supd<I> as Start<R, W, E>>⟧.rests supd reader written result.left
+        × IsPut text (W.contents writer) (W.contents written) (E.contents errors.old) (E.contents errors.new) result.ended)
         programs.Supd arguments }
 {
-    run_asking(
-        alloc, supd, arguments, room, beside, reader, writer, errors,
-    )
+    run_asking(alloc, supd, arguments, room, beside, reader, writer, errors)
 }
 
 // An `Err` is want of memory, and gives both back.

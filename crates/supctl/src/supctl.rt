@@ -20,8 +20,7 @@ pub struct Supctl<'a, T> {
 }
 
 impl<T: Threads + Wait + Sync, R: Read + Drop, W: Write + Drop, E: Write> Start<R, W, E>
-    for Supctl<'_, T>
-{
+    for Supctl<'_, T> {
     type Left = (R, W);
 
     ghost program = { λ _. programs.Supctl };
