@@ -127,8 +127,13 @@ fn expect(
     let alloc = rt.alloc();
     let mut told = Vec::new(alloc);
     let supd = Supd { images: place };
-    let (ended, (left, streams)) =
-        supd.run(alloc, words, b"".as_slice(), Vec::new(alloc), &mut told);
+    let (ended, (left, streams)) = supd.run(
+        alloc,
+        words,
+        b"".as_slice(),
+        Vec::new(alloc),
+        &mut told,
+    );
     assert_eq!(rt; ended.status, status);
     assert_eq!(rt; left_word(&left), leaves);
     assert_eq!(rt; told.as_slice(), line);
@@ -212,13 +217,7 @@ fn a_file_is_nobody_elses_as_long_as_its_nodes_station_lives(rt: HostRuntime) {
     let supd = Supd {
         images: SystemImages { rt: &rt },
     };
-    let (ended, left) = supd.run(
-        alloc,
-        Ok(words),
-        b"".as_slice(),
-        Vec::new(alloc),
-        &mut told,
-    );
+    let (ended, left) = supd.run(alloc, Ok(words), b"".as_slice(), Vec::new(alloc), &mut told);
     assert_eq!(rt; ended.status, 0);
     assert!(rt;
         matches!(
