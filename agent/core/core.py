@@ -247,7 +247,7 @@ class Core:
         due, asked = self.runs.due(self.now) if self.is_free() and self.letters.withheld is None else [], self.sight.asked(self.now)
         if self.state == word.FULL:  # what others tell of is theirs now, and this machine's node can't know
             due = [ident for ident in due if not any(ident in self.sight.told[name].children for name in self.takers())]
-        own = {ident for ident in due if self.telling.told.runs(ident) and not any(self.sight.told[name].runs(ident) for name in asked)}
+        own = set() if self.sight.was_silent(self.now) else {ident for ident in due if self.telling.told.runs(ident) and not any(self.sight.told[name].runs(ident) for name in asked)}
         self.claims.claim([ident for ident in due if ident not in own], self.telling.n + 1)
         free = [ident for ident in due if ident in own or self.claims.may_begin(ident, self.sight, asked)]
         if free:

@@ -27,8 +27,7 @@ class Hold:
 
     def look(self, now):
         """What hinders it."""
-        if self.first_others is None:
-            self.first_others = self.members.others
+        self.first_others = self.members.others if self.first_others is None else self.first_others
         state = self.why(now)
         self.was_there = state == "" or self.was_there and state not in word.ASIDE
         return state

@@ -72,10 +72,9 @@ class Letters:
 
     def take_word(self, one, before):
         """A word that was news: its sender may lack this machine's whole state, or have it since, and take now what it was sent before and had to refuse."""
-        name, had_whole = self.core.name, before and before.session == one.session and self.core.name in before.whole
-        if name not in one.whole:
+        if self.core.name not in one.whole:
             self.send_whole(one)
-        elif not had_whole and self.shipped.pop(one.name, None) is not None:
+        elif not (before and before.session == one.session and self.core.name in before.whole) and self.shipped.pop(one.name, None) is not None:
             self.ship_at = self.core.now
 
     def send_whole(self, one):

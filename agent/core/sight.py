@@ -29,10 +29,14 @@ class Sight:
         self.session, self.echo = (epoch, self.session[1]), dict.fromkeys(self.echo, 0)
 
     def say(self, n, now):
-        if now - self.spoke >= self.silent / 2:  # who was silent itself gives the others the time to answer
+        if self.was_silent(now):  # it gives the others the time to answer
             self.touched.update(dict.fromkeys(self.touched, now))
         self.n, self.spoke, self.said[n] = n, now, now
         self.said.pop(n - 500, None)
+
+    def was_silent(self, now):
+        """Whether it has said nothing itself for so long that others may have taken over what it told of."""
+        return now - self.spoke >= self.silent / 2
 
     def hear(self, word, now, straight):
         """Takes a word. Whether it was news."""

@@ -150,6 +150,18 @@ at 0 begin b
 at 0 begin c
 end 8
 """
+SAID_NOTHING = """
+flavour any
+machines a b c
+chance 1821208801
+at 0.000 begin b
+at 0.465 begin a
+at 0.725 begin c
+at 3.610 ask b start i3 kind=ignore shutdown=300
+at 8.592 fill-disk c 8
+at 12.387 kill-node c
+end 17.5
+"""
 TOOK_THE_OTHER_OUT = """
 flavour seeds
 machines a b
@@ -209,6 +221,7 @@ FOUND = {  # as the simulator made them small, or as they were told
     "an older image isn't gone on with beside a machine that is heard, and doesn't hear": UNHEARD,
     "a machine that is heard for a moment, and may be dead then, is waited for no longer": CUT_OFF_AT_ITS_BEGIN,
     "two machines that name the same third one alone, and begin at once, become members": NAMED_BY_TWO,
+    "a machine whose node was away for long asks before it begins again what it ran": SAID_NOTHING,
     "a machine that names nobody and took the other one out waits for it when it comes back": TOOK_THE_OTHER_OUT,
     "a machine that comes back waits for one that was taken out meanwhile": TAKEN_OUT_MEANWHILE,
     "a child that is started right behind a join begins at its place": STARTED_BEHIND_A_JOIN,

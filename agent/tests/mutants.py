@@ -133,6 +133,8 @@ MUTANTS = [
            {(hold.Hold, "may_meet_others"): lambda self: self.may_meet_any and (self.is_empty or not self.members.others)}, found.TOOK_THE_OTHER_OUT),
     Mutant("who begins waits for nobody that was taken out meanwhile", "broker", ("once while all hear one another",), {(hold.Hold, "untold"): waits_for_members_alone},
            found.TAKEN_OUT_MEANWHILE),
+    Mutant("who has said nothing for long begins again what it ran, without asking", "any", ("once while all hear one another",),
+           {(sight.Sight, "was_silent"): lambda *words: False}, found.SAID_NOTHING),
     Mutant("letters are taken of whose sender's whole state nothing is known", "image", ("no dot is given twice",), {(letters.Letters, "take"): take_any_letter},
            found.CUT_OFF_AT_ITS_BEGIN),
 ]

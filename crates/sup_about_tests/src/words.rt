@@ -5,7 +5,7 @@ use std::alloc::{AllocError, Global};
 use std::env::Args;
 use std::io::{self, ErrorKind};
 use std::process::Abort;
-use sup_about::{Asked, Command, Program, Room, SystemRoom, asked_in, run_asking};
+use sup_about::{Asked, Command, Exit, Program, Room, SystemRoom, asked_in, run_asking};
 
 const PROVED: &[u8] = b"supd 0.9.0, kit-1 of a test, proved\n";
 
@@ -50,10 +50,15 @@ fn started<M: Room>(
         Vec::new(alloc),
         &mut told,
     );
-    let (did, written) = exit.left;
+    let Exit {
+        code: _,
+        ended,
+        left,
+    } = exit;
+    let (did, written) = left;
     assert_eq!(rt; written.as_slice(), answer);
     assert!(rt; told.is_empty());
-    assert!(rt; exit.ended.status == status && exit.ended.told.is_ok());
+    assert!(rt; ended.status == status && ended.told.is_ok());
     did
 }
 
