@@ -11,6 +11,7 @@ copied (Some bytes) = Some bytes.items
 -- what a contract sees of a keeper over a disk
 pub record Filed (D : Type 0) : Type 0 where
   pub disk : D
-  pub copy : What  -- what is kept: what the file has, unless the keeper is lost
+  pub copy : What  -- what is kept: what the file says, unless the keeper is lost
+  pub end : Option ℕ  -- how long the file is, where a record may be put behind it
   pub failures : ℕ
-  pub lost : Bool  -- the file may have other bytes than the copy
+  pub lost : Bool  -- the file may say another image than the copy

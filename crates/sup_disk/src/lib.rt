@@ -2,15 +2,19 @@
 #![tactic(auto)]
 
 pub mod disk;
+pub mod growing;
 pub mod keeping;
 pub mod lock;
 pub mod mem_disk;
+pub mod moments;
 pub mod replacing;
 pub mod system;
 
 pub use disk::Disk;
+pub use growing::append_on;
 pub use keeping::{DiskKeeper, ImageKeeper, Unopened};
 pub use lock::{FileLock, LockFault};
-pub use mem_disk::{MemDisk, Next};
+pub use mem_disk::{Left, MemDisk, Next};
+pub use moments::{Moment, Moments};
 pub use replacing::{ReplaceFault, replace_on};
 pub use system::SystemDisk;

@@ -1,8 +1,8 @@
 //! A file is replaced.
 
-ghost use Rattle.std.specs.Prelude.{◌≡◌, OnOk, IsOk};
+ghost use Rattle.std.specs.Prelude.{◌≡◌, true, OnOk, IsOk};
 ghost use Rattle.sup_disk.specs.declared.replacing.ReplaceFault.TheVariants.{Kept, Unsure};
-ghost use Rattle.sup_disk.specs.Crashes.{NoMore, OrThese, OnlyThese, WereFlushed};
+ghost use Rattle.sup_disk.specs.Crashes.{NoMore, OrThese, OnlyThese, WereFlushed, LeftSince, OrBytes};
 
 use crate::disk::Disk;
 use thiserror::Error;
@@ -27,9 +27,13 @@ pub enum ReplaceFault {
 /// - `ReplaceFault::Unsure` where they were, but could not be given its name, or the folder could not be flushed.
 pub fn replace_on<D: Disk>(disk: &mut D, bytes: &[u8]) -> Result<(), ReplaceFault>
     ensures only { OnOk result (OnlyThese (D.may_have disk.new) bytes.now) }
+    ensures settled { OnOk result (D.settled disk.new ≡ true) }
+    ensures shown { OnOk result (OnlyThese (D.shows disk.new) bytes.now) }
     ensures kept { result ≡ Err Kept → NoMore (D.may_have disk.old) (D.may_have disk.new) }
     ensures unsure { result ≡ Err Unsure → WereFlushed D.flushed bytes.now }
     ensures either { OrThese (D.may_have disk.old) (D.may_have disk.new) bytes.now }
+    // So it does at each moment until then.
+    ensures meanwhile { LeftSince (D.past disk.old) (D.past disk.new) (OrBytes (D.may_have disk.old) bytes.now) }
     // Over a disk that works it is done.
     ensures sure { D.works disk.old → IsOk result × D.works disk.new }
 {

@@ -5,7 +5,7 @@ ghost use Rattle.sup_disk.specs.Paths.{IsFolderOf, beside_of, folder_of, path_of
 
 use crate::disk::Disk;
 use std::alloc::{AllocError, Global};
-use std::fs::{self, File, OpenFile};
+use std::fs::{self, File, OpenFile, OpenOptions};
 use std::io::{self, ErrorKind, Read, Write};
 use std::rt::Files;
 
@@ -64,6 +64,8 @@ fn folder_in(alloc: Global, path: &str) -> Result<String, AllocError>
 }
 
 impl<R: Files + Drop> Disk for SystemDisk<R> {
+    ghost use Rattle.std.specs.Prelude.{true};
+
     // What it may have is trusted: that nothing is possible makes each clause hold emptily.
     ghost may_have = { λ _ _. ⊥ };
 
@@ -72,6 +74,14 @@ impl<R: Files + Drop> Disk for SystemDisk<R> {
     ghost flushed = { λ _ _. Unit {0} };
 
     ghost named = { λ _ _. Unit {0} };
+
+    ghost settled = { λ _. true };
+
+    ghost shows = { λ _ _. ⊥ };
+
+    ghost opened = { λ _. Unit {0} };
+
+    ghost past = { λ _ _. ⊥ };
 
     ghost may_refuse = { λ _ _. Unit {0} };
 
@@ -98,6 +108,40 @@ impl<R: Files + Drop> Disk for SystemDisk<R> {
 
     fn flush_folder(&mut self, _bytes: &[u8]) -> io::Result<()> {
         self.flush_names()
+    }
+
+    fn open_end(&mut self, len: u64) -> io::Result<()> {
+        let mut options = OpenOptions::new();
+        let file = options.append(true).open(&self.rt, self.path.as_str())?;
+        if file.metadata()?.len() != len {
+            return Err(io::Error::from(ErrorKind::InvalidData));
+        }
+        self.opened = Some(file);
+        Ok(())
+    }
+
+    fn append(&mut self, bytes: &[u8]) -> io::Result<()> {
+        match &mut self.opened {
+            Some(file) => file.write_all(bytes),
+            None => Err(io::Error::from(ErrorKind::NotFound)),
+        }
+    }
+
+    fn flush_file(&mut self) -> io::Result<()> {
+        match self.opened.take() {
+            Some(file) => file.sync_data(),
+            None => Err(io::Error::from(ErrorKind::NotFound)),
+        }
+    }
+
+    fn cut_file(&mut self, len: u64) -> io::Result<()> {
+        match self.opened.take() {
+            Some(file) => {
+                file.set_len(len)?;
+                file.sync_all()
+            }
+            None => Err(io::Error::from(ErrorKind::NotFound)),
+        }
     }
 
     fn read(&mut self, alloc: Global) -> io::Result<Option<Vec<u8>>> {

@@ -2,13 +2,13 @@
 
 use std::process::Abort;
 use sup_disk::{
-    Disk, DiskKeeper, FileLock, ImageKeeper, LockFault, MemDisk, Next, ReplaceFault, SystemDisk,
-    replace_on,
+    Disk, DiskKeeper, FileLock, ImageKeeper, Left, LockFault, MemDisk, Moments, Next,
+    ReplaceFault, SystemDisk, replace_on,
 };
 use sup_keeper::{KeepFault, Keeper};
 
 // A keeper of what this disk has. It ends the test where none can be opened.
-fn opened<D: Disk>(rt: &(impl Abort + AllocGlobal), disk: D) -> DiskKeeper<D> {
+pub(crate) fn opened<D: Disk>(rt: &(impl Abort + AllocGlobal), disk: D) -> DiskKeeper<D> {
     match DiskKeeper::open(rt.alloc(), disk) {
         Ok(keeper) => keeper,
         Err(_) => panic!(rt; "it doesn't open"),
@@ -24,6 +24,10 @@ fn keeping_one(rt: &(impl Abort + AllocGlobal), next: Next) -> DiskKeeper<MemDis
         safe: None,
         beside: None,
         is_flushed: false,
+        is_open: false,
+        coming: None,
+        is_settled: false,
+        moments: Moments::new(alloc),
         next,
     };
     opened(rt, disk)
@@ -104,7 +108,7 @@ fn a_loss_of_power_leaves_what_the_disk_had_and_nothing_beside_it(rt: HostRuntim
     disk.shown = Some(b"new".to_vec(alloc).expect(&rt, "room"));
     disk.safe = Some(b"old".to_vec(alloc).expect(&rt, "room"));
     disk.beside = Some(b"next".to_vec(alloc).expect(&rt, "room"));
-    assert!(rt; disk.lose_power(false).is_ok());
+    assert!(rt; disk.lose_power(Left::Safe).is_ok());
     assert_eq!(rt; left_by(&rt, &disk, true).as_slice(), b"old".as_slice());
     assert!(rt; disk.beside.is_none());
 }
@@ -123,10 +127,10 @@ fn a_rename_that_was_not_flushed_is_read_and_flushed_as_long_as_the_power_stays(
 
 #[test]
 fn a_rename_that_was_not_flushed_is_read_or_undone_once_the_power_went(rt: HostRuntime) {
-    for (is_ahead, left) in [(false, "one"), (true, "two")] {
+    for (left, bytes) in [(Left::Safe, "one"), (Left::Shown, "two")] {
         let mut disk = renamed_unflushed(&rt, Next::FolderFails);
-        assert!(rt; disk.lose_power(is_ahead).is_ok());
-        assert_eq!(rt; opened(&rt, disk).stored(), left.as_bytes());
+        assert!(rt; disk.lose_power(left).is_ok());
+        assert_eq!(rt; opened(&rt, disk).stored(), bytes.as_bytes());
     }
 }
 

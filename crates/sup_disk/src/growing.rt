@@ -1,0 +1,48 @@
+//! A record is put behind a file.
+
+ghost use Rattle.std.specs.Prelude.{◌≡◌, true, OnOk, IsOk};
+ghost use Rattle.sup_disk.specs.declared.replacing.ReplaceFault.TheVariants.{Kept, Unsure};
+ghost use Rattle.sup_disk.specs.Crashes.{NoMore, After, Follows, IsLonger, IsFramedLine, MayHaveRecord, AllLong, WasOpened, LeftSince};
+
+use crate::disk::Disk;
+use crate::replacing::ReplaceFault;
+
+/// Puts a record behind a file of this length. However it ends, a loss of power leaves what it would have left before, with the record
+/// behind it or with bytes that leave the image as it is; where no fault is told, with the record.
+///
+/// # Errors
+///
+/// - `ReplaceFault::Kept` where the file could not be opened, or was cut back after a write that failed: it has what it had.
+/// - `ReplaceFault::Unsure` where the record could not be flushed, or the file not be cut back.
+pub fn append_on<D: Disk>(disk: &mut D, len: u64, bytes: &[u8]) -> Result<(), ReplaceFault>
+    requires framed { IsFramedLine bytes.now }
+    requires settled { D.settled disk.old ≡ true }
+    requires long { AllLong len (D.may_have disk.old) }
+    requires shown { AllLong len (D.shows disk.old) }
+    ensures grown { OnOk result (Follows (IsLonger bytes.now) (D.shows disk.old) (D.may_have disk.new)) }
+    ensures shown { OnOk result (Follows (IsLonger bytes.now) (D.shows disk.old) (D.shows disk.new)) }
+    ensures settled { OnOk result (D.settled disk.new ≡ true) }
+    ensures still_settled { result ≡ Err Kept → D.settled disk.new ≡ true }
+    ensures kept { result ≡ Err Kept → NoMore (D.may_have disk.old) (D.may_have disk.new) }
+    ensures as_shown { result ≡ Err Kept → NoMore (D.shows disk.old) (D.shows disk.new) }
+    ensures unsure { result ≡ Err Unsure → WasOpened D.opened }
+    ensures either { Follows (MayHaveRecord bytes.now) (D.may_have disk.old) (D.may_have disk.new) }
+    // So it does at each moment until then.
+    ensures meanwhile { LeftSince (D.past disk.old) (D.past disk.new) (After (MayHaveRecord bytes.now) (D.may_have disk.old)) }
+    // Over a disk that works it is done.
+    ensures sure { D.works disk.old → IsOk result × D.works disk.new }
+{
+    if disk.open_end(len).is_err() {
+        return Err(ReplaceFault::Kept);
+    }
+    if disk.append(bytes).is_err() {
+        return match disk.cut_file(len) {
+            Ok(()) => Err(ReplaceFault::Kept),
+            Err(_) => Err(ReplaceFault::Unsure),
+        };
+    }
+    if disk.flush_file().is_err() {
+        return Err(ReplaceFault::Unsure);
+    }
+    Ok(())
+}
