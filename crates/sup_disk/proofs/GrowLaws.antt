@@ -1,6 +1,6 @@
 -- What is possible for a file behind which a record was put.
-use Rattle.std.proofs.Common.{◌≡◌, ◌⊎◌, inl, inr, ⊎_elim, ℕ, ◌+◌, List, [], ◌∷◌, ◌++◌, length, take, refl, sym, ◌∙◌, ap, subst, arith, length-append}
-use Rattle.std.specs.Prelude.{Option, Some, None}
+use Rattle.std.proofs.Common.{◌≡◌, inl, inr, ℕ, [], refl, sym, ◌∙◌, ap, subst}
+use Rattle.std.specs.Prelude.{Some, None}
 use Rattle.std.proofs.lemmas.List.{append-nil, take_at}
 use Rattle.sup_specs.specs.Values.{Bytes}
 use Rattle.sup_journal.specs.Files.{image_in}
@@ -89,5 +89,5 @@ module _ (bytes : Bytes) (n : ℕ) (past past1 past2 past3 may may1 may2 may3 : 
   since_cut long opens puts cuts first second third =
       let put : Follows (MayHaveRecord bytes) may may2 = before_record bytes may may1 may2 opens puts in
       since_then past past2 past3 may2 may3 Behind
-        (since_then past past1 past2 may1 may2 Behind (since_first past past1 may may1 Behind first opens as_it_was) second (λ what there. as_it_was what (opens what there)) put)
-        third put (maybe_cut bytes n may may2 may3 long put cuts)
+      (since_then past past1 past2 may1 may2 Behind (since_first past past1 may may1 Behind first opens as_it_was) second (λ what there. as_it_was what (opens what there)) put)
+      third put (maybe_cut bytes n may may2 may3 long put cuts)

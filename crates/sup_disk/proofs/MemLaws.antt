@@ -1,13 +1,13 @@
 -- What a disk in memory may have and shows behind which a record was put.
-use Rattle.std.proofs.Common.{◌≡◌, ◌⊎◌, inl, inr, ℕ, ◌<◌, List, [], ◌∷◌, ◌++◌, length, take, refl, sym, ◌∙◌, ap, subst, false, arith, length-append}
-use Rattle.std.specs.Prelude.{Option, Some, None}
+use Rattle.std.proofs.Common.{◌≡◌, ◌⊎◌, inl, inr, ℕ, ◌<◌, List, [], ◌∷◌, ◌++◌, length, take, refl, sym, ◌∙◌, ap, subst, arith, length-append}
+use Rattle.std.specs.Prelude.{Option}
 use Rattle.std.specs.Global.{Vec}
 use Rattle.sup_specs.specs.Values.{Bytes}
 use Rattle.sup_journal.specs.Appends.{LeavesImage}
 use Rattle.sup_journal.proofs.AppendLaws.{cut}
 use Rattle.sup_disk.specs.Copies.{copied}
-use Rattle.sup_disk.specs.Crashes.{What, LeftSince, Either, Follows, IsFramedLine, longer, IsLonger, MayBeLonger, MayHaveRecord}
-use Rattle.sup_disk.specs.Faults.{MayHave, IsPartOf, IsPutBehind}
+use Rattle.sup_disk.specs.Crashes.{What, Either, Follows, IsFramedLine, longer, IsLonger, MayBeLonger, MayHaveRecord}
+use Rattle.sup_disk.specs.Faults.{IsPutBehind}
 use Rattle.sup_disk.specs.declared.mem_disk.MemDisk.{MemDisk}
 use Rattle.sup_disk.specs.Instants.{Instant, HasAt, Had}
 use Rattle.sup_disk.specs.Moments.{now_of, has, had, IsBetween, remembered, put_at}

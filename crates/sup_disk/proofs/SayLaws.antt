@@ -1,5 +1,5 @@
 -- What a file says that was replaced, or behind which a record was put.
-use Rattle.std.proofs.Common.{◌≡◌, ◌⊎◌, inl, inr, ℕ, ◌+◌, Bool, true, List, [], ◌∷◌, ◌++◌, length, drop, take, refl, sym, ◌∙◌, ap, subst, arith, length-append}
+use Rattle.std.proofs.Common.{◌≡◌, inl, inr, ℕ, ◌+◌, Bool, true, [], ◌∷◌, ◌++◌, length, drop, refl, sym, ◌∙◌, ap, subst, length-append}
 use Rattle.std.specs.Prelude.{Option, Some, None}
 use Rattle.std.specs.List.{list_all}
 use Rattle.sup_specs.specs.Values.{Bytes}

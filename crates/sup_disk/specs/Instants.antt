@@ -1,5 +1,5 @@
 -- What a disk in memory could have had at a moment (this project).
-use Rattle.std.specs.Prelude.{◌≡◌, ◌⊎◌, ◌∷◌, [], List, Option}
+use Rattle.std.specs.Prelude.{◌⊎◌, ◌∷◌, [], List, Option}
 use Rattle.sup_specs.specs.Values.{Bytes}
 use Rattle.sup_disk.specs.declared.moments.Moment.{Moment}
 use Rattle.sup_disk.specs.Copies.{copied}

@@ -1,5 +1,5 @@
 -- What a disk in memory could have had at each moment up to now (this project).
-use Rattle.std.specs.Prelude.{◌≡◌, ◌⊎◌, ◌∷◌, ◌++◌, [], ℕ, true, false, List, Option, Some, None, take}
+use Rattle.std.specs.Prelude.{◌⊎◌, ◌∷◌, ◌++◌, [], ℕ, true, false, List, Option, Some, None, take}
 use Rattle.std.specs.Global.{Vec}
 use Rattle.sup_specs.specs.Values.{Bytes}
 use Rattle.sup_disk.specs.declared.mem_disk.Left.{Left}

@@ -42,6 +42,7 @@ pub fn append_on<D: Disk>(disk: &mut D, len: u64, bytes: &[u8]) -> Result<(), Re
         };
     }
     if disk.flush_file().is_err() {
+        // It may be there, or not.
         return Err(ReplaceFault::Unsure);
     }
     Ok(())

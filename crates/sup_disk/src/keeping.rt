@@ -102,7 +102,10 @@ impl<D: Disk> DiskKeeper<D> {
                     lost: false,
                     alloc,
                 }),
-                Err(error) => Err(Unopened { error, disk }),
+                Err(unread) => Err(Unopened {
+                    error: unread,
+                    disk,
+                }),
             },
             Err(error) => Err(Unopened { error, disk }),
         }
@@ -140,6 +143,7 @@ impl<D: Disk> DiskKeeper<D> {
                 Err(KeepFault::Failed)
             }
             Err(ReplaceFault::Unsure) => {
+                // Nobody knows whether the record is there.
                 self.lost = true;
                 self.failures += 1;
                 Err(KeepFault::Failed)
@@ -183,6 +187,7 @@ impl<D: Disk> DiskKeeper<D> {
                 Err(KeepFault::Failed)
             }
             Err(ReplaceFault::Unsure) => {
+                // Nobody knows which of the two is there.
                 self.end = None;
                 self.lost = true;
                 self.failures += 1;
@@ -302,8 +307,14 @@ impl<D: Disk> Keeper for DiskKeeper<D> {
     ghost use Rattle.std.specs.Prelude.{true, false};
 
     // A disk may fail at any time, and a load gives the copy.
-    ghost seen = { λ k. record { found = k.copy; failures = k.failures;
-        failing = k.lost; sound = false; readable = true; lost = k.lost } };
+    ghost seen = { λ k. record {
+      found = k.copy;
+      failures = k.failures;
+      failing = k.lost;
+      sound = false;
+      readable = true;
+      lost = k.lost;
+    } };
 
     fn save(&mut self, bytes: &[u8]) -> Result<(), KeepFault>
         ensures keeps { OnOk result (self.new.copy ≡ Some bytes.now) }

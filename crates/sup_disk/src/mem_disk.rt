@@ -208,11 +208,7 @@ fn put_behind(
     ensures part { IfOk result (λ p. IsPutBehind (copied file.now) line.now (copied p.0)) }
 {
     let coming = bytes_of(alloc, line)?;
-    let part = if fails {
-        &line[..line.len() / 2]
-    } else {
-        line
-    };
+    let part = if fails { &line[..line.len() / 2] } else { line };
     let shown = longer_by(alloc, file, part)?;
     Ok((shown, coming))
 }

@@ -14,9 +14,9 @@ returns-in-Err-clause-either g c =
 pub returns-in-Ok-clause-meanwhile : goal.returns-in-Ok-clause-meanwhile
 returns-in-Ok-clause-meanwhile g c =
     since_cut c.args.bytes.now c.args.len _ _ _ _ _ _ _ _ c.requires.long c.open_end.ensures.file c.append.ensures.file c.cut_file.ensures.file
-      c.open_end.ensures.meanwhile c.append.ensures.meanwhile c.cut_file.ensures.meanwhile
+    c.open_end.ensures.meanwhile c.append.ensures.meanwhile c.cut_file.ensures.meanwhile
 
 pub returns-in-Err-clause-meanwhile : goal.returns-in-Err-clause-meanwhile
 returns-in-Err-clause-meanwhile g c =
     since_cut c.args.bytes.now c.args.len _ _ _ _ _ _ _ _ c.requires.long c.open_end.ensures.file c.append.ensures.file c.cut_file.ensures.file
-      c.open_end.ensures.meanwhile c.append.ensures.meanwhile c.cut_file.ensures.meanwhile
+    c.open_end.ensures.meanwhile c.append.ensures.meanwhile c.cut_file.ensures.meanwhile

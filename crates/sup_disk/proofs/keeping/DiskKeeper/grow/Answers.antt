@@ -1,4 +1,4 @@
-use Rattle.std.proofs.Common.{◌≡◌, ◌∙◌, sym}
+use Rattle.std.proofs.Common.{◌∙◌}
 use Rattle.sup_disk.proofs.SayLaws.{all_long, grew, or_grew, since_grew, since_seen, same_lost, same_end, same_kept, seen_from}
 use Rattle.sup_disk.proofs.keeping.DiskKeeper.grow.Goals as goal
 
@@ -37,7 +37,7 @@ returns-clause-either g c =
     let at = same_end _ _ c.self.view_is ∙ c.requires.growth.from in
     let kept = same_kept _ _ c.self.view_is in
     seen_from g.D.Disk.may_have _ _ _ c.args.bytes.now c.self.view_is
-      (or_grew c.args.growth.from _ _ c.args.bytes.now c.args.growth.made.bytes.items c.deref.result.now _ _ kept (c.self.inside.ready known c.args.growth.from at) c.requires.growth.makes c.deref.ensures.value c.append_on.ensures.either)
+    (or_grew c.args.growth.from _ _ c.args.bytes.now c.args.growth.made.bytes.items c.deref.result.now _ _ kept (c.self.inside.ready known c.args.growth.from at) c.requires.growth.makes c.deref.ensures.value c.append_on.ensures.either)
 
 pub returns-clause-meanwhile : goal.returns-clause-meanwhile
 returns-clause-meanwhile g c =
@@ -45,7 +45,7 @@ returns-clause-meanwhile g c =
     let at = same_end _ _ c.self.view_is ∙ c.requires.growth.from in
     let kept = same_kept _ _ c.self.view_is in
     since_seen g.D.Disk.past g.D.Disk.may_have _ _ _ c.args.bytes.now c.self.view_is
-      (since_grew c.args.growth.from _ _ c.args.bytes.now c.args.growth.made.bytes.items c.deref.result.now _ _ _ kept (c.self.inside.ready known c.args.growth.from at) c.requires.growth.makes c.deref.ensures.value c.append_on.ensures.meanwhile)
+    (since_grew c.args.growth.from _ _ c.args.bytes.now c.args.growth.made.bytes.items c.deref.result.now _ _ _ kept (c.self.inside.ready known c.args.growth.from at) c.requires.growth.makes c.deref.ensures.value c.append_on.ensures.meanwhile)
 
 pub returns-in-Ok-clause-meanwhile : goal.returns-in-Ok-clause-meanwhile
 returns-in-Ok-clause-meanwhile g c =
@@ -53,7 +53,7 @@ returns-in-Ok-clause-meanwhile g c =
     let at = same_end _ _ c.self.view_is ∙ c.requires.growth.from in
     let kept = same_kept _ _ c.self.view_is in
     since_seen g.D.Disk.past g.D.Disk.may_have _ _ _ c.args.bytes.now c.self.view_is
-      (since_grew c.args.growth.from _ _ c.args.bytes.now c.args.growth.made.bytes.items c.deref.result.now _ _ _ kept (c.self.inside.ready known c.args.growth.from at) c.requires.growth.makes c.deref.ensures.value c.append_on.ensures.meanwhile)
+    (since_grew c.args.growth.from _ _ c.args.bytes.now c.args.growth.made.bytes.items c.deref.result.now _ _ _ kept (c.self.inside.ready known c.args.growth.from at) c.requires.growth.makes c.deref.ensures.value c.append_on.ensures.meanwhile)
 
 pub returns-in-Err-Kept-clause-meanwhile : goal.returns-in-Err-Kept-clause-meanwhile
 returns-in-Err-Kept-clause-meanwhile g c =
@@ -61,4 +61,4 @@ returns-in-Err-Kept-clause-meanwhile g c =
     let at = same_end _ _ c.self.view_is ∙ c.requires.growth.from in
     let kept = same_kept _ _ c.self.view_is in
     since_seen g.D.Disk.past g.D.Disk.may_have _ _ _ c.args.bytes.now c.self.view_is
-      (since_grew c.args.growth.from _ _ c.args.bytes.now c.args.growth.made.bytes.items c.deref.result.now _ _ _ kept (c.self.inside.ready known c.args.growth.from at) c.requires.growth.makes c.deref.ensures.value c.append_on.ensures.meanwhile)
+    (since_grew c.args.growth.from _ _ c.args.bytes.now c.args.growth.made.bytes.items c.deref.result.now _ _ _ kept (c.self.inside.ready known c.args.growth.from at) c.requires.growth.makes c.deref.ensures.value c.append_on.ensures.meanwhile)

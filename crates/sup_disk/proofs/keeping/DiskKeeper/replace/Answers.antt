@@ -1,4 +1,3 @@
-use Rattle.std.proofs.Common.{◌≡◌}
 use Rattle.sup_disk.proofs.SayLaws.{replaced, or_plain, since_plain, seen_from, since_seen}
 use Rattle.sup_disk.proofs.keeping.DiskKeeper.replace.Goals as goal
 

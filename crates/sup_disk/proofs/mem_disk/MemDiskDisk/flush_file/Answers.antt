@@ -1,4 +1,4 @@
-use Rattle.std.proofs.Common.{ap, true, false}
+use Rattle.std.proofs.Common.{ap, true}
 use Rattle.std.specs.Prelude.{None}
 use Rattle.sup_disk.specs.declared.mem_disk.MemDisk.{MemDisk}
 use Rattle.sup_disk.proofs.MemLaws.{between_changed}

@@ -1,5 +1,4 @@
-use Rattle.std.proofs.Common.{ap, true, false}
-use Rattle.std.specs.Prelude.{None}
+use Rattle.std.proofs.Common.{ap, false}
 use Rattle.sup_disk.specs.declared.mem_disk.MemDisk.{MemDisk}
 use Rattle.sup_disk.proofs.MemLaws.{between_changed}
 use Rattle.sup_disk.proofs.mem_disk.MemDiskDisk.rename.Goals as goal
