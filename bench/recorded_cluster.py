@@ -167,25 +167,27 @@ class Cluster:
         node.end(self.pick(VICTIMS))
 
     def fail_saves(self, node):
-        """What the node writes can't be written: it tells 16, and goes on."""
-        new = node.image.with_name(node.image.name + ".new")
+        """No record can be put behind the file, nor another written: the node tells 16, and goes on."""
+        new, away = node.image.with_name(node.image.name + ".new"), node.image.with_suffix(".away")
         new.unlink(missing_ok=True)
         new.mkdir()
+        node.image.rename(away)
         try:
             for verb in ("start", "join", "delete"):
                 self.ask(node, self.line(node, verb))
         finally:
             new.rmdir()
+            away.rename(node.image)
         self.seen["saves that failed"] += 1
 
     def fail_rename(self, node):
-        """The rename fails: the node tells 16, and ends."""
+        """No record can be put, so the file is replaced, and the rename fails: the node tells 16 twice, and ends."""
         away = node.image.with_suffix(".away")
         node.image.rename(away)
         node.image.mkdir()
         (node.image / "full").touch()
         try:
-            for verb in ("start", "delete", "join"):
+            for verb in ("start", "delete", "join", "start", "leave", "start"):
                 self.ask(node, self.line(node, verb))
         finally:
             shutil.rmtree(node.image)

@@ -12,6 +12,7 @@ import time
 
 sys.path.insert(0, str(pathlib.Path(__file__).parent.parent / "reference"))
 import forms
+import journal
 import random_scripts
 import rules
 
@@ -82,7 +83,7 @@ class Node:
 
 
 def is_whole(image):
-    value = json.loads(image.read_bytes())
+    value = json.loads(journal.image_of(image.read_bytes()))
     return value["kind"] == "image"
 
 
@@ -166,8 +167,9 @@ class Trials:
             subprocess.run(["umount", str(place)], check=True)
 
     def until_full(self, place):
-        image = place / "a.image"
+        image, ballast = place / "a.image", place / "ballast"
         node = self.node(image)
+        ballast.write_bytes(bytes(16 * 1024))
         for number in range(1, 2000):
             got = node.ask(f"start c{number} arg={'x' * 500}")
             if not got[0].startswith("ok"):
@@ -175,12 +177,38 @@ class Trials:
         demand(got == ["refused 16 KeepFailed"], got)
         shown = node.children()
         demand(len(shown) == number - 1 and is_whole(image), "something changed")
-        demand(node.ask("delete c1")[0].startswith("ok removed"), "a delete doesn't go")
+        ballast.unlink()
+        demand(node.ask("delete c1")[0].startswith("ok removed"), "a delete doesn't go where there is room again")
         node.kill()
         node = self.node(image)
         demand(node.children() == shown - {"c1"}, "another state after a kill")
         demand(node.end() == (0, ""), "its end")
-        return f"refused 16 behind {number - 1} children, a delete went, all were there again"
+        return f"refused 16 behind {number - 1} children, with room a delete went, all were there again"
+
+    def cuts(self):
+        """A file that is cut anywhere behind its first line has what its whole records say: no other state, and no older one."""
+        image, cut = self.folder / "whole.image", self.folder / "cut.image"
+        node = self.node(image)
+        for number in range(20):
+            node.ask(f"start c{number} arg=x")
+        node.kill()
+        # Behind a boot the file is one line.
+        node = self.node(image)
+        files, states = [image.read_bytes()], [node.children()]
+        for number in range(20, 20 + self.asked.cuts):
+            demand(node.ask(f"start c{number} arg=x")[0].startswith("ok"), "start", number)
+            states.append(states[-1] | {f"c{number}"})
+            files.append(image.read_bytes())
+        node.kill()
+        demand(all(new.startswith(old) for old, new in zip(files, files[1:])), "a start wrote the file anew")
+        whole, first = files[-1], len(files[0])
+        for length in range(first, len(whole) + 1):
+            cut.write_bytes(whole[:length])
+            node = self.node(cut)
+            told = states[max(number for number, file in enumerate(files) if len(file) <= length)]
+            demand(node.children() == told, "cut to", length, "it has", node.children())
+            node.kill()
+        return f"{len(whole) + 1 - first} lengths, each with what its whole records say"
 
     def second(self):
         image = self.folder / "two.image"
@@ -204,10 +232,15 @@ class Trials:
             node = self.node(image)
             demand(node.first is None and node.end() == (1, f"bad image {line}\n"), line)
             demand(image.read_text() == data, "a bad image was changed")
+        damaged = f"{text}\nx\n" + journal.record(journal.edit(0, 0, b"")).decode("ascii")
+        image.write_text(damaged)
+        node = self.node(image)
+        demand(node.first is None and node.end() == (3, "damaged image\n"), "a damaged file")
+        demand(image.read_text() == damaged, "a damaged file was changed")
         for words in [[], ["a"], ["a", "--image"], ["A", "--image", "x"], ["a", "--image", "x", "--image", "y"], ["a", "--image", "x", "--period", "0"]]:
             run = subprocess.run([self.program, *words], input=b"", capture_output=True)
             demand(run.returncode == 2 and run.stdout == b"" and run.stderr.startswith(b"usage: supd "), words, run)
-        return "five images refused with status 1, six command lines with status 2"
+        return "five images refused with status 1, a damaged one with 3, six command lines with status 2"
 
     # -- lines
 
@@ -344,7 +377,7 @@ class Played(random_scripts.Script):
 
     def of_stopped(self, verb, at):
         if verb == "image":
-            return [(self.folder / f"{at}.image").read_text()]
+            return [journal.image_of((self.folder / f"{at}.image").read_bytes()).decode("ascii")]
         return [f"node {at} down"] if verb in ("show", "inspect", "where") else ["refused 1 Down"]
 
     def restart(self, at):
@@ -411,13 +444,13 @@ def main():
     words.add_argument("folder", type=pathlib.Path)
     words.add_argument("--supctl", default="supctl")
     words.add_argument("--only")
-    for name, count in ("kills", 300), ("scripts", 60), ("starts", 9_999):
+    for name, count in ("kills", 300), ("cuts", 3), ("scripts", 60), ("starts", 9_999):
         words.add_argument(f"--{name}", type=int, default=count)
     asked = words.parse_args()
     signal.signal(signal.SIGTERM, lambda number, _: sys.exit(128 + number))
     trials = Trials(asked)
     try:
-        for name in ("kills", "folder_taken", "full_disk", "second", "bad_images", "lines", "scripts", "times"):
+        for name in ("kills", "cuts", "folder_taken", "full_disk", "second", "bad_images", "lines", "scripts", "times"):
             if asked.only in (None, name):
                 print(f"{name}: {getattr(trials, name)()}", flush=True)
     except Wrong as wrong:

@@ -12,7 +12,7 @@ ghost use Rattle.sup_disk.specs.Growths.{IsGrowth};
 ghost use Rattle.sup_disk.specs.Copies.{copied};
 
 use crate::disk::Disk;
-use crate::growing::append_on;
+use crate::growing::{AppendFault, append_on};
 use crate::replacing::{ReplaceFault, replace_on};
 use std::alloc::{AllocError, Global};
 use std::io::{self, ErrorKind};
@@ -136,13 +136,17 @@ impl<D: Disk> DiskKeeper<D> {
                 self.end = Some(to);
                 Ok(())
             }
-            Err(ReplaceFault::Kept) => {
+            Err(AppendFault::Unopened) => {
                 // The next save puts the file anew, wherever this one went.
                 self.end = None;
                 self.failures += 1;
                 Err(KeepFault::Failed)
             }
-            Err(ReplaceFault::Unsure) => {
+            Err(AppendFault::Kept) => {
+                self.failures += 1;
+                Err(KeepFault::Failed)
+            }
+            Err(AppendFault::Unsure) => {
                 // Nobody knows whether the record is there.
                 self.lost = true;
                 self.failures += 1;

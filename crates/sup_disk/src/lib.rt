@@ -11,7 +11,7 @@ pub mod replacing;
 pub mod system;
 
 pub use disk::Disk;
-pub use growing::append_on;
+pub use growing::{AppendFault, append_on};
 pub use keeping::{DiskKeeper, ImageKeeper, Unopened};
 pub use lock::{FileLock, LockFault};
 pub use mem_disk::{Left, MemDisk, Next};

@@ -119,18 +119,30 @@ fn behind_a_torn_record_the_file_is_replaced(rt: HostRuntime) {
     expect_file(&rt, keeper.disk(), THIRD);
 }
 
+// A save of the third image failed so, and nothing of it is there.
+fn expect_refused(rt: &(impl Abort + AllocGlobal), next: Next) -> DiskKeeper<MemDisk> {
+    let mut keeper = keeping_second_with(rt, next);
+    assert_eq!(rt; keeper.save(THIRD), Err(KeepFault::Failed));
+    assert!(rt; !keeper.is_lost());
+    assert_eq!(rt; keeper.failures(), 1);
+    assert_eq!(rt; keeper.stored(), SECOND);
+    expect_file(rt, keeper.disk(), SECOND);
+    keeper
+}
+
 #[test]
-fn a_record_that_was_not_put_leaves_the_old_file_and_the_next_save_replaces_it(rt: HostRuntime) {
-    for next in [Next::EndFails, Next::AppendFails] {
-        let mut keeper = keeping_second_with(&rt, next);
-        assert_eq!(rt; keeper.save(THIRD), Err(KeepFault::Failed));
-        assert!(rt; !keeper.is_lost());
-        assert_eq!(rt; keeper.failures(), 1);
-        assert_eq!(rt; keeper.stored(), SECOND);
-        expect_file(&rt, keeper.disk(), SECOND);
-        assert_eq!(rt; keeper.save(THIRD), Ok(()));
-        expect_file(&rt, keeper.disk(), THIRD);
-    }
+fn behind_a_file_that_could_not_be_opened_it_is_replaced(rt: HostRuntime) {
+    let mut keeper = expect_refused(&rt, Next::EndFails);
+    assert_eq!(rt; keeper.save(THIRD), Ok(()));
+    expect_file(&rt, keeper.disk(), THIRD);
+}
+
+#[test]
+fn a_record_that_could_not_be_written_is_cut_off_and_the_next_save_puts_another(rt: HostRuntime) {
+    let mut keeper = expect_refused(&rt, Next::AppendFails);
+    assert_eq!(rt; keeper.save(THIRD), Err(KeepFault::Failed));
+    expect_file(&rt, keeper.disk(), SECOND);
+    assert_eq!(rt; keeper.failures(), 2);
 }
 
 #[test]

@@ -30,6 +30,8 @@ impl LockedFile {
 }
 
 impl Disk for LockedFile {
+    ghost use Rattle.std.specs.Prelude.{true};
+
     // As of the file, all is trusted.
     ghost may_have = { λ _ _. ⊥ };
 
@@ -39,7 +41,18 @@ impl Disk for LockedFile {
 
     ghost named = { λ _ _. Unit {0} };
 
+    ghost settled = { λ _. true };
+
+    ghost shows = { λ _ _. ⊥ };
+
+    ghost opened = { λ _. Unit {0} };
+
+    ghost past = { λ _ _. ⊥ };
+
     ghost may_refuse = { λ _ _. Unit {0} };
+
+    // A file may fail at any time.
+    ghost works = { λ _. ⊥ };
 
     fn write_beside(&mut self, bytes: &[u8]) -> io::Result<()> {
         self.disk.write_beside(bytes)
@@ -55,6 +68,22 @@ impl Disk for LockedFile {
 
     fn flush_folder(&mut self, bytes: &[u8]) -> io::Result<()> {
         self.disk.flush_folder(bytes)
+    }
+
+    fn open_end(&mut self, len: u64) -> io::Result<()> {
+        self.disk.open_end(len)
+    }
+
+    fn append(&mut self, bytes: &[u8]) -> io::Result<()> {
+        self.disk.append(bytes)
+    }
+
+    fn flush_file(&mut self) -> io::Result<()> {
+        self.disk.flush_file()
+    }
+
+    fn cut_file(&mut self, len: u64) -> io::Result<()> {
+        self.disk.cut_file(len)
     }
 
     fn read(&mut self, alloc: Global) -> io::Result<Option<Vec<u8>>> {

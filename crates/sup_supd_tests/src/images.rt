@@ -17,6 +17,8 @@ struct Held {
 }
 
 impl Disk for Held {
+    ghost use Rattle.std.specs.Prelude.{true};
+
     ghost may_have = { λ _ _. ⊥ };
 
     ghost written = { λ _ _. Unit {0} };
@@ -25,7 +27,18 @@ impl Disk for Held {
 
     ghost named = { λ _ _. Unit {0} };
 
+    ghost settled = { λ _. true };
+
+    ghost shows = { λ _ _. ⊥ };
+
+    ghost opened = { λ _. Unit {0} };
+
+    ghost past = { λ _ _. ⊥ };
+
     ghost may_refuse = { λ held error. held.unread ≡ Some (error_kind error) };
+
+    // Each of its saves holds.
+    ghost works = { λ _. Unit {0} };
 
     fn write_beside(&mut self, _bytes: &[u8]) -> io::Result<()> {
         Ok(())
@@ -40,6 +53,22 @@ impl Disk for Held {
     }
 
     fn flush_folder(&mut self, _bytes: &[u8]) -> io::Result<()> {
+        Ok(())
+    }
+
+    fn open_end(&mut self, _len: u64) -> io::Result<()> {
+        Ok(())
+    }
+
+    fn append(&mut self, _bytes: &[u8]) -> io::Result<()> {
+        Ok(())
+    }
+
+    fn flush_file(&mut self) -> io::Result<()> {
+        Ok(())
+    }
+
+    fn cut_file(&mut self, _len: u64) -> io::Result<()> {
         Ok(())
     }
 

@@ -1,5 +1,6 @@
-use Rattle.std.proofs.Common.{◌∙◌}
-use Rattle.sup_disk.proofs.SayLaws.{all_long, grew, or_grew, since_grew, since_seen, same_lost, same_end, same_kept, seen_from}
+use Rattle.std.proofs.Common.{◌∙◌, ap}
+use Rattle.std.specs.Prelude.{Err}
+use Rattle.sup_disk.proofs.SayLaws.{all_long, grew, or_grew, ready_less, say_less, since_grew, since_seen, same_lost, same_end, same_kept, seen_from}
 use Rattle.sup_disk.proofs.keeping.DiskKeeper.grow.Goals as goal
 
 pub append_on-requires-clause-long : goal.append_on-requires-clause-long
@@ -55,6 +56,14 @@ returns-in-Ok-clause-meanwhile g c =
     since_seen g.D.Disk.past g.D.Disk.may_have _ _ _ c.args.bytes.now c.self.view_is
     (since_grew c.args.growth.from _ _ c.args.bytes.now c.args.growth.made.bytes.items c.deref.result.now _ _ _ kept (c.self.inside.ready known c.args.growth.from at) c.requires.growth.makes c.deref.ensures.value c.append_on.ensures.meanwhile)
 
+pub returns-in-Err-Unopened-clause-meanwhile : goal.returns-in-Err-Unopened-clause-meanwhile
+returns-in-Err-Unopened-clause-meanwhile g c =
+    let known = same_lost _ _ c.self.view_is ∙ c.requires.known in
+    let at = same_end _ _ c.self.view_is ∙ c.requires.growth.from in
+    let kept = same_kept _ _ c.self.view_is in
+    since_seen g.D.Disk.past g.D.Disk.may_have _ _ _ c.args.bytes.now c.self.view_is
+    (since_grew c.args.growth.from _ _ c.args.bytes.now c.args.growth.made.bytes.items c.deref.result.now _ _ _ kept (c.self.inside.ready known c.args.growth.from at) c.requires.growth.makes c.deref.ensures.value c.append_on.ensures.meanwhile)
+
 pub returns-in-Err-Kept-clause-meanwhile : goal.returns-in-Err-Kept-clause-meanwhile
 returns-in-Err-Kept-clause-meanwhile g c =
     let known = same_lost _ _ c.self.view_is ∙ c.requires.known in
@@ -62,3 +71,13 @@ returns-in-Err-Kept-clause-meanwhile g c =
     let kept = same_kept _ _ c.self.view_is in
     since_seen g.D.Disk.past g.D.Disk.may_have _ _ _ c.args.bytes.now c.self.view_is
     (since_grew c.args.growth.from _ _ c.args.bytes.now c.args.growth.made.bytes.items c.deref.result.now _ _ _ kept (c.self.inside.ready known c.args.growth.from at) c.requires.growth.makes c.deref.ensures.value c.append_on.ensures.meanwhile)
+
+pub invariant_of-self-inside-in-Err-Kept : goal.invariant_of-self-inside-in-Err-Kept
+invariant_of-self-inside-in-Err-Kept g c =
+    let is = c.in-Err-Kept.is ∙ ap Err c.in-Err-Kept.field-0-is in
+    let less = c.append_on.ensures.kept is in
+    let seen = c.append_on.ensures.as_shown is in
+    (
+      λ known. say_less _ _ _ (c.self.inside.agrees known) less,
+      (λ known n at. ready_less n _ _ _ (c.self.inside.ready known n at) less, (λ known n at. c.append_on.ensures.still_settled is, (λ known n at. ready_less n _ _ _ (c.self.inside.shown known n at) seen, tt))),
+    )
