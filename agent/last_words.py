@@ -5,6 +5,7 @@ MEANS = {
     "bad image CountSpent": "{image} has had all its boots: begin under another name",
     "bad image": "{image} is no whole image, and is left as it is; bring back a copy of it, or move it away: then the machine waits for what the others know",
     "device": "{image} can't be read or written: is its disk full, or its folder another user's?",
+    "damaged image": "a record behind {image} is damaged, and the file is left as it is; bring back a copy of it, or move it away: then the machine waits for what the others know",
     "image in use": "another process serves {image}",
 }
 

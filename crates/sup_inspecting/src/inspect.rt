@@ -1,13 +1,15 @@
-//! The command `inspect`: what a stored image tells.
+//! The command `inspect`: what a stored image tells, of the file of a node or as `image` prints it.
 
-ghost use Rattle.std.specs.Prelude.{◌≡◌, ◌≤◌, ◌+◌, length, string_bytes, Err, IfErr, IfOk, IfSome};
+ghost use Rattle.std.specs.Prelude.{◌≡◌, ◌≤◌, ◌+◌, ◌++◌, length, string_bytes, Err, IfErr, IfOk, IfSome, OnOk};
 ghost use Rattle.sup_jobs.specs.Ends.{TakesAtMost, TakesFor};
-ghost use Rattle.sup_inspecting.specs.InspectedImages.{InspectsTo, InspectsImage, IsUntold, TellsFront, TellsImage};
+ghost use Rattle.sup_inspecting.specs.InspectedImages.{InspectsTo, InspectsImage, IsUntold, TellsFront, TellsImage, records_text};
 
 use crate::fault::fault_of;
-use std::alloc::Global;
+use itoa::Buffer;
+use std::alloc::{AllocError, Global};
 use std::io::{Read, Write};
-use sup_jobs::{Ended, Fault, LIMIT, finish, put_all, read_input};
+use sup_jobs::{Ended, Fault, ImageFault, LIMIT, finish, put_all, read_input};
+use sup_journal::{ReadFault, count_records, read_image};
 use sup_node_text::still_text;
 use sup_placement::Weigh;
 use sup_still::Still;
@@ -66,10 +68,29 @@ fn image_text<G: Weigh>(alloc: Global, weigher: &G, input: &[u8]) -> Result<Stri
     ensures told { IfOk result (λ s. TellsImage G.weight_of input.now (string_bytes s)) }
     ensures fault { IfErr result (IsUntold input.now) }
 {
-    let still = match Still::read(alloc, input) {
+    let image = match read_image(alloc, input) {
+        Ok(image) => image,
+        Err(ReadFault::Damaged(_)) => return Err(Fault::BadImage(ImageFault::Damaged)),
+        Err(ReadFault::OutOfMemory) => return Err(Fault::OutOfMemory),
+    };
+    let still = match Still::read(alloc, image.as_slice()) {
         Ok(still) => still,
         Err(fault) => return Err(fault_of(fault)),
     };
-    let text = still_text(alloc, &still, weigher)?;
+    let mut text = still_text(alloc, &still, weigher)?;
+    tell_records(&mut text, count_records(input))?;
     Ok(text)
+}
+
+// How many records there are, where there are any.
+fn tell_records(text: &mut String, count: u64) -> Result<(), AllocError>
+    ensures { OnOk result (string_bytes text.new ≡ string_bytes text.old ++ records_text count) }
+{
+    if count == 0 {
+        return Ok(());
+    }
+    let mut digits = Buffer::new();
+    text.push_str("records ")?;
+    text.push_str(digits.format(count))?;
+    text.push_str("\n")
 }

@@ -3,7 +3,7 @@ use Rattle.std.specs.Prelude.{ℕ, List, [], ◌++◌, Result, Ok, Err, codes, d
 use Rattle.sup_jobs.specs.declared.fault.Fault.{Fault}
 use Rattle.sup_jobs.specs.declared.fault.Fault.TheVariants.{BadLine, BadInput, BadImage, Device, OutOfMemory}
 use Rattle.sup_jobs.specs.declared.fault.ImageFault.{ImageFault}
-use Rattle.sup_jobs.specs.declared.fault.ImageFault.TheVariants.{NotJson, NotMessage, BadVersion, NotCanonical}
+use Rattle.sup_jobs.specs.declared.fault.ImageFault.TheVariants.{NotJson, NotMessage, BadVersion, NotCanonical, Damaged}
 use Rattle.sup_jobs.specs.declared.input.InputFault.{InputFault}
 use Rattle.sup_jobs.specs.declared.input.InputFault.TheVariants as input
 
@@ -12,6 +12,7 @@ image_fault_name NotJson = codes "NotJson"
 image_fault_name NotMessage = codes "NotMessage"
 image_fault_name BadVersion = codes "BadVersion"
 image_fault_name NotCanonical = codes "NotCanonical"
+image_fault_name Damaged = codes "Damaged"
 
 -- the line on standard error
 abbrev pub fault_text : Fault → List ℕ

@@ -26,6 +26,9 @@ pub enum ImageFault {
     /// Rows or cloud break their order, the cloud's distance or the cover of the context.
     #[error("NotCanonical")]
     NotCanonical,
+    /// It is a file in which a record stands behind a line that is none.
+    #[error("Damaged")]
+    Damaged,
 }
 
 impl ImageFault {
@@ -40,6 +43,7 @@ impl ImageFault {
             ImageFault::NotMessage => "NotMessage",
             ImageFault::BadVersion => "BadVersion",
             ImageFault::NotCanonical => "NotCanonical",
+            ImageFault::Damaged => "Damaged",
         }
     }
 }

@@ -6,3 +6,4 @@ pub mod DigitLaws
 pub mod WrittenLaws
 pub mod CommonLaws
 pub mod ChangeLaws
+pub mod CountLaws

@@ -5,3 +5,4 @@ pub mod Files
 pub mod Appends
 pub mod Changes
 pub mod Making
+pub mod Counts

@@ -35,6 +35,7 @@
 
 mod changes;
 mod common;
+pub mod counting;
 mod edits;
 pub mod fnv;
 pub mod laws;
@@ -46,6 +47,7 @@ pub mod reading;
 mod records;
 mod slices;
 
+pub use counting::count_records;
 pub use fnv::checksum;
 pub use lines::is_one_line;
 pub use making::{Record, make_record};

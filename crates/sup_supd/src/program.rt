@@ -14,7 +14,7 @@ use crate::leaves::Leaves;
 use crate::left::Left;
 use crate::node::run_filed;
 use crate::settings::{Settings, read_settings};
-use crate::unserved::{Unserved, refuse, why_for, why_untaken};
+use crate::unserved::{Unserved, refuse, why_for, why_unread, why_untaken};
 use std::alloc::{AllocError, Global};
 use std::env::Args;
 use std::io::{self, BufReader, Read, Write};
@@ -99,7 +99,8 @@ fn streams_of<R: Read + Drop, W: Write + Drop>(
 
 /// Runs the node that the words after the program's name set, over a keeper of its image, until its host says no more: [`run_filed`] has
 /// the rest. Answers the exit status: that of the run, or `USAGE` where the words are refused, and 3 where the image can't be taken or
-/// read, or memory was refused; and what is left of the images: where no node ran, they are as they were, or an image that can't be read.
+/// read, is damaged, or memory was refused; and what is left of the images: where no node ran, they are as they were, or an image that
+/// can't be read.
 pub fn run_arguments<I: Images, H: Host<DiskKeeper<I::Disk>>, E: Write>(
     alloc: Global,
     arguments: io::Result<Args>,
@@ -209,7 +210,7 @@ fn run_set<I: Images, H: Host<DiskKeeper<I::Disk>>, E: Write>(
         Ok(keeper) => keeper,
         Err(unopened) => {
             let Unopened { error, disk } = unopened;
-            let why = why_for(&error, Unserved::Device);
+            let why = why_unread(&error);
             return (refuse(errors, why), Leaves::Image(disk));
         }
     };

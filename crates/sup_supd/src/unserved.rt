@@ -2,7 +2,7 @@
 
 ghost use Rattle.std.specs.Prelude.{◌≡◌};
 ghost use Rattle.sup_supd.specs.Ends.{IsToldAs};
-ghost use Rattle.sup_supd.specs.Reasons.{IsWhyFor, of_lock, why_told};
+ghost use Rattle.sup_supd.specs.Reasons.{IsWhyFor, IsWhyUnread, of_lock, why_told};
 
 use std::io::{self, ErrorKind, Write};
 use sup_disk::LockFault;
@@ -20,6 +20,8 @@ pub enum Unserved {
     Taken,
     /// The image can't be taken or read.
     Device,
+    /// A record of the image stands behind a line that is none.
+    Damaged,
     /// Memory was refused.
     OutOfMemory,
 }
@@ -32,6 +34,17 @@ pub(crate) fn why_for(error: &io::Error, other: Unserved) -> Unserved
         Unserved::OutOfMemory
     } else {
         other
+    }
+}
+
+// Why an image that was taken isn't read.
+pub(crate) fn why_unread(error: &io::Error) -> Unserved
+    ensures { IsWhyUnread error.now result }
+{
+    match error.kind() {
+        ErrorKind::OutOfMemory => Unserved::OutOfMemory,
+        ErrorKind::InvalidData => Unserved::Damaged,
+        _ => Unserved::Device,
     }
 }
 
@@ -56,6 +69,10 @@ pub(crate) fn refuse<E: Write>(errors: &mut E, why: Unserved) -> Ended
             told: put_all(errors, b"image in use\n"),
         },
         Unserved::Device => finish(errors, Err(Fault::Device)),
+        Unserved::Damaged => Ended {
+            status: 3,
+            told: put_all(errors, b"damaged image\n"),
+        },
         Unserved::OutOfMemory => finish(errors, Err(Fault::OutOfMemory)),
     }
 }

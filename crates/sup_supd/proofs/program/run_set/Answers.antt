@@ -8,8 +8,8 @@ returns-in-Err g c = inr (c.why_untaken.result, (set_of c.args.settings, refl, c
 
 pub returns-in-Err-open : goal.returns-in-Err-open
 returns-in-Err-open g c = inr (
-  c.why_for-why.result,
-  (set_of c.args.settings, refl, c.in-Ok.disk, c.in-Ok.ensures, c.in-Err-open.ensures.left, c.in-Err-open.unopened.error, c.in-Err-open.ensures.why, c.why_for-why.ensures),
+  c.why_unread-why.result,
+  (set_of c.args.settings, refl, c.in-Ok.disk, c.in-Ok.ensures, c.in-Err-open.ensures.left, c.in-Err-open.unopened.error, c.in-Err-open.ensures.why, c.why_unread-why.ensures),
   refl,
   c.refuse-in-Err-open.ensures,
 )
