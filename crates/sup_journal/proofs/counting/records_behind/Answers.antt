@@ -8,8 +8,8 @@ returns-then-not-is_sound c = count_bad _ c.loop-line.count c.loop-line.rest.now
 
 pub loop-line-preserved : goal.loop-line-preserved
 loop-line-preserved c = (
-  count_more _ c.loop-line.count c.one_for.result c.loop-line.rest.now c.in-Some.line.now c.in-Some.next.now c.loop-line.invariant.0 c.in-Some.ensures (sym c.is_sound.ensures ∙ c.if-not-is_sound.false) c.one_for.ensures.value,
-  omega (arith, cut_shorter c.loop-line.rest.now c.in-Some.line.now c.in-Some.next.now c.in-Some.ensures, c.one_for.ensures.bound, c.loop-line.invariant.1),
+  count_more _ c.loop-line.count c.one_for-count.result c.loop-line.rest.now c.in-Some.line.now c.in-Some.next.now c.loop-line.invariant.0 c.in-Some.ensures (sym c.is_sound.ensures ∙ c.if-not-is_sound.false) c.one_for-count.ensures.value,
+  omega (arith, cut_shorter c.loop-line.rest.now c.in-Some.line.now c.in-Some.next.now c.in-Some.ensures, c.one_for-count.ensures.bound, c.loop-line.invariant.1),
 )
 
 pub returns : goal.returns
