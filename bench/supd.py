@@ -156,7 +156,7 @@ class Trials:
     def full_disk(self):
         place = self.folder / "small"
         place.mkdir()
-        made = subprocess.run(["mount", "-t", "tmpfs", "-o", "size=64k", "none", str(place)], capture_output=True)
+        made = subprocess.run(["mount", "-t", "tmpfs", "-o", "size=256k", "none", str(place)], capture_output=True)
         if made.returncode:
             return "not tried: no leave to mount a tmpfs"
         try:
@@ -169,7 +169,7 @@ class Trials:
     def until_full(self, place):
         image, ballast = place / "a.image", place / "ballast"
         node = self.node(image)
-        ballast.write_bytes(bytes(16 * 1024))
+        ballast.write_bytes(bytes(128 * 1024))
         for number in range(1, 2000):
             got = node.ask(f"start c{number} arg={'x' * 500}")
             if not got[0].startswith("ok"):
