@@ -31,7 +31,7 @@ class Machine:
         return self.peers is None or name in self.peers or self.agent is not None and name in self.agent.core.members.since
 
     def is_hindered(self):
-        return self.is_held or self.node_slow or self.node_held_until > self.world.now or bool(self.secret or self.setting)
+        return self.is_held or self.node_slow or self.node_held_until > self.world.now or bool(self.secret or self.setting) or self.agent is not None and self.agent.is_without_node()
 
     def state(self):
         """What its disk tells: known dots, and the row of each that lives."""

@@ -10,6 +10,7 @@ OPTIONS = types.SimpleNamespace(silent=3, every=0.5, grace=3, least=1, label="x"
                                 leave_time=5, patience=2, setting="8 groups, weigher sha256", alone=False, text=False, knows_peers=True)
 DO = {"begin node": "begin_node", "kill node": "kill_node", "end leftovers": "end_leftovers"}  # the others are named as their actions
 SOON = 0.002  # seconds until an agent hears of what has happened on its machine
+NODE_AWAY = 1  # seconds without a node from which on an agent, which carries nothing then, is hindered
 
 
 class Shell:
@@ -25,6 +26,7 @@ class Shell:
         self.has_text, self.late = options.text, None  # ends that are told once there is a node, None where they are told at once
         if before is not None:
             self.go_on_with(before)
+        self.node_goes()
         self.world.after(0, self.take, "tick")
 
     def go_on_with(self, before):
@@ -112,8 +114,17 @@ class Shell:
         except nodes.NoNode as fault:
             self.take("node_gone", fault.args[0])
             return
+        self.world.network.changes()
         self.take("node_began", self.node.first)
         self.tell_late()
+
+    def node_goes(self):
+        """There is no node from now on."""
+        self.node, self.node_away_from = None, self.world.now
+        self.world.after(NODE_AWAY + 0.001, self.world.network.changes)
+
+    def is_without_node(self):
+        return self.node is None and self.world.now - self.node_away_from > NODE_AWAY
 
     def wakes(self):
         return max(self.machine.frozen_until, self.machine.node_held_until)
@@ -153,7 +164,7 @@ class Shell:
     def end_node(self):
         if self.node is not None:
             self.node.end()
-        self.node = None
+            self.node_goes()
 
     def whole(self, image, sender, to):
         return self.node.whole(image, sender, to)
