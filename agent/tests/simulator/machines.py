@@ -31,7 +31,10 @@ class Machine:
         return self.peers is None or name in self.peers or self.agent is not None and name in self.agent.core.members.since
 
     def is_hindered(self):
-        return self.is_held or self.node_slow or self.node_held_until > self.world.now or bool(self.secret or self.setting) or self.agent is not None and self.agent.is_without_node()
+        return self.is_held or self.node_slow or self.node_held_until > self.world.now or bool(self.secret or self.setting) or self.is_mute()
+
+    def is_mute(self):
+        return self.agent is not None and self.agent.is_mute()
 
     def state(self):
         """What its disk tells: known dots, and the row of each that lives."""

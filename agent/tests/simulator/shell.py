@@ -10,7 +10,7 @@ OPTIONS = types.SimpleNamespace(silent=3, every=0.5, grace=3, least=1, label="x"
                                 leave_time=5, patience=2, setting="8 groups, weigher sha256", alone=False, text=False, knows_peers=True)
 DO = {"begin node": "begin_node", "kill node": "kill_node", "end leftovers": "end_leftovers"}  # the others are named as their actions
 SOON = 0.002  # seconds until an agent hears of what has happened on its machine
-NODE_AWAY = 1  # seconds without a node from which on an agent, which carries nothing then, is hindered
+MUTE = 1      # seconds for which an agent has told nothing, since it has no node, from which on nobody is said to hear it or to hear others by it
 
 
 class Shell:
@@ -18,6 +18,7 @@ class Shell:
         """`before` is the shell of the program whose runs this one goes on with."""
         self.machine, self.world, self.node, self.processes, self.tick_at, self.lines, self.is_open = machine, machine.world, None, {}, None, [], True
         self.members = set()  # to which it connects, as it was looked at last
+        self.mute_from = None  # since when it tells nothing
         options = types.SimpleNamespace(**{**vars(self.world.options), "setting": machine.setting or self.world.options.setting})
         others = [name for name, other in self.world.machines.items() if name != machine.name and not other.is_twin]
         peers = (others if machine.peers is None else machine.peers) if options.knows_peers else None
@@ -26,7 +27,6 @@ class Shell:
         self.has_text, self.late = options.text, None  # ends that are told once there is a node, None where they are told at once
         if before is not None:
             self.go_on_with(before)
-        self.node_goes()
         self.world.after(0, self.take, "tick")
 
     def go_on_with(self, before):
@@ -70,7 +70,17 @@ class Shell:
         if self.machine.peers is not None and self.core.members.since.keys() != self.members:
             self.members = set(self.core.members.since)
             self.world.network.relink()
+        self.look_whether_it_tells()
         self.look_again()
+
+    def look_whether_it_tells(self):
+        is_silent = self.core.telling.is_silent()
+        if is_silent != (self.mute_from is not None):
+            self.mute_from = self.world.now if is_silent else None
+            self.world.after(MUTE + 0.001 if is_silent else 0, self.world.network.changes)
+
+    def is_mute(self):
+        return self.mute_from is not None and self.world.now - self.mute_from > MUTE
 
     def look_again(self):
         now, machine = self.world.now, self.machine
@@ -114,17 +124,8 @@ class Shell:
         except nodes.NoNode as fault:
             self.take("node_gone", fault.args[0])
             return
-        self.world.network.changes()
         self.take("node_began", self.node.first)
         self.tell_late()
-
-    def node_goes(self):
-        """There is no node from now on."""
-        self.node, self.node_away_from = None, self.world.now
-        self.world.after(NODE_AWAY + 0.001, self.world.network.changes)
-
-    def is_without_node(self):
-        return self.node is None and self.world.now - self.node_away_from > NODE_AWAY
 
     def wakes(self):
         return max(self.machine.frozen_until, self.machine.node_held_until)
@@ -164,7 +165,7 @@ class Shell:
     def end_node(self):
         if self.node is not None:
             self.node.end()
-            self.node_goes()
+        self.node = None
 
     def whole(self, image, sender, to):
         return self.node.whole(image, sender, to)
