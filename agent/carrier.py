@@ -142,13 +142,13 @@ class Carrier:
     def ask(self, line):
         if self.node is not None and self.node.is_open:  # else it has ended, and the core is still to hear of it
             asked = seconds()
-            self.node.ask(line, lambda lines: self.answered(lines, asked))
+            self.node.ask(line, lambda lines: self.answered(line, lines, asked))
 
-    def answered(self, lines, asked):
-        """An answer of the node. One that begins with a member has all of them."""
+    def answered(self, line, lines, asked):
+        """An answer of the node to a line. What `where member` is told begins as a member does."""
         self.host.metrics.steps.note(seconds() - asked)
-        if lines and lines[0].startswith("member "):
-            self.links.learn(self.number, {line.split(" ")[1]: line.partition(" label=")[2] for line in lines if line.startswith("member ")})
+        if line == "members" and lines and lines[0].startswith("member "):
+            self.links.learn(self.number, {one.split(" ")[1]: one.partition(" label=")[2] for one in lines})
         self.give("answered", [lines])
 
     def begin_node(self):
@@ -222,7 +222,7 @@ class Carrier:
 
     def is_over(self):
         """Whether nothing of it is to go on."""
-        return self.has_left and not self.overlaps.freed
+        return self.has_left and self.overlaps.are_over()
 
     def is_at_rest(self):
         """Whether nobody waits for a reply, no child moves, and its node is told of each run that has ended."""

@@ -16,9 +16,9 @@ LOOKS, LOOK_EACH = 100, 0.01  # seconds between two looks whether what was kille
 def own():
     """The folder of this process's cgroup, in which it may make others, and in which it is alone; None where there is none."""
     try:
-        with open("/proc/self/cgroup") as file:
+        with open("/proc/self/cgroup", errors="surrogateescape") as file:
             path = next(line.rstrip("\n").split(":", 2)[2] for line in file if line.startswith("0::"))
-        with open("/proc/self/mountinfo") as file:
+        with open("/proc/self/mountinfo", errors="surrogateescape") as file:
             mounts = [line.split(" ") for line in file]
         mount = next(words for words in mounts if words[words.index("-") + 1] == "cgroup2")
         folder = os.path.join(mount[4], os.path.relpath(path, mount[3]))

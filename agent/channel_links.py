@@ -23,7 +23,8 @@ from ways import Ways
 HELLO_EACH = 1  # seconds between two hellos to all, and to a machine of which there is only a hello
 MOST_WAITING = 4000  # lines that wait to leave
 BUSY = 100  # lines that wait to leave, behind which no letters are taken
-MOST_COME = 10_000  # lines that have come and wait to be opened; what comes beside them is lost
+MOST_COME, MOST_BYTES = 10_000, 128 << 20  # lines that have come and wait to be opened, and their bytes; what comes beside them is lost
+PIECE = 0.05  # seconds of a turn that are spent on them, since anybody may write there, without end
 ALL = "all"
 
 
@@ -56,7 +57,7 @@ class ChannelLinks:
         self.guard, self.greeter = seals.Guard(secret, me, token), seals.Seal(secret, me, token, ALL, ALL)
         self.counts = itertools.count(1)  # of all lines under a token: of one way after another to a machine, too, the counts only rise
         self.greeted, self.hello_at, self.is_open, self.state = {}, 0, True, ""  # of each token of a hello when it was answered
-        self.has_told_unsealed = False
+        self.has_told_unsealed, self.brought, self.opened = False, 0, 0  # bytes of lines: one thread counts what it brought, the loop what it opened
         self.come, self.leave = queue.Queue(MOST_COME), queue.Queue(MOST_WAITING)
         self.wake, self.woken = os.pipe()
         os.set_blocking(self.wake, False)
@@ -94,36 +95,58 @@ class ChannelLinks:
 
     def bring(self, to_all, line):
         """Hands a line to the loop, and wakes it."""
+        size = 0 if to_all is None else len(line)
+        if self.brought - self.opened + size > MOST_BYTES:
+            return
         try:
             self.come.put_nowait((to_all, line))
+        except queue.Full:
+            return
+        if size:  # who brings a state, in the other thread, counts nothing
+            self.brought += size
+        self.wake_loop()
+
+    def wake_loop(self):
+        try:
             os.write(self.woken, b".")
-        except (queue.Full, OSError):
+        except OSError:
             pass
 
     def publish(self):
-        server = self.channels()
+        server, told = self.channels(), ""
         while True:
             channel, line = self.leave.get()
             try:
                 server.publish(channel, line)
+                told = ""
             except channels.TooLong as fault:
                 self.bring(None, str(fault))
-            except Exception:
+            except Exception as fault:
+                if str(fault) != told:  # once, since each line may fail
+                    told = str(fault)
+                    self.bring(None, f"no line leaves: {told}")
                 time.sleep(0.1)
 
     # -- the loop's side
 
     def arrived(self, _):
         os.read(self.wake, 65536)
+        until = seconds() + PIECE
         while not self.come.empty():
-            to_all, line = self.come.get()
-            if to_all is None:
-                self.tell_state(line)
-                continue
-            try:
-                self.hello(line) if to_all else self.line(line)
-            except seals.Refused as refusal:
-                self.hearer.refuse(self.via, refusal)
+            self.open(*self.come.get())
+            if seconds() > until:
+                self.wake_loop()  # the rest is for the next turn
+                return
+
+    def open(self, to_all, line):
+        if to_all is None:
+            self.tell_state(line)
+            return
+        self.opened += len(line)
+        try:
+            self.hello(line) if to_all else self.line(line)
+        except seals.Refused as refusal:
+            self.hearer.refuse(self.via, refusal)
 
     def tell_state(self, state):
         if state != self.state:

@@ -94,7 +94,11 @@ class Nats:
 
     def publish(self, channel, line):
         if self.link is None:
-            self.connect()
+            try:
+                self.connect()
+            except Exception:
+                self.close()  # half a connection is none
+                raise
         line = line.encode() if isinstance(line, str) else line
         if len(line) > self.most:
             raise TooLong(f"a line of {len(line)} bytes: the server's max_payload is {self.most}")
@@ -115,6 +119,8 @@ class Nats:
                 come = self.link.recv(4096)
                 if not come:
                     raise OSError("the server has ended the connection")
+                if b"-ERR" in come:
+                    raise OSError(come[come.index(b"-ERR"):].partition(b"\r\n")[0].decode("ascii", "replace"))
                 if b"PONG" in come:
                     self.asked_at = None
                 if b"PING" in come:

@@ -47,7 +47,7 @@ def ask_all(address, secret, asked, patience=PATIENCE):
             if len(hello) != 3 or hello[0] != "hello":
                 raise NoAnswer("no agent is there")
             session = seals.fresh()
-            seal, guard = seals.Seal(secret, seals.CLIENT, session, hello[1], hello[2]), seals.Guard(secret, seals.CLIENT, session)
+            seal, guard = seals.Seal(secret, seals.CLIENT, session, hello[1], hello[2]), seals.Guard(secret, seals.CLIENT, session, misses_none=True)
             # the first line is a short one: who hasn't said a right line is taken for a stranger, and may say no long one
             say(link, "".join(seal.line(text) + "\n" for text in ["hello " + who(), *("ask " + line for line in asked)]))
             return [answer_of(lines, guard) for _ in asked]

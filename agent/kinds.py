@@ -54,7 +54,10 @@ class Kind:
             if found[1] not in stands_for and self.split:
                 raise OSError(0, f"its argument has {len(parts)} parts, and its kind wants {found[1]}")
             return stands_for.get(found[1], found[0])
-        return dataclasses.replace(self, **{field.name: fill(getattr(self, field.name)) for field in dataclasses.fields(self) if field.name != "split"})
+        filled = dataclasses.replace(self, **{field.name: fill(getattr(self, field.name)) for field in dataclasses.fields(self) if field.name != "split"})
+        if self.command and not filled.command:
+            raise OSError(0, "its argument has no parts, and its kind's command is made of them alone")
+        return filled
 
 
 def whole(digits):

@@ -6,7 +6,9 @@ A session's number may be given again once nobody is in it; so a session counts 
 it had begun when the agent was last known to live: until then the number was the run's.
 """
 import os
+import queue
 import signal
+import threading
 import time
 
 from clock import seconds
@@ -22,9 +24,9 @@ class Process:
     """A process as the kernel shows it. OSError where there is none."""
 
     def __init__(self, pid):
-        with open(f"/proc/{pid}/stat") as file:
-            words = file.read().rsplit(")", 1)[1].split()
-        self.pid, self.lives, self.session, self.begun = int(pid), words[0] not in "ZX", int(words[3]), int(words[19])  # `begun` in ticks since the boot
+        with open(f"/proc/{pid}/stat", "rb") as file:  # a name may be of any bytes
+            words = file.read().rsplit(b")", 1)[1].split()
+        self.pid, self.lives, self.session, self.begun = int(pid), words[0] not in b"ZX", int(words[3]), int(words[19])  # `begun` in ticks since the boot
 
     def kill(self):
         """Kills it, and no other one that was given its number meanwhile. Whether it did."""
@@ -62,32 +64,84 @@ def ticks():
 
 
 class Sessions:
-    """The sessions of the runs that live, in a file. Where that can't be written, only the mark tells of what is left."""
+    """The sessions of the runs that live, in a file. Where that can't be written, only the mark tells of what is left. A thread writes it: a disk may hang, or
+    stand still while it is copied, and who waits for it is silent."""
 
     def __init__(self, path):
-        self.path, self.file, self.live, self.lines, self.lives_at = os.path.abspath(path), None, {}, 0, 0
+        self.path, self.live, self.lines, self.lives_at = os.path.abspath(path), {}, 0, 0
+        self.file, self.todo, self.thread = None, queue.Queue(), None  # `file` is the thread's own
 
     def left(self):
         """The sessions that an earlier agent has noted since this machine began, each with the begin of its leader, and when that agent lived last."""
         try:
-            with open(self.path) as file:
-                head, *lines = file.read().splitlines()
+            with open(self.path, "rb") as file:
+                head, *lines = os.fsdecode(file.read()).split("\n")[:-1]
             of_boot, lived, path = head.split(" ", 2)
             return (sessions_of(lines), int(lived)) if (of_boot, path) == (boot(), self.path) else ({}, 0)
         except (OSError, ValueError):
             return {}, 0
 
+    def do(self, *what):
+        """Has the thread do something behind all that it was told before."""
+        self.todo.put(what)
+        if self.thread is None:
+            thread = threading.Thread(target=self.work, daemon=True)
+            try:
+                thread.start()
+                self.thread = thread
+            except RuntimeError:
+                pass  # no room for it now: the next line tries again
+
+    def work(self):
+        while True:
+            do, *words = self.todo.get()
+            do(*words)
+            self.todo.task_done()
+
+    def settle(self):
+        """Waits until all is written."""
+        self.todo.join()
+
     def begin(self):
-        """Writes the file anew, with what lives."""
+        """Has the file written anew, with what lives."""
+        self.lines = len(self.live)
+        self.do(self.write_anew)
+
+    # -- the thread's
+
+    def write_anew(self):
+        live = self.live.copy()  # at once, whatever the loop does
         try:
-            file = open(self.path + ".new", "w")
-            file.write(self.head() + "".join(f"+ {number} {begun}\n" for number, begun in self.live.items()))
+            file = open(self.path + ".new", "wb")
+            file.write(os.fsencode(self.head() + "".join(f"+ {number} {begun}\n" for number, begun in live.items())))
             file.flush()
             os.rename(self.path + ".new", self.path)
         except OSError:
             return
         self.close()
-        self.file, self.lines = file, len(self.live)
+        self.file = file
+
+    def append(self, line):
+        if self.file is None:
+            self.write_anew()
+            return
+        try:
+            os.write(self.file.fileno(), line.encode("ascii"))
+        except OSError:
+            pass
+
+    def sign(self):
+        if self.file is not None:
+            try:
+                os.pwrite(self.file.fileno(), os.fsencode(self.head()), 0)
+            except OSError:
+                pass
+
+    def close(self):
+        if self.file is not None:
+            self.file.close()
+
+    # -- the loop's
 
     def head(self):
         """It names the file, since a copy of it tells of another agent's runs, which may live."""
@@ -107,25 +161,15 @@ class Sessions:
 
     def write(self, line):
         self.lines += 1
-        if self.file is None or self.lines > MOST_LINES + 2 * len(self.live):
+        if self.lines > MOST_LINES + 2 * len(self.live):
             self.begin()
-            return
-        try:
-            os.write(self.file.fileno(), line.encode("ascii"))
-        except OSError:
-            pass
+        else:
+            self.do(self.append, line)
 
     def tick(self, now):
-        if self.live and self.file is not None and now >= self.lives_at:
+        if self.live and now >= self.lives_at and self.todo.empty():
             self.lives_at = now + LIVES_EACH
-            try:
-                os.pwrite(self.file.fileno(), self.head().encode("ascii"), 0)
-            except OSError:
-                pass
-
-    def close(self):
-        if self.file is not None:
-            self.file.close()
+            self.do(self.sign)
 
 
 def sessions_of(lines):
@@ -152,7 +196,7 @@ def end(mark, sessions=None, lived=0):
 
 
 def find(mark, sessions, lived):
-    word, here = f"{MARK}={mark}".encode(), look()
+    word, here = os.fsencode(f"{MARK}={mark}"), look()
     of_mark = {process.pid for process in here.values() if word in environment(process.pid)}
     ours = {number for number in sessions if is_ours(number, sessions[number], lived, here)} | of_mark
     return [process for process in here.values() if process.lives and (process.pid in of_mark or process.session in ours)]

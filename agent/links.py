@@ -86,6 +86,9 @@ class Caller:
     def take_line(self, sender, session, text):
         if self.way is None:
             self.way = self.server.way_of(sender, session, text, self.wire)
+            self.way.say("hello")
+            if self.wire.open:  # else it was lost meanwhile
+                self.server.ways.add(self.way)
         elif (sender, session) != (self.way.name, self.way.mark):
             raise seals.Refused("another machine's line")
         elif text != "hello":
@@ -121,10 +124,7 @@ class Server:
         may_come_later = self.ways is not None and self.secret is not None and sender != self.name  # who has the secret and no peer's name
         if not (sender in self.known or may_come_later) or word != "hello" or not seals.SESSION.fullmatch(challenge):
             raise seals.Refused("no line of a machine of this cluster")
-        way = TcpWay(sender, mark, wire, seals.Seal(self.secret, self.name, self.mark, sender, challenge), False)
-        way.say("hello")
-        self.ways.add(way)
-        return way
+        return TcpWay(sender, mark, wire, seals.Seal(self.secret, self.name, self.mark, sender, challenge), False)
 
     def accept(self, _):
         for _ in range(self.most // 2):

@@ -109,8 +109,16 @@ class Writer:
             self.size += len(data or b"")
             self.some.notify()
         if self.thread is None:
-            self.thread = threading.Thread(target=self.work, daemon=True)
-            self.thread.start()
+            self.begin(sink)
+
+    def begin(self, sink):
+        """Where there is no room for a thread now, what waits is written once there is."""
+        thread = threading.Thread(target=self.work, daemon=True)
+        try:
+            thread.start()
+            self.thread = thread
+        except RuntimeError as fault:
+            self.note_fault(sink, str(fault), 0)
 
     def work(self):
         while True:

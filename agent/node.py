@@ -6,6 +6,7 @@ lines; its end is told once.
 import collections
 import os
 import selectors
+import signal
 import subprocess
 
 import processes
@@ -14,6 +15,7 @@ from clock import seconds
 FIRST_ANSWER = 60  # seconds in which a node begins: it reads its whole image
 ENDS_WITHIN = 0.2  # seconds between the end of its answers and its own, after which it is killed
 LOOK_EACH = 0.02   # seconds between two looks whether it has ended
+STUCK_FOR = 1      # seconds from its kill on, after which it is gone though the system still has it: it waits for a disk
 CHUNK = 1 << 20
 MOST_SAID = 2000   # bytes of what it prints to its standard error that are kept
 
@@ -123,7 +125,9 @@ class Node:
             self.kill("it doesn't begin")
         if self.is_open:
             return
-        if self.process.poll() is not None:
+        if self.process.poll() is None and now >= self.end_at + STUCK_FOR:
+            self.process.returncode = -signal.SIGKILL  # so it will end, and is reaped then as orphans are; its image stays locked until then
+        if self.process.returncode is not None:
             self.close_pipes()
             self.gone(self.why_gone())
         elif now >= self.end_at:
@@ -152,10 +156,11 @@ class Node:
     def close(self):
         """Lets the program end by the end of its input, at most for a second."""
         self.end_soon(seconds())
-        try:
-            self.process.stdin.close()
-            self.process.wait(1)
-        except (OSError, subprocess.TimeoutExpired):
-            self.process.kill()
-            self.process.wait()
+        for end in (self.process.stdin.close, self.process.kill):
+            try:
+                end()
+                self.process.wait(1)
+                break
+            except (OSError, subprocess.TimeoutExpired):
+                pass
         self.close_pipes()

@@ -74,7 +74,8 @@ class Run:
 
     def end(self):
         """(status, why it failed) once it has ended; where this machine has ended it, or the kernel for its memory, there is no status."""
-        if not self.reason and self.cgroup is not None and self.cgroup.ran_out_of_memory():
+        is_killed = self.process.returncode == -signal.SIGKILL and not self.reason
+        if is_killed and "memory" in self.kind.limits and self.cgroup is not None and self.cgroup.ran_out_of_memory():
             self.reason = "it took more memory than its limit"
         return (None, self.reason) if self.reason else (self.process.returncode, "")
 
@@ -119,7 +120,7 @@ class Run:
 class Note:
     """A run of a kind without a program: it has no process, and ends when it is told to."""
 
-    is_watched = False
+    is_watched, is_ending = False, True  # it needs no time for its end
 
     def __init__(self, kind):
         self.is_over, self.kind = False, kind

@@ -19,6 +19,7 @@ class Overlaps:
     def __init__(self, carrier):
         self.carrier, self.asked, self.freed = carrier, {}, {}  # of each key (id, spec, until when): of which a claim is waited for; that go on
         self.found = {}  # of each key what was found of it last, and since when
+        self.ending = {}  # of each key that was told to end at last, until when this machine waits for that before it goes
 
     def takes(self, key):
         """Takes a run that is told to end, if it may have to go on. Whether it does."""
@@ -30,9 +31,10 @@ class Overlaps:
         return True
 
     def look(self, now):
+        self.ending = {key: until for key, until in self.ending.items() if key in self.carrier.children.runs and now < until}
         for key, (ident, spec, until) in list(self.asked.items()):
             found = self.elsewhere(ident, now)
-            if key not in self.carrier.core.runs.live:
+            if key not in self.carrier.core.runs.live or key not in self.carrier.children.runs:  # it has just ended: the core may be told that next
                 del self.asked[key]
             elif now > until:
                 del self.asked[key]
@@ -71,11 +73,16 @@ class Overlaps:
     def end(self, key, now):
         self.forget(key)
         self.carrier.children.runs[key].end_by_itself("its next run is there", now)
+        self.ending[key] = now + self.carrier.core.options.leave_time
         self.carrier.children.wake()
 
     def forget(self, key):
         del self.freed[key]
         self.found.pop(key, None)
+
+    def are_over(self):
+        """Whether this machine may go: what it has is killed then. Who is told twice to go waits for nothing."""
+        return not self.freed and (not self.ending or self.carrier.host.stops > 1)
 
     def end_all(self):
         for key in self.asked:

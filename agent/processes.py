@@ -27,6 +27,8 @@ def begin(words, before=(), user=None, **options):
 
     OSError where there is no such program.
     """
+    if not words:
+        raise OSError(0, "no program: it has no words")
     if shutil.which(words[0], path=options.get("env", os.environ).get("PATH")) is None:
         raise OSError(0, f"no program {words[0]}")
     if SETPRIV is not None:

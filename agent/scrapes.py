@@ -9,6 +9,7 @@ from clock import seconds
 
 MOST = 50  # connections; of more the oldest gives way
 TIME = 10  # seconds that one may take
+LINES = 200  # of a question
 HEAD = "HTTP/1.0 {}\r\nContent-Type: {}\r\nContent-Length: {}\r\nConnection: close\r\n\r\n"
 
 
@@ -16,12 +17,15 @@ class Scrape(wires.Wire):
     """A connection, over which one question comes."""
 
     def __init__(self, loop, link, ask, closed):
-        self.ask, self.first, self.is_answered, self.since = ask, None, False, seconds()
+        self.ask, self.first, self.is_answered, self.since, self.lines = ask, None, False, seconds(), 0
         super().__init__(loop, link, self.hear, lambda why: closed(self), wires.OF_STRANGERS)
 
     def hear(self, line):
         """A line of the question, which an empty one ends."""
-        if self.first is None:
+        self.lines += 1
+        if self.lines > LINES:
+            self.close("too long")
+        elif self.first is None:
             self.first = line.split(b" ")
         elif line.strip() == b"" and not self.is_answered:
             self.is_answered = True

@@ -76,8 +76,9 @@ class Seal:
 class Guard:
     """Opens lines that are sealed for one receiver under its challenge, each once."""
 
-    def __init__(self, secret, receiver, challenge):
-        self.secret, self.receiver, self.challenge = secret, receiver, challenge
+    def __init__(self, secret, receiver, challenge, misses_none=False):
+        """`misses_none`: a line before which another one is missing is refused, too."""
+        self.secret, self.receiver, self.challenge, self.misses_none = secret, receiver, challenge, misses_none
         self.counts = {}  # of each session of each sender, the greatest count that came
 
     def open(self, line):
@@ -86,8 +87,11 @@ class Guard:
         right = seal_of(self.secret, self.challenge, self.receiver, sender, session, count, text)
         if not hmac.compare_digest(seal.encode("ascii"), right.encode("ascii")):
             raise Refused(WRONG_SEAL)
-        if int(count) <= self.counts.get((sender, session), 0):
+        last = self.counts.get((sender, session), 0)
+        if int(count) <= last:
             raise Refused("said before")
+        if self.misses_none and int(count) > last + 1:
+            raise Refused("a line before it is missing")
         self.counts[sender, session] = int(count)
         return sender, session, text
 

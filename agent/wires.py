@@ -65,7 +65,7 @@ class Wire:
     def read_chunk(self):
         """Whether there may be more."""
         try:
-            chunk = self.link.recv(CHUNK)
+            chunk = self.link.recv(min(CHUNK, 4 * self.longest))  # of a stranger little: nothing else happens until it is cut
         except BlockingIOError:
             return False
         except OSError:
@@ -83,14 +83,16 @@ class Wire:
             self.come += line
             line, self.come = bytes(self.come), bytearray()
             self.cut(line)
+            if not self.open:
+                return  # and nothing of it is kept
         self.come += rest
         if len(self.come) > self.longest:
             self.close("too long")
 
     def cut(self, line):
-        if self.open and len(line) > self.longest:
+        if len(line) > self.longest:
             self.close("too long")
-        elif self.open:
+        else:
             self.heard(line)
 
     def send(self, line):

@@ -49,19 +49,20 @@ class Runs:
     def go_on(self, before, behind, now):
         """Takes orders before which and behind which this machine left and joined again: what stops and starts in the same form goes on."""
         starts = {ident: (number, spec) for verb, ident, number, spec in behind if verb == "start"}
-        kept = set()
+        kept, over = set(), set(self.over)
         for verb, ident, number, _ in before:
             run = self.here.get(ident)
-            if verb == "stop" and run and not run.stops and run.status is None and run.number == number and starts.get(ident, ("", ""))[1] == run.spec:
+            if verb == "stop" and run and not run.stops and run.number == number and starts.get(ident, ("", ""))[1] == run.spec and (run.status is None or run in over):
                 run.number = starts[ident][0]
                 kept.add(ident)
-                self.touched.add(ident)
+        self.touched |= kept
         self.do([order for order in before + behind if order[1] not in kept], now)
 
     def adopt(self, orders, now):
-        """Takes the orders of a node that was begun anew: what runs in the same form goes on under its new number, all else ends."""
+        """Takes the orders of a node that was begun anew: what runs in the same form goes on under its new number, all else ends. An end of which
+        no node has answered is told under that number too: else what ended for good would run again."""
         self.touched.update(self.waiting)
-        self.waiting = {}
+        self.waiting, self.unkept, self.over = {}, [], [run for run in self.here.values() if run.status is not None]
         self.go_on([("stop", run.id, run.number, "") for run in self.running()], orders, now)
 
     def end(self, run, now):

@@ -16,7 +16,7 @@ from building.retried import Outcome, Tally, shown
 PARTS = {
     "core": (180, ["core_begins", "core_hindrances", "core_runs", "core_words"]),
     "simulator": (3600, ["simulator"]),
-    "parts": (240, ["seals", "links", "node", "kinds", "processes", "runs", "small", "run"]),
+    "parts": (240, ["seals", "links", "lines", "node", "kinds", "processes", "runs", "small", "run"]),
     "logs": (240, ["logs", "logs_asked"]),
     "health": (240, ["health", "overlap"]),
     "machines": (480, ["storms", "moves", "faults", "partitions", "seeds"]),

@@ -111,6 +111,23 @@ class Runs(unittest.TestCase):
         machine.take("processes", [(1, 77)], [(1, None, "no kind good in kinds.json")])
         self.assertEqual((machine.begun(), machine.core.runs.ends["w"][1]), (["w", "w"], "failed: no kind good in kinds.json"))
 
+    def test_a_child_that_ends_for_good_while_its_node_is_away_does_not_run_again(self):
+        form = "good transient 300 arg="
+        for is_told in (False, True):
+            machine = Machine()
+            machine.wait(0.1)
+            machine.answers.update({"start": ["ok (a,2)", "  start t 1.2 " + form], "exit": ["ok finished (a,2)"]})
+            machine.ask("start t")
+            machine.wait(0.1)
+            machine.is_quick, key = False, of(machine.done, "begin")[-1][0]
+            happens = [("processes", [], [(key, 0, "")]), ("node_gone", "signal 9")]
+            for what in happens if is_told else reversed(happens):
+                machine.take(*what)
+            machine.is_quick, machine.done = True, []
+            machine.take("node_began", ["ok boot 3", "  start w 3.1 good permanent 300 arg=", "  start t 3.2 " + form])
+            machine.wait(1)
+            self.assertEqual(([line for line, in of(machine.done, "ask") if line.startswith("exit")], machine.begun()), (["exit t 3.2 normal @0"], []))
+
 
 class Letters(unittest.TestCase):
     def sent(self, text):

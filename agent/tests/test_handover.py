@@ -126,6 +126,7 @@ class HandedOn(OfRuns):
         _, process = self.begin(["sleep", "1000"])
         self.hand_on()
         self.assertEqual(self.children.end_leftovers(), 0)
+        self.children.sessions.settle()
         self.assertIn(process, leftovers.Sessions(self.path("image") + ".sessions").left()[0])
         os.kill(process, 0)
 

@@ -180,6 +180,15 @@ class Faults(OfRuns):
             self.end_of(self.begin(["sh", "-c", "echo x; (setsid sleep 5 &)"])[0])
         self.until(lambda: len(os.listdir("/proc/self/fd")) <= before, "as many are open as before")
 
+    def test_where_the_system_has_no_room_for_a_thread_lines_wait_and_nobody_ends(self):
+        """As behind a child that forks without end: a unit's processes and threads are counted together."""
+        with unittest.mock.patch.object(log_sinks.threading.Thread, "start", side_effect=RuntimeError("can't start new thread")):
+            self.begin(["echo", "one"])
+            self.until(lambda: self.lines() == ["1.1 one"] and self.ends, "it ends")
+            self.assertIn("can't start new thread", self.logs.state())
+        self.end_of(self.begin(["echo", "two"])[0])
+        self.until(lambda: self.written().count(b"\n") == 2, "both are written")
+
 
 def kind_size():
     return logs.kind_keys.size_of(logs.SIZE)

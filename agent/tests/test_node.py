@@ -8,6 +8,7 @@ import tempfile
 import time
 import types
 import unittest
+import unittest.mock
 
 sys.path.insert(0, os.path.dirname(os.path.dirname(os.path.abspath(__file__))))
 
@@ -126,6 +127,21 @@ class Nodes(unittest.TestCase):
     def test_a_program_that_is_not_there_is_told(self):
         with tempfile.TemporaryDirectory() as folder:
             self.assertRaises(OSError, self.node, os.path.join(folder, "none"))
+
+    def test_one_that_the_system_can_not_end_is_gone_soon(self):
+        """It waits for a disk that hangs. Else nobody would take its children over, nor be told that it answers nothing."""
+        one = self.of_shell(ECHO)
+        self.turn(one, lambda: self.began)
+        with unittest.mock.patch.multiple(one.process, poll=lambda: None, kill=lambda: None):
+            one.kill("it doesn't answer")
+            self.turn(one, lambda: self.gone)
+            self.assertEqual((self.gone, one.process.returncode, len(self.loop.get_map())), (["it doesn't answer"], -signal.SIGKILL, 0))
+
+    def test_nobody_who_leaves_waits_for_it(self):
+        one = self.of_shell("trap '' HUP; sleep 100")
+        self.turn(one, lambda: self.began)
+        with unittest.mock.patch.multiple(one.process, wait=unittest.mock.Mock(side_effect=node.subprocess.TimeoutExpired("supd", 1))):
+            one.close()
 
 
 class FirstBegins(unittest.TestCase):

@@ -1,17 +1,65 @@
 """Kinds that overlap: a child that moves has its next run ready before the earlier one ends; one that is deleted or replaced ends as others do."""
+import collections
 import json
 import os
 import signal
 import time
+import types
 import unittest
 
 from machines import OfMachines, tell
 from promises import need
 from pulse import PACE, until
+from runs import OfRuns
 
+import carrier
+import overlap
 import upgrade
+from clock import seconds
 
 WEB = {"command": ["sleep", "{arg}"], "overlap": True, "ready": {"command": ["sh", "-c", "test -e $HOME/ready.$SEBRAKT_NODE"], "period": 0.1}}
+SLOW = ["sh", "-c", "trap 'sleep 0.5; echo done; exit 0' TERM; echo ready; while :; do sleep 0.05; done"]
+
+
+class Alone(OfRuns):
+    """Overlaps of one machine, beside another one that is made up."""
+
+    def of(self, claims=(), states=(), **more):
+        known = types.SimpleNamespace(id="web", spec="k permanent 5000 arg=")
+        sight = types.SimpleNamespace(touch=lambda now: {"b"}, told={"b": types.SimpleNamespace(children={ident: types.SimpleNamespace(state="running") for ident in states})},
+                                      words={"b": types.SimpleNamespace(claims=set(claims))})
+        core = types.SimpleNamespace(options=types.SimpleNamespace(every=0.05, leave_time=30), leave_at=None, sight=sight, node=types.SimpleNamespace(is_lost=lambda now: False),
+                                     runs=types.SimpleNamespace(live=dict.fromkeys(self.children.runs, known), waiting={}), next_moment=lambda: float("inf"))
+        one = carrier.Carrier.__new__(carrier.Carrier)
+        vars(one).update(children=self.children, core=core, host=types.SimpleNamespace(events=collections.deque(), stops=1), log=self.say, node=None, has_begun=True, began=[], ended=[], **more)
+        one.overlaps = overlap.Overlaps(one)
+        return one
+
+    def begin_one(self):
+        return self.begin_ready(SLOW, overlap=True, ready={"command": ["true"], "period": 0.1})
+
+    def test_a_machine_that_is_stopped_waits_for_the_end_of_the_earlier_run(self):
+        key, _ = self.begin_one()
+        one = self.of(states=["web"], has_left=True)
+        one.overlaps.freed[key] = "web", "", seconds() + 60
+        self.until(lambda: one.overlaps.look(seconds()) or one.is_over(), "it goes")
+        self.assertEqual((self.lines()[-1], self.children.runs), (f"1.{key} done", {}))
+
+    def test_who_is_told_twice_waits_for_nothing(self):
+        key, _ = self.begin_one()
+        one = self.of(has_left=True)
+        one.overlaps.freed[key], one.host.stops = ("web", "", seconds() + 60), 2
+        one.overlaps.look(seconds())
+        self.assertTrue(one.is_over())
+
+    def test_a_run_may_end_in_the_turn_in_which_it_is_claimed(self):
+        key, process = self.begin(["sleep", "1000"], overlap=True, ready={"command": ["true"], "period": 0.1})
+        one = self.of(claims=["web"])
+        self.assertTrue(one.overlaps.takes(key))
+        os.kill(process, 9)
+        os.waitid(os.P_PID, process, os.WEXITED | os.WNOWAIT)
+        one.tick(seconds(), True)
+        self.assertEqual((one.ended, one.overlaps.asked, one.overlaps.freed), ([(key, -9, "")], {}, {}))
 
 
 class Overlaps(OfMachines):

@@ -8,8 +8,10 @@ import socket
 import subprocess
 import sys
 import tempfile
+import threading
 import time
 import unittest
+import unittest.mock
 
 sys.path.insert(0, os.path.dirname(os.path.dirname(os.path.abspath(__file__))))
 
@@ -198,6 +200,7 @@ class Leftovers(OfChildren):
         """As nginx does: its workers outlive their master, and nothing of the mark is left."""
         master, worker = self.begin(1, "titled", self.path("worker")), self.told("worker")
         self.children.sessions.tick(time.monotonic() + 100)
+        self.children.sessions.settle()
         os.kill(master, signal.SIGKILL)  # as the kernel does where the agent ends
         until(10, lambda: leftovers.Process(master).lives is False, "it has ended")
         self.assertFalse(any(leftovers.MARK.encode() in word for word in leftovers.environment(worker)))
@@ -209,6 +212,7 @@ class Leftovers(OfChildren):
         sessions = leftovers.Sessions(self.path("sessions"))
         sessions.begin()
         sessions.note(os.getpid())
+        sessions.settle()
         sessions.close()
         shutil.copy(self.path("sessions"), self.path("copy"))
         self.assertIn(os.getpid(), leftovers.Sessions(self.path("sessions")).left()[0])
@@ -221,6 +225,7 @@ class Leftovers(OfChildren):
         self.addCleanup(lambda: [os.kill(member, signal.SIGKILL), other.kill(), other.wait()])
         sessions.begin()
         sessions.note(other.pid)
+        sessions.settle()
         noted, lived = leftovers.Sessions(self.path("sessions")).left()
         self.assertEqual(noted, {other.pid: leftovers.Process(other.pid).begun})
         found = lambda sessions, lived: {process.pid for process in leftovers.find("/x", sessions, lived)}
@@ -238,6 +243,7 @@ class Leftovers(OfChildren):
             sessions.note(os.getpid())
             sessions.forget(os.getpid())
         sessions.note(os.getpid())
+        sessions.settle()
         self.assertEqual(list(sessions.left()[0]), [os.getpid()])
         with open(self.path("sessions")) as file:
             text = file.read()
@@ -256,7 +262,50 @@ class Leftovers(OfChildren):
         sessions.note(os.getpid())
         sessions.tick(0)
         sessions.forget(os.getpid())
+        sessions.settle()
         self.assertEqual(sessions.left(), ({}, 0))
+
+    def test_a_disk_that_stands_still_holds_nobody_up(self):
+        """As while it is copied. Of what comes meanwhile all is written then."""
+        goes_on, write, sign = threading.Event(), os.write, os.pwrite
+        sessions = leftovers.Sessions(self.path("sessions"))
+        sessions.begin()
+        sessions.note(os.getpid())
+        sessions.settle()
+        waits = lambda does: lambda *words: goes_on.wait(60) and does(*words)
+        with unittest.mock.patch.multiple(os, write=waits(write), pwrite=waits(sign)):
+            began = time.monotonic()
+            for now in range(0, 20, 4):
+                sessions.tick(now)
+                sessions.forget(os.getpid())
+                sessions.note(os.getpid())
+            self.assertLess(time.monotonic() - began, 5)
+            goes_on.set()
+            sessions.settle()
+        self.assertIn(os.getpid(), leftovers.Sessions(self.path("sessions")).left()[0])
+
+    def test_a_process_whose_name_is_no_text_holds_nobody_up(self):
+        """Whoever may begin a process gives it any name, and the kernel cuts a longer one in the midst of a letter."""
+        names = "import ctypes, sys, time; ctypes.CDLL(None).prctl(15, b'\\xff) Z', 0, 0, 0); print(flush=True); time.sleep(100)"
+        other = subprocess.Popen([sys.executable, "-c", names], stdout=subprocess.PIPE)
+        self.addCleanup(lambda: (other.kill(), other.communicate()))
+        other.stdout.readline()
+        self.assertTrue(leftovers.Process(other.pid).lives)
+        self.assertEqual(leftovers.end("/x/none.image"), 0)
+
+    def test_an_image_may_lie_in_a_folder_of_any_name(self):
+        folder = tempfile.mkdtemp()
+        self.addCleanup(shutil.rmtree, folder)
+        for name in ("jürgen", os.fsdecode(b"\xff")):
+            os.mkdir(os.path.join(folder, name))
+            sessions = leftovers.Sessions(os.path.join(folder, name, "a.image.sessions"))
+            sessions.begin()
+            sessions.note(os.getpid())
+            sessions.tick(1e9)
+            sessions.settle()
+            self.assertIn(os.getpid(), leftovers.Sessions(sessions.path).left()[0])
+            sessions.close()
+            self.assertEqual(leftovers.find(sessions.path, {}, 0), [])
 
 
 if __name__ == "__main__":

@@ -5,6 +5,7 @@ import signal
 import subprocess
 import sys
 import time
+import types
 import unittest
 
 from runs import OfRuns
@@ -13,6 +14,7 @@ import cgroups
 import children
 import leftovers
 import limits
+import overlap
 import users
 from pulse import until
 from watcher import lives
@@ -59,6 +61,21 @@ class Words(OfRuns):
         os.chmod(self.path("bin/own"), 0o755)
         self.begin(["own"], environment={"PATH": self.path("bin") + ":/usr/bin:/bin"})
         self.until(lambda: self.lines() == ["1.1 found"], "it tells")
+
+    def test_words_that_are_made_of_no_parts_are_a_fault_of_the_child_alone(self):
+        with self.assertRaises(OSError) as fault:
+            self.begin(["{args}"], split=",")
+        self.assertEqual((fault.exception.strerror, self.children.runs), ("its argument has no parts, and its kind's command is made of them alone", {}))
+        key, _ = self.begin(["sleep", "1000"], split=",", health={"command": ["{args}"], "period": 0.1, "failures": 1})
+        self.assertEqual(self.end_of(key), (None, "its check failed: no program: it has no words"))
+        key, _ = self.begin(["sleep", "1000"], split=",", stop=["{args}"])
+        self.children.term(key)
+        self.assertEqual(self.end_of(key), (-15, ""))
+
+    def test_a_run_without_a_program_does_not_overlap(self):
+        key, _ = self.begin([], overlap=True, ready={"tcp": "127.0.0.1:1"})
+        core = types.SimpleNamespace(runs=types.SimpleNamespace(live={key: types.SimpleNamespace(id="web", spec="")}, waiting={}))
+        self.assertFalse(overlap.Overlaps(types.SimpleNamespace(children=self.children, core=core)).takes(key))
 
 
 @unittest.skipUnless(IS_ROOT, "root")
@@ -225,6 +242,14 @@ class Limits(OfRuns):
         if IS_ROOT:
             self.assertEqual(users.of("nobody", None)[:2], users.of(str(NOBODY.pw_uid), None)[:2])
         self.assertIsNone(users.of(None, None))
+
+    def test_where_the_kernel_has_killed_some_process_of_it_for_memory_it_ends_as_its_first_one_does(self):
+        """Of any kind: the machine's memory, or that of the unit, may be used up, and a program may begin its workers again."""
+        for words, bounds, end in ((["sh", "-c", "exit 0"], {}, (0, "")), (["sh", "-c", "exit 0"], {"memory": "1G"}, (0, "")), (["sh", "-c", "kill -9 $$"], {}, (-9, "")),
+                                   (["sh", "-c", "kill -9 $$"], {"memory": "1G"}, (None, "it took more memory than its limit"))):
+            key, _ = self.begin(words, limits=bounds)
+            self.children.runs[key].cgroup = types.SimpleNamespace(ran_out_of_memory=lambda: True, has_any=lambda: False, kill=lambda: None, remove=lambda: None)
+            self.assertEqual(self.end_of(key), end)
 
 
 if __name__ == "__main__":
