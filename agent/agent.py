@@ -113,7 +113,7 @@ def main():
         elif given.way == "status":
             print("\n".join(shown.tables(client.status(given.address, secret, wait=given.wait))))
         elif given.way == "move":
-            move.move(given.address, given.to, secret, print, given.without, given.wait)
+            move.move(given.address, given.to, secret, lambda lines: print(lines, flush=True), given.without, given.wait)
         else:
             import page
             page.serve(given.address, secret, given.port, given.wait)

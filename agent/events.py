@@ -5,17 +5,20 @@ sees by itself.
 """
 import collections
 import json
+import re
 import time
 
 MOST_COMMANDS, MOST = 500, 2000  # that are kept: commands, and all else
 LONGEST = 300                    # characters of a line, or of a word, that are kept
 FIELDS = ("line", "answer", "by", "whence")
+NUMBER = re.compile("[0-9]{1,18}")
 
 
 class Events:
     def __init__(self, name, mark, log):
         self.name, self.mark, self.log, self.n, self.count = name, mark, log, 0, 0
         self.commands, self.others = collections.OrderedDict(), collections.deque(maxlen=MOST)  # of each the number under which it is known here, and what it was
+        self.gone = {}                    # of each process the greatest count of a command of it that was kept here, and is no more
         self.unsaid, self.up = [], set()  # commands that the others aren't told yet; machines to which there are lines
         self.made = None, ""              # what was asked last, and when, and what was answered
 
@@ -37,13 +40,15 @@ class Events:
         self.log(text_of(event))
 
     def keep(self, key, event):
-        """Keeps a command that isn't known, and has all others told of it."""
-        if key not in self.commands:
+        """Keeps a command that isn't known, and wasn't, and has all others told of it. One that was pushed out and came back would push out the next one."""
+        mark, count = key
+        if key not in self.commands and count > self.gone.get(mark, 0):
             self.n += 1
             self.commands[key] = self.n, event
             self.unsaid.append((key, event))
             if len(self.commands) > MOST_COMMANDS:
-                self.commands.popitem(last=False)
+                (mark, count), _ = self.commands.popitem(last=False)
+                self.gone[mark] = max(count, self.gone.get(mark, 0))
 
     def link(self, name, is_up):
         """There are lines to a machine, which may have missed some commands, or there are none any more. What it is to be told."""
@@ -64,10 +69,10 @@ class Events:
             for mark, count, at, machine, *words in json.loads(text)[:MOST_COMMANDS]:
                 if not (type(count) is int and type(at) in (int, float) and abs(at) < 1e12 and len(words) == len(FIELDS)):
                     raise ValueError
-                if not all(type(one) is str and len(one) <= LONGEST and one.isascii() for one in (mark, machine, *words)):
+                if not all(type(one) is str and len(one) <= LONGEST and one.isascii() and one.isprintable() for one in (mark, machine, *words)):
                     raise ValueError
                 self.keep((mark, count), {"at": at, "what": "command", "machine": machine, **dict(zip(FIELDS, words))})
-        except (TypeError, RecursionError):
+        except (TypeError, KeyError, RecursionError):  # of an object Python 3.12 and later take a slice for a key
             raise ValueError from None
 
     def of_dot(self, table, dot):
@@ -90,7 +95,7 @@ class Events:
         if self.made[0] == (line, self.n):
             return self.made[1]
         words = line.split(" ")
-        base = int(words[2]) if len(words) == 3 and words[1] == self.mark and words[2].isdecimal() else 0
+        base = int(words[2]) if len(words) == 3 and words[1] == self.mark and NUMBER.fullmatch(words[2]) else 0
         new = sorted((one for known in (self.others, self.commands.values()) for one in known if one[0] > base), key=lambda one: (one[1]["at"], one[0]))
         self.made = (line, self.n), json.dumps({"mark": self.mark, "last": self.n, "events": [event for _, event in new]}, separators=(",", ":"))
         return self.made[1]

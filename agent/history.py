@@ -87,10 +87,11 @@ class History:
                 self.ended(machine, ident, how_of(run, child), now, **told_of(child))
             self.began(ident, Run(machine, child.run, child.process, began, None, "", child.restarts, child.last, child.state == word.STOPPING))
 
-    def lose(self, machine, told, now):
-        """Of a machine another process, or program, tells now: what the earlier one ran has ended with it, but for what goes on. In pieces."""
+    def lose(self, machine, told, now, is_of_group=lambda ident: True):
+        """Of a machine another process, or program, tells now of the children of a group: what the earlier one ran of these has ended with it, but for what
+        goes on. In pieces."""
         for ident in list(self.runs):
-            run = self.live(machine, ident)
+            run = self.live(machine, ident) if is_of_group(ident) else None
             if run is not None and not (run.process and ident in told and told[ident].process == run.process):
                 self.ended(machine, ident, AGENT_ENDED, now)
             yield

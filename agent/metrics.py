@@ -86,14 +86,18 @@ class Metrics:
         ]
 
     def of_process(self):
-        """What Prometheus has of any process, by the names that it gives them."""
+        """What Prometheus has of any process, by the names that it gives them. Where no more files can be opened, without what takes one."""
         used = resource.getrusage(resource.RUSAGE_SELF)
-        with open("/proc/self/statm") as file:
-            pages = int(file.read().split()[1])
+        try:
+            with open("/proc/self/statm") as file:
+                memory = int(file.read().split()[1]) * PAGE
+            files = len(os.listdir("/proc/self/fd"))
+        except OSError:
+            memory = files = None
         return [line for name, kind, about, value in (
-            ("process_cpu_seconds_total", "counter", "of the agent", used.ru_utime + used.ru_stime), ("process_resident_memory_bytes", "gauge", "of the agent", pages * PAGE),
-            ("process_open_fds", "gauge", "of the agent", len(os.listdir("/proc/self/fd"))), ("process_start_time_seconds", "gauge", "since 1970", self.began))
-            for line in (f"# HELP {name} {about}", f"# TYPE {name} {kind}", f"{name} {number(value)}")]
+            ("process_cpu_seconds_total", "counter", "of the agent", used.ru_utime + used.ru_stime), ("process_resident_memory_bytes", "gauge", "of the agent", memory),
+            ("process_open_fds", "gauge", "of the agent", files), ("process_start_time_seconds", "gauge", "since 1970", self.began))
+            if value is not None for line in (f"# HELP {name} {about}", f"# TYPE {name} {kind}", f"{name} {number(value)}")]
 
 
 def one(value):

@@ -24,6 +24,9 @@ def move(here, there, secret, tell, without=(), wait=0):
     and, alone there, run all children.
     """
     status, other = (client.status(address, secret, wait=wait) for address in (here, there))
+    for told in (status, other):
+        if told["node"] != "runs":
+            raise NotMoved(f"the agent {told['name']} doesn't know all children now, its node: {told['node']}")
     away = [one["name"] for one in status["machines"] if one["name"] not in without and (one["heard"] is None or one["heard"] > AWAY)]
     if away:
         raise NotMoved("away: " + " ".join(away))
@@ -59,5 +62,13 @@ def end(address, secret, idents):
     """Deletes these, and waits until no machine runs one of them."""
     for ident in idents:
         do(address, secret, "delete " + ident)
-    while any(ident in idents for ident, _ in client.status(address, secret)["ending"]):
+    until = time.monotonic() + AWAY
+    while True:
+        status = client.status(address, secret)
+        if status["node"] == "runs":
+            if not any(ident in idents for ident, _ in status["ending"]):
+                return
+            until = time.monotonic() + AWAY
+        elif time.monotonic() > until:  # which of these run still isn't known
+            raise NotMoved(f"the agent {status['name']} doesn't know any more what runs, its node: {status['node']}")
         time.sleep(LOOK)

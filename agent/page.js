@@ -30,7 +30,7 @@ async function give(form, button) {
   words.set('sure', 'yes')
   words.set('live', '1')
   try {
-    const answer = await fetch('/do', { method: 'POST', body: words })
+    const answer = await fetch('do', { method: 'POST', body: words })
     tell(await answer.text())
   } catch (gone) { tell('This page is no longer served.') }
   refresh()
@@ -49,7 +49,7 @@ document.addEventListener('submit', (event) => {
 
 function choose() {
   const words = new URLSearchParams(new FormData(filter))
-  history.replaceState(null, '', '/?' + words)
+  history.replaceState(null, '', './?' + words)
   refresh()
 }
 

@@ -1,7 +1,8 @@
 """A page for people: an agent's view of machines and children as HTML, at the loopback, refreshed while one looks.
 
 The page has a key of its own, made anew by each `serve` and told in its address. Without it nothing is shown but /metrics, and nothing is done. The
-first load puts it into a cookie, so that it stands in no address; and it stands in every form, so that no other page in the same browser, and no other
+first load puts it into a cookie, so that it stands in no address. A browser tells a cookie to each port of a host, and any user may listen at one; so the
+page has a place of its own, which nobody else knows, and the cookie is of that place alone. The key stands in every form, so that no other page in the same browser, and no other
 user of the machine, gives commands. No script and no style stands in the page itself, so a name that looked like one would not be taken for one. The
 secret of the cluster never leaves this process.
 """
@@ -37,6 +38,7 @@ FILES = {"/page.css": "text/css", "/page.js": "text/javascript"}
 ASKED = {"delete": "Delete {}? Its run ends, and it is kept no more.", "drain": "Drain {}? Its children run elsewhere then.",
          "leave": "Take {} back?", "restart": "Restart {}? Its run ends, and a new one begins."}
 VERBS = {*ASKED, "start", "replace"}
+CHOOSE = ("find", "state", "sort", "from", "id")  # words of an address that choose what is shown
 HEADERS = (("Cache-Control", "no-store"), ("X-Content-Type-Options", "nosniff"), ("X-Frame-Options", "DENY"), ("Referrer-Policy", "no-referrer"), (
     "Content-Security-Policy", "default-src 'none'; script-src 'self'; style-src 'self'; connect-src 'self'; img-src data:; form-action 'self'; base-uri 'none'; frame-ancestors 'none'"))
 
@@ -46,11 +48,13 @@ class View:
 
     def __init__(self, address, secret, key):
         self.address, self.secret, self.key, self.cookie = address, secret, key, "sebrakt-" + hashlib.sha256(key.encode()).hexdigest()[:8]
+        self.place = f"/{hashlib.sha256(b'place ' + key.encode()).hexdigest()[:32]}/"
         self.lock, self.made, self.made_at, self.seen, self.fault = threading.Lock(), {}, float("-inf"), None, None
 
     def part(self, path, words):
         """(title, what changes) of a page, made at most once a second for all browsers that ask for it, and anew once something was done. NoAnswer."""
-        asked = path, *sorted((name, value) for name, value in words.items() if name in ("find", "state", "sort", "from", "id"))
+        words = {name: value for name, value in words.items() if name in CHOOSE}  # what is made stands in links, too
+        asked = path, *sorted(words.items())
         with self.lock:
             if time.monotonic() - self.made_at >= GOOD_FOR:
                 self.look()
@@ -138,11 +142,11 @@ class Handler(http.server.BaseHTTPRequestHandler):
         elif path == "/metrics":
             self.try_to(lambda: self.answer(200, metrics.KIND, "\n".join(client.ask(view.address, view.secret, "metrics", LONGEST_WAIT)) + "\n"))
         elif self.has_key(words.get("key", "")):  # from now on it stands in no address
-            self.answer(303, "text/plain", "", ("Location", "/"), ("Set-Cookie", f"{view.cookie}={view.key}; HttpOnly; SameSite=Lax; Path=/"))
+            self.answer(303, "text/plain", "", ("Location", view.place), ("Set-Cookie", f"{view.cookie}={view.key}; HttpOnly; SameSite=Lax; Path={view.place}"))
         elif not self.has_cookie():
             self.answer(403, "text/plain", "this page has a key, told by `agent.py serve`")
-        elif path in ("/", "/child", "/events"):
-            self.try_to(lambda: self.show(path, words))
+        elif path in (view.place, view.place + "child", view.place + "events"):
+            self.try_to(lambda: self.show("/" + path[len(view.place):], words))
         else:
             self.answer(404, "text/plain", "no such page")
 
@@ -161,7 +165,7 @@ class Handler(http.server.BaseHTTPRequestHandler):
 
     def do_POST(self):
         size = self.headers.get("Content-Length", "")
-        if not size.isdecimal() or int(size) > MOST_OF_A_FORM or self.path != "/do":
+        if not size.isdecimal() or int(size) > MOST_OF_A_FORM or self.path not in ("/do", self.server.view.place + "do"):
             self.answer(400, "text/plain", "no such form")
             return
         form, view = fields(self.rfile.read(int(size)).decode("ascii", "replace")), self.server.view

@@ -71,8 +71,8 @@ def overview(status, words):
 def summary(status, words):
     counts, members = status["counts"], [machine["member"] for machine in status["machines"]]
     states = sorted(counts, key=lambda state: (color(state) != "bad", state))
-    parts = [link("/", f'<b>{sum(counts.values())}</b> {"child" if sum(counts.values()) == 1 else "children"}', **{**words, "state": "", "from": "0"})]
-    parts += [link("/", f'<b class="{color(state)}">{counts[state]}</b> {text(state)}', **{**words, "state": state, "from": "0"}) for state in states]
+    parts = [link("./", f'<b>{sum(counts.values())}</b> {"child" if sum(counts.values()) == 1 else "children"}', **{**words, "state": "", "from": "0"})]
+    parts += [link("./", f'<b class="{color(state)}">{counts[state]}</b> {text(state)}', **{**words, "state": state, "from": "0"}) for state in states]
     parts += [f'<span><b class="{"good" if member == "open" else "bad"}">{members.count(member)}</b> {text(member)} of {len(members)} machines</span>' for member in sorted(set(members))]
     parts += [f'<span><b class="bad">{len(status["losers"])}</b> lost {"command" if len(status["losers"]) == 1 else "commands"}</span>'] * bool(status["losers"])
     refused = ", ".join(f"{count} {why}" for why, count in status["refused"].items()) or "none"
@@ -111,7 +111,7 @@ def children(status, words):
     first = int(words.get("from", "")) if words.get("from", "").isdecimal() and len(words["from"]) < 9 else 0
     first = first if first < len(found) else 0
     rows = [child_row(status, child, names.get(child["id"], ())) for child in found[first:first + ROWS]]
-    steps = [link("/", said, **{**words, "from": str(max(0, at))}) for said, at, is_there in
+    steps = [link("./", said, **{**words, "from": str(max(0, at))}) for said, at, is_there in
              (("before", first - ROWS, first > 0), ("next", first + ROWS, first + ROWS < len(found))) if is_there]
     where = f'<p class="quiet">{first + 1} to {first + len(rows)} of {len(found)}' + (f", of {len(status['children'])} in all" if len(found) < len(status["children"]) else "")
     return table(["child", "state", "runs on", "restarts", "kind, argument", ""], rows) + (where + " " + " ".join(steps) + "</p>" if found else '<p class="quiet">None.</p>')
@@ -121,7 +121,7 @@ def child_row(status, child, names):
     group = f' <span class="quiet">group {child["group"]}</span>' if status["groups"] > 1 else ""
     called = f'<br><span class="quiet">{" ".join(map(code, names))}</span>' if names else ""
     last = f'{child["restarts"] or ""} <span class="quiet">{text(child["last"])}</span>' if child["last"] or child["restarts"] else ""
-    return [link("/child", code(child["id"]), id=child["id"]) + group + called, state(child), runs_now(child), last, spec(child), buttons(child, f' {link("/child", "replace", id=child["id"])} ')]
+    return [link("child", code(child["id"]), id=child["id"]) + group + called, state(child), runs_now(child), last, spec(child), buttons(child, f' {link("child", "replace", id=child["id"])} ')]
 
 
 def state(child):
@@ -194,27 +194,28 @@ def options(values, chosen_one):
 def filter_form(words):
     states = "".join(f'<option value="{text(state)}"{" selected" if state == words.get("state", "") else ""}>{text(state or "any state")}</option>'
                      for state in ("", "running", "stopping", "begins", "waiting", "kind missing", "held back", "not placed"))
-    return (f'<form id="filter" method="get" action="/"><input name="find" type="search" placeholder="id, name, kind, argument, machine" aria-label="find" value="{text(words.get("find", ""))}">'
+    return (f'<form id="filter" method="get" action="./"><input name="find" type="search" placeholder="id, name, kind, argument, machine" aria-label="find" value="{text(words.get("find", ""))}">'
             f'<select name="state" aria-label="state">{states}</select><label>by <select name="sort">{options(SORTS, words.get("sort"))}</select></label><button>show</button></form>')
 
 
 def spec_form(key, verb, child):
-    """What starts a child, or replaces one."""
+    """What starts a child, or replaces one, which is asked for first, since its run ends."""
+    asked = f' data-ask="{text("Replace " + child["id"] + "? Its run ends, and a new one begins.")}"' if verb == "replace" else ""
     ident = f'<input type="hidden" name="id" value="{text(child["id"])}">' if verb == "replace" else '<label>id <input name="id" required maxlength="128" size="14"></label>'
-    return (f'<details{" open" if verb == "replace" else ""}><summary>{verb} {"it by another form" if verb == "replace" else "a child"}</summary><form class="spec" method="post" action="/do"><input type="hidden" name="key" value="{text(key)}">'
+    return (f'<details{" open" if verb == "replace" else ""}><summary>{verb} {"it by another form" if verb == "replace" else "a child"}</summary><form class="spec" method="post" action="do"><input type="hidden" name="key" value="{text(key)}">'
             f'<input type="hidden" name="verb" value="{verb}">{ident}<label>kind <input name="kind" maxlength="128" size="10" value="{text(child.get("kind", ""))}"></label>'
             f'<label>arg <input name="arg" maxlength="1024" size="20" value="{text(child.get("arg", ""))}"></label><label>restart <select name="restart">{options(RESTARTS, child.get("restart"))}</select></label>'
-            f'<label>shutdown <input name="shutdown" size="8" placeholder="5000" value="{text(child.get("shutdown", ""))}"></label><button>{verb}</button></form></details>')
+            f'<label>shutdown <input name="shutdown" size="8" placeholder="5000" value="{text(child.get("shutdown", ""))}"></label><button{asked}>{verb}</button></form></details>')
 
 
 def question(key, do, asked):
     """For who has no script."""
-    return (f'<h2>{text(asked)}</h2><form method="post" action="/do"><input type="hidden" name="key" value="{text(key)}"><input type="hidden" name="sure" value="yes">'
-            f'<button name="do" value="{text(do)}">yes</button> <a href="/">no</a></form>')
+    return (f'<h2>{text(asked)}</h2><form method="post" action="do"><input type="hidden" name="key" value="{text(key)}"><input type="hidden" name="sure" value="yes">'
+            f'<button name="do" value="{text(do)}">yes</button> <a href="./">no</a></form>')
 
 
 def page(key, said, live, told="", before="", behind=""):
     return (f'<!doctype html><html lang="en"><head><meta charset="utf-8"><meta name="viewport" content="width=device-width, initial-scale=1"><title>{text(said)}</title>'
             '<link rel="icon" href="data:,"><link rel="stylesheet" href="/page.css"><noscript><meta http-equiv="refresh" content="5"></noscript></head>'
-            f'<body><header><h1>{link("/", "Sebrakt")}</h1><nav>{link("/events", "what has happened")}</nav></header><p id="told"{"" if told else " hidden"}>{text(told)}</p>{before}'
-            f'<main id="live">{live}</main>{behind}<form id="act" method="post" action="/do"><input type="hidden" name="key" value="{text(key)}"></form><script src="/page.js"></script></body></html>')
+            f'<body><header><h1>{link("./", "Sebrakt")}</h1><nav>{link("events", "what has happened")}</nav></header><p id="told"{"" if told else " hidden"}>{text(told)}</p>{before}'
+            f'<main id="live">{live}</main>{behind}<form id="act" method="post" action="do"><input type="hidden" name="key" value="{text(key)}"></form><script src="/page.js"></script></body></html>')

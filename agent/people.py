@@ -73,7 +73,7 @@ class People:
         more = one.restarts, one.last
         if self.hinders(place):
             return Seen(f"waits for {place}: {self.hinders(place)}", *more, "waiting", place)
-        if one.due > self.now:
-            left = one.due - self.now
+        left = (one.due or 0) - self.now
+        if left > 0:
             return Seen(f"waits {left:.1f} s, {one.restarts} restarts, {one.last}", *more, "kind missing" if one.last.startswith(NO_KIND) else "waiting", None, round(left, 1))
         return Seen(f"held back by {others[0]}, which runs it", *more, "held back", others[0]) if others else Seen("begins", *more, "begins")

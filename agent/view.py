@@ -96,7 +96,7 @@ class View:
         self.machines = machines(agent.name, [(people, dict(member_of(line) for line in lines if line.startswith("member "))) for _, people, lines in shown],
                                  agent.watch.events)
         return {"name": agent.name, "groups": len(agent.groups), "boot": told_once(str(node.boot or "") for node in nodes),
-                "node": told_once("runs" if node.is_there else "gone" if node.boot else "begins" for node in nodes), "refused": dict(agent.refused), "logs": agent.logs.state(), "kinds": agent.kinds.state(),
+                "node": told_once("runs" if node.is_there and lines else "gone" if node.boot else "begins" for node, (_, _, lines) in zip(nodes, shown)), "refused": dict(agent.refused), "logs": agent.logs.state(), "kinds": agent.kinds.state(),
                 "machines": self.machines}
 
     def tell(self, made):

@@ -2,6 +2,7 @@
 import time
 
 import client
+from core import word
 
 STEADY = 1.2  # seconds for which a child's run is seen until the child counts as running: one that fails at once doesn't
 LOOK = 0.3    # seconds between two looks
@@ -22,7 +23,7 @@ class Wait:
     def look_at(self, ident, child, now):
         if child is None:
             return "it is no child any more: it was deleted, or has ended for good"
-        new = [run for run in runs_of(child) if run not in self.old]
+        new = [run for run in runs_of(child) if run not in self.old] if child.get("state") != word.STOPPING else []
         if not new:
             self.since.pop(ident, None)
             return child["why"] if not child["runs"] else f"its earlier run on {child['runs'][0][0]} hasn't ended yet (it has {child['shutdown']} ms)"
@@ -55,7 +56,8 @@ def until(agent, patience, look):
     end = time.monotonic() + patience
     while True:
         try:
-            left = look(agent.status(), time.monotonic())
+            status = agent.status()
+            left = look(status, time.monotonic()) if status["node"] == "runs" else {"": f"the agent doesn't know all children now, its node: {status['node']}"}
         except client.NoAnswer as fault:
             left = {"": f"the agent doesn't answer: {fault}"}
         if not left or time.monotonic() > end:

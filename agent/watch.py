@@ -4,6 +4,7 @@ that lost against another one. It decides nothing, and works in small pieces bet
 import time
 
 import events
+import groups
 import history
 from clock import seconds
 
@@ -49,7 +50,7 @@ class Watch:
         before, base = self.looked.get((group, name), (None, 0))
         self.looked[group, name] = told, newest
         if before is not told and before is not None:
-            yield from self.history.lose(name, told.children, time.time())
+            yield from self.history.lose(name, told.children, time.time(), lambda ident: groups.group_of(ident, len(self.agent.groups)) == group)
         if before is told and base >= newest:
             return
         for ident, child in told.since(base if before is told else 0, now)[1].items():

@@ -10,7 +10,9 @@ import shutil
 import subprocess
 import sys
 import tempfile
+import types
 import unittest
+import unittest.mock
 
 from fake_agent import COMMAND, TOP, given, parsed
 
@@ -219,6 +221,20 @@ class Waits(unittest.TestCase):
         before = ("b", "1.1", 5)
         self.assertEqual(self.whys([(0, status_of(before)), (9, status_of(before))], [before])[-1], "its earlier run on b hasn't ended yet (it has 5000 ms)")
         self.assertIsNone(self.whys([(0, status_of(before, ("c", "1.1", 5))), (2, status_of(("c", "1.1", 5)))], [before])[-1])
+
+    def test_a_run_that_is_told_to_end_counts_no_more_though_it_began_behind_the_last_look(self):
+        ends = {"children": [{**status_of(("b", "1.1", 5))["children"][0], "state": "stopping"}]}
+        self.assertEqual(self.whys([(0, ends), (9, ends)]), ["its earlier run on b hasn't ended yet (it has 5000 ms)"] * 2)
+
+    def test_who_does_not_know_all_children_is_asked_again(self):
+        """Without its node an agent tells of no child."""
+        child = {**status_of(("b", "1.1", 5))["children"][0], "state": "running"}
+        looks = iter([{"node": "gone", "children": []}, {"node": "gone in 1, runs in 7", "children": []}, {"node": "runs", "children": [child]}, {"node": "runs", "children": []}])
+        with unittest.mock.patch.object(waits, "LOOK", 0):
+            self.assertEqual(waits.until_it_is_empty(types.SimpleNamespace(status=lambda: next(looks)), "b", 60), {})
+        self.assertEqual(list(looks), [])
+        agent = types.SimpleNamespace(status=lambda: {"node": "gone", "children": []})
+        self.assertEqual(waits.until_it_is_empty(agent, "b", 0), {"": "the agent doesn't know all children now, its node: gone"})
 
     def test_why_it_does_not_run_is_told(self):
         self.assertEqual(self.whys([(0, status_of(why="waits 4.0 s, 3 restarts, status 1"))]), ["waits 4.0 s, 3 restarts, status 1"])

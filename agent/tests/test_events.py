@@ -43,11 +43,44 @@ class Rings(unittest.TestCase):
         self.assertEqual(self.lines(self.other), ["start x", "delete x"])
         self.assertEqual(self.said, [("a", "me@host from 10.0.0.1 to a: start x -> ok (a,2)"), ("a", "somebody from 10.0.0.1 to a: delete x -> ok removed (a,2)")])
 
+    def talk(self):
+        """Has each tell the other what it is to be told, until neither has anything to tell. How often that was."""
+        for turn in range(20):
+            said = [(other, line) for ring, other in ((self.one, self.other), (self.other, self.one)) if (line := ring.take_unsaid())]
+            if not said:
+                return turn
+            for other, line in said:
+                other.hear(line.removeprefix("events "))
+        return 20
+
+    def test_a_command_that_was_pushed_out_and_is_told_again_is_not_kept_again(self):
+        """Else it would push out the next one, which would come back, too, and so all of them, without end."""
+        self.one.link("b", True), self.other.link("a", True)
+        for number in range(events.MOST_COMMANDS + 100):
+            self.one.command(f"start {number}", "ok", "me", "h")
+            self.talk()
+        self.one.link("b", False), self.other.link("a", False)
+        self.one.command("start last", "ok", "me", "h")
+        self.one.take_unsaid()
+        for told, by in (self.other, self.one.link("b", True)), (self.one, self.other.link("a", True)):
+            told.hear(by.removeprefix("events "))
+        self.assertLess(self.talk(), 3)
+        self.assertEqual((self.lines(self.one), self.lines(self.one)[-1]), (self.lines(self.other), "start last"))
+
+    def test_what_each_side_of_a_cut_was_told_is_told_to_the_other_once(self):
+        for ring in (self.one, self.other):
+            for number in range(events.MOST_COMMANDS):
+                ring.command(f"start {ring.name}{number}", "ok", "me", "h")
+            ring.take_unsaid()
+        for told, by in (self.other, self.one.link("b", True)), (self.one, self.other.link("a", True)):
+            told.hear(by.removeprefix("events "))
+        self.assertLess(self.talk(), 3)
+
     def test_what_is_no_list_of_commands_is_refused(self):
         good = ["m", 1, 5.0, "a", "start x", "ok", "me", "h"]
         self.other.hear(json.dumps([good]))
         for text in ("", "{}", "5", "null", "[5]", "[[]]", "[" * 5000, '{"a":1}', *(json.dumps([good[:place] + [bad] + good[place + 1:]]) for place, bad in
-                                                                                  [(0, 1), (1, "1"), (1, True), (2, "x"), (2, float("nan")), (2, 1e300), (3, None), (4, "x" * 301), (5, []), (6, "\u00e9")])):
+                                                                                  [(0, 1), (1, "1"), (1, True), (2, "x"), (2, float("nan")), (2, 1e300), (3, None), (4, "x" * 301), (5, []), (6, "\u00e9"), (7, "\x1b[2J")])):
             with self.assertRaises(ValueError, msg=text[:80]):
                 self.other.hear(text)
         self.assertEqual(len(self.other.commands), 1)
@@ -69,7 +102,8 @@ class Rings(unittest.TestCase):
         place = f"{first['mark']} {first['last']}"
         self.assertEqual([event["what"] for event in json.loads(self.one.told("events " + place))["events"]], ["in"])
         self.assertEqual(len(json.loads(self.one.told("events other 7"))["events"]), 2)
-        self.assertEqual(len(json.loads(self.one.told("events " + "x" * 5000))["events"]), 2)
+        for words in ("x" * 5000, f"{first['mark']} x", f"{first['mark']} {'9' * 5000}"):
+            self.assertEqual(len(json.loads(self.one.told("events " + words))["events"]), 2)
 
     def test_the_command_that_has_added_an_entry_is_found(self):
         self.one.command("start x kind=y", "ok (a,2)", "me", "h")

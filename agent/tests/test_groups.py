@@ -191,7 +191,7 @@ class Moves(unittest.TestCase):
 
     def test_a_machine_that_is_away_keeps_all_where_they_are(self):
         """Once it is back it would be alone in the first cluster, and run all."""
-        status = {"machines": [{"name": "a", "heard": 0}, {"name": "b", "heard": None}, {"name": "c", "heard": 11}], "children": [], "names": [], "ending": []}
+        status = {"machines": [{"name": "a", "heard": 0}, {"name": "b", "heard": None}, {"name": "c", "heard": 11}], "children": [], "names": [], "ending": [], "node": "runs"}
         with unittest.mock.patch.object(client, "status", lambda *_, **__: status):
             with self.assertRaises(move.NotMoved) as fault:
                 move.move("here", "there", None, print, ["b"])
@@ -206,8 +206,8 @@ class Moves(unittest.TestCase):
             if line == "start w2 kind=sleep arg=1":
                 raise client.NoAnswer("gone")
         child = {"kind": "sleep", "arg": "1", "restart": "", "shutdown": ""}
-        status = {"machines": [], "children": [{"id": "w1", **child}, {"id": "w2", **child}], "names": ["www (a,3) w2 on a"], "ending": []}
-        with unittest.mock.patch.multiple(move, do=do), unittest.mock.patch.object(client, "status", lambda at, *_, **__: status if at == "here" else {"children": []}):
+        status = {"machines": [], "children": [{"id": "w1", **child}, {"id": "w2", **child}], "names": ["www (a,3) w2 on a"], "ending": [], "node": "runs"}
+        with unittest.mock.patch.multiple(move, do=do), unittest.mock.patch.object(client, "status", lambda at, *_, **__: status if at == "here" else {"children": [], "node": "runs"}):
             with self.assertRaises(move.NotMoved) as fault:
                 move.move("here", "there", None, lambda lines: None)
         self.assertEqual(asked, ["delete w1", "delete w2", "start w1 kind=sleep arg=1", "start w2 kind=sleep arg=1"])

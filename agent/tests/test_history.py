@@ -7,6 +7,7 @@ import unittest
 
 sys.path.insert(0, os.path.dirname(os.path.dirname(os.path.abspath(__file__))))
 
+import groups
 import history
 import watch
 from core import told, word
@@ -123,6 +124,17 @@ class Watching(unittest.TestCase):
         self.told = self.core.sight.told["b"] = told.Told()
         self.look(x=child(run="2.1", process=9))
         self.assertEqual([run.how for run in self.watch.history.of("x")], ["its agent ended", ""])
+
+    def test_another_process_of_a_machine_ends_the_runs_of_that_group_alone_of_which_it_tells(self):
+        """The nodes of groups begin one after the other."""
+        second = types.SimpleNamespace(sight=types.SimpleNamespace(told={"b": told.Told()}, words={"b": types.SimpleNamespace(n=0)}), members=self.core.members)
+        self.watch.agent.groups.append(types.SimpleNamespace(number=1, core=second, people=self.watch.agent.groups[0].people))
+        x, y = (next(f"x{number}" for number in range(99) if groups.group_of(f"x{number}", 2) == group) for group in (0, 1))
+        second.sight.told["b"].take(0, {y: child(process=8)}, 1, 0)
+        self.look(**{x: child()})
+        self.told = self.core.sight.told["b"] = told.Told()
+        self.look(**{x: child(run="2.1")})
+        self.assertEqual([[run.how for run in self.watch.history.of(one)] for one in (x, y)], [[""], [""]])
 
     def test_machines_that_come_and_go_are_noted_and_logged(self):
         self.core.members.since = {"a": 0, "b": 0}

@@ -1,4 +1,5 @@
 """What an agent counts, as Prometheus reads it: its text, its port, and the example of alerts."""
+import errno
 import os
 import re
 import signal
@@ -6,6 +7,7 @@ import socket
 import tempfile
 import time
 import unittest
+import unittest.mock
 import urllib.error
 import urllib.request
 
@@ -61,6 +63,13 @@ class Counted(unittest.TestCase):
                     file.write(content)
                 os.rename(path + ".new", path)
                 self.assertEqual(sizes.of(path), told)
+
+    def test_where_no_more_files_can_be_opened_the_rest_is_told(self):
+        of_agent = metrics.Metrics(None)
+        with unittest.mock.patch("builtins.open", side_effect=OSError(errno.EMFILE, "Too many open files")):
+            few = of_agent.of_process()
+        self.assertEqual(samples_of("\n".join(few) + "\n").keys(), {"process_cpu_seconds_total", "process_start_time_seconds"})
+        self.assertEqual(len(samples_of("\n".join(of_agent.of_process()) + "\n")), 4)
 
     def test_a_label_with_odd_characters_stays_one(self):
         line = "refused" + metrics.labels_of({"why": 'a"b\\c\nd'}) + " 1"

@@ -37,7 +37,8 @@ class Page(unittest.TestCase):
         cls.url = cls.page.stdout.readline().strip()
         port, cls.key = re.fullmatch(r"http://127\.0\.0\.1:(\d+)/\?key=(\S+)", cls.url).groups()
         cls.port = int(port)
-        cls.cookie = cls.ask("GET", "/?key=" + cls.key).headers["Set-Cookie"].split(";")[0]
+        first = cls.ask("GET", "/?key=" + cls.key).headers
+        cls.cookie, cls.place = first["Set-Cookie"].split(";")[0], first["Location"]
 
     @classmethod
     def ask(cls, method, path, body=None, **headers):
@@ -50,23 +51,29 @@ class Page(unittest.TestCase):
         finally:
             link.close()
 
-    def get(self, path="/"):
-        answer = self.ask("GET", path, Cookie=self.cookie)
+    def get(self, path=""):
+        answer = self.ask("GET", self.place + path, Cookie=self.cookie)
         self.assertEqual(answer.status, 200, answer.text)
         return answer.text
 
     def post(self, **form):
-        return self.ask("POST", "/do", urllib.parse.urlencode({"live": "1", **form})).text
+        return self.ask("POST", self.place + "do", urllib.parse.urlencode({"live": "1", **form})).text
 
     def test_the_key_goes_out_of_the_address_into_a_cookie(self):
         answer = self.ask("GET", "/?key=" + self.key)
-        self.assertEqual((answer.status, answer.headers["Location"]), (303, "/"))
-        self.assertRegex(answer.headers["Set-Cookie"], r"^sebrakt-[0-9a-f]{8}=\S+; HttpOnly; SameSite=Lax; Path=/$")
+        self.assertEqual(answer.status, 303)
+        self.assertRegex(answer.headers["Set-Cookie"], r"^sebrakt-[0-9a-f]{8}=\S+; HttpOnly; SameSite=Lax; Path=" + answer.headers["Location"] + "$")
         shown = self.get()
         self.assertEqual(re.findall(r'(?:href|src|action)="[^"]*' + self.key, shown), [])
 
+    def test_the_cookie_is_of_a_place_that_nobody_else_knows(self):
+        """A browser tells a cookie of `/` to each port of the host, where another user may listen."""
+        self.assertRegex(self.place, "^/[0-9a-f]{32}/$")
+        self.assertNotIn(self.place.strip("/"), self.ask("GET", "/").text + self.ask("GET", "/page.js").text)
+        self.assertEqual(self.ask("GET", "/", Cookie=self.cookie).status, 404)
+
     def test_each_answer_says_what_a_browser_may_do(self):
-        for path in ("/", "/child?id=web", "/events", "/page.css", "/page.js", "/metrics", "/nix", "/?key=x"):
+        for path in (self.place, self.place + "child?id=web", self.place + "events", "/", "/page.css", "/page.js", "/metrics", "/nix", "/?key=x"):
             answer = self.ask("GET", path, Cookie=self.cookie)
             policy = answer.headers["Content-Security-Policy"]
             self.assertIn("default-src 'none'; script-src 'self'; style-src 'self'", policy)
@@ -76,7 +83,7 @@ class Page(unittest.TestCase):
 
     def test_without_its_key_nothing_is_shown_and_nothing_done(self):
         tables, name = self.machines.tables("a"), self.cookie.split("=")[0]
-        for path in ("/", "/?key=x", "/child?id=web", "/events?live=1", "/nix"):
+        for path in ("/", self.place, "/?key=x", self.place + "child?id=web", self.place + "events?live=1", "/nix"):
             for headers in ({}, {"Cookie": name + "=x"}, {"Cookie": name + "="}, {"Cookie": "x=" + self.key}, {"Cookie": "; ; =\"" + self.key}, {"Cookie": self.cookie, "Host": "evil.example"}):
                 self.assertEqual(self.ask("GET", path, **headers).status, 403, (path, headers))
         for key in ({}, {"key": "x"}, {"key": self.key[:-1]}, {"key": "\u00e9"}):
@@ -93,17 +100,17 @@ class Page(unittest.TestCase):
 
     def test_children_are_shown_with_place_run_restarts_and_last_exit(self):
         os.kill(self.machines.process("web"), signal.SIGKILL)
-        until(10, lambda: re.search(r"<b class=\"good\">running</b>.*", self.get("/?find=web")) and "signal 9" in self.get("/?find=web"), "the exit is shown")
+        until(10, lambda: re.search(r"<b class=\"good\">running</b>.*", self.get("?find=web")) and "signal 9" in self.get("?find=web"), "the exit is shown")
         until(10, lambda: self.machines.each_once(["web", "queue", "mail"]), "each runs")
         place = self.machines.where(["web"])["web"]
-        until(10, lambda: re.search(rf"<code>{place}</code> <span class=\"quiet\">run [0-9.]+, process {self.machines.process('web')}, for ", self.get("/?find=web")), "its run is shown")
-        until(10, lambda: re.search(r"signal 9.*began on", self.get("/child?id=web"), re.DOTALL), "its runs and what has happened are shown")
-        until(10, lambda: "web ended on" in self.get("/events?id=web"), "and among the events")
+        until(10, lambda: re.search(rf"<code>{place}</code> <span class=\"quiet\">run [0-9.]+, process {self.machines.process('web')}, for ", self.get("?find=web")), "its run is shown")
+        until(10, lambda: re.search(r"signal 9.*began on", self.get("child?id=web"), re.DOTALL), "its runs and what has happened are shown")
+        until(10, lambda: "web ended on" in self.get("events?id=web"), "and among the events")
 
     def test_the_last_lines_of_a_child_are_on_its_page(self):
         self.machines.start("a", ["talker"], kind="talks", arg="x")
-        until(20, lambda: "&lt;b&gt;&amp;" in self.get("/child?id=talker"), "they are shown")
-        lines = re.search("<pre>(.*)</pre>", self.get("/child?id=talker"), re.DOTALL)[1].split("\n")
+        until(20, lambda: "&lt;b&gt;&amp;" in self.get("child?id=talker"), "they are shown")
+        lines = re.search("<pre>(.*)</pre>", self.get("child?id=talker"), re.DOTALL)[1].split("\n")
         self.assertEqual([line.split(" ")[-1] for line in lines], [*map(str, range(112, 131)), "&lt;b&gt;&amp;"])
         self.machines.ask("a", "delete talker")
         until(20, lambda: "talker" not in self.get(), "it is gone")
@@ -111,8 +118,8 @@ class Page(unittest.TestCase):
     def test_a_child_that_waits_says_why_and_the_title_tells_it(self):
         self.machines.start("a", ["bad"], kind="bad")
         until(20, lambda: re.search(r"waits [\d.]+ s, \d+ restarts, status 1", self.get()), "it is shown")
-        until(20, lambda: "don't run - Sebrakt a" in urllib.parse.unquote(self.ask("GET", "/?live=1", Cookie=self.cookie).headers["X-Title"]), "the title tells it, whenever it waits")
-        self.assertTrue(self.ask("GET", "/?live=1", Cookie=self.cookie).text.startswith("<p"))
+        until(20, lambda: "don't run - Sebrakt a" in urllib.parse.unquote(self.ask("GET", self.place + "?live=1", Cookie=self.cookie).headers["X-Title"]), "the title tells it, whenever it waits")
+        self.assertTrue(self.ask("GET", self.place + "?live=1", Cookie=self.cookie).text.startswith("<p"))
         self.post(key=self.key, do="delete bad", sure="yes")
 
     def test_forms_start_replace_restart_drain_and_delete(self):
@@ -156,7 +163,7 @@ class Page(unittest.TestCase):
             def browse():
                 for _ in range(5):
                     asked, link = time.monotonic(), http.client.HTTPConnection("127.0.0.1", server.server_address[1], timeout=30)
-                    link.request("GET", "/?live=1", headers={"Cookie": f"{view.cookie}=key"})
+                    link.request("GET", view.place + "?live=1", headers={"Cookie": f"{view.cookie}=key"})
                     shown.append(b"<code>queue</code>" in link.getresponse().read())
                     link.close()
                     slowest.append(time.monotonic() - asked)

@@ -8,6 +8,7 @@ import urllib.parse
 from pulse import PACE
 from test_apply import CHARACTERS
 
+import page
 import page_parts
 
 NOW = time.time()
@@ -54,7 +55,7 @@ class Parts(unittest.TestCase):
             self.assertIn(f"a: {what}: {fault}", texts)
 
     def rows(self, status, **words):
-        return re.findall(r'<a href="/child\?id=([^"]*)"><code>', page_parts.children(status, words))
+        return re.findall(r'<a href="child\?id=([^"]*)"><code>', page_parts.children(status, words))
 
     def test_a_title_tells_trouble(self):
         status = status_of(child_of("x"), child_of("y", "waiting"), child_of("z", "stopping"))
@@ -73,13 +74,24 @@ class Parts(unittest.TestCase):
         status = status_of(*[child_of(f"x{number:04}") for number in range(9000)])
         whole = page_parts.overview(status, {})
         self.assertLess(len(whole), 300_000)
-        self.assertIn("1 to 100 of 9000 <a href=\"/?from=100\">next</a>", whole)
+        self.assertIn("1 to 100 of 9000 <a href=\"./?from=100\">next</a>", whole)
         self.assertEqual(self.rows(status, **{"from": "8950"})[::49], ["x8950", "x8999"])
         for first in ("-1", "9000", "x", "9" * 50):
             self.assertEqual(self.rows(status, **{"from": first})[0], "x0000")
         began = time.thread_time()
         page_parts.overview(status, {"find": "x1"})
         self.assertLess(time.thread_time() - began, 0.5 * PACE)
+
+    def test_a_refresh_and_odd_words_of_an_address_leave_no_trace_in_links(self):
+        view = page.View(("127.0.0.1", 1), None, "key")
+        view.look = lambda: setattr(view, "seen", status_of(*[child_of(f"x{number:03}") for number in range(250)]))
+        for words in {"live": "1"}, {"path": "x", "said": "y", "live": "1"}:
+            self.assertEqual(set(re.findall('href="([^"]*)"', view.part("/", words)[1])) & {"./?from=100", "./?state=running&amp;from=0"}, {"./?from=100", "./?state=running&amp;from=0"})
+            view.made = {}
+
+    def test_a_replace_is_asked_for_first(self):
+        self.assertIn('data-ask="Replace &lt;x&gt;? Its run ends', page_parts.spec_form("k", "replace", child_of("<x>")))
+        self.assertNotIn("data-ask", page_parts.spec_form("k", "start", {}))
 
     def test_reasons_runs_names_and_losers_are_shown(self):
         lost = {"table": "child", "key": "web", "dot": "(b,7)", "at": "b", "line": "start web kind=x", "by": "me@there", "whence": "h", "when": NOW}
@@ -113,9 +125,9 @@ class Parts(unittest.TestCase):
             self.assertEqual(set(seen.names) - known, set())
             self.assertEqual((seen.names.count("script"), seen.names.count("img")), (1, 0))
             self.assertEqual([name for _, name, _ in seen.attributes if name.startswith("on") or name == "style"], [])
-            self.assertTrue(all(value.startswith("/") or value == "data:," for _, name, value in seen.attributes if name in ("href", "src", "action")))
+            self.assertTrue(all(value.startswith(("/page.", "./", "child?")) or value in ("data:,", "do", "events") for _, name, value in seen.attributes if name in ("href", "src", "action")))
             self.assertIn(("button", "value", "delete " + one), seen.attributes)
-            self.assertIn(("a", "href", "/child?" + urllib.parse.urlencode({"id": one})), seen.attributes)
+            self.assertIn(("a", "href", "child?" + urllib.parse.urlencode({"id": one})), seen.attributes)
 
 
 if __name__ == "__main__":

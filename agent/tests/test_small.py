@@ -13,9 +13,11 @@ import unittest.mock
 
 sys.path.insert(0, os.path.dirname(os.path.dirname(os.path.abspath(__file__))))
 
+import agent
 import client
 import groups
 import log
+import move
 import options
 import people
 import view
@@ -177,6 +179,44 @@ class Waiting(unittest.TestCase):
             self.ask([client.NoAnswer("it ended the connection"), ["ok (a,1)"]], 5)
 
 
+class Moving(unittest.TestCase):
+    """Children that move from an agent `here` to one `there`, of which each look is given."""
+
+    CHILD = {"id": "x", "kind": "sleep", "arg": "1", "restart": "permanent", "shutdown": "5000"}
+
+    def move(self, *looks, there="runs"):
+        """What was said to each."""
+        status, said, looks = {"name": "a", "machines": [], "names": [], "ending": [], "node": "runs", "children": []}, [], iter(looks)
+        with unittest.mock.patch.multiple(client, status=lambda at, *_, **__: {**status, **(next(looks) if at == "here" else {"node": there})},
+                                          ask=lambda at, secret, line, *_, **__: said.append((at, line.split(" ")[0])) or ["ok"]), unittest.mock.patch.object(move, "LOOK", 0.001):
+            try:
+                move.move("here", "there", None, lambda lines: None)
+            except move.NotMoved as fault:
+                said.append(str(fault).splitlines()[0])
+        return said
+
+    def test_an_agent_that_does_not_know_all_children_moves_none(self):
+        self.assertEqual(self.move({"node": "gone in 1, runs in 3"}), ["the agent a doesn't know all children now, its node: gone in 1, runs in 3"])
+        self.assertEqual(self.move({"children": [self.CHILD]}, there="gone"), ["the agent a doesn't know all children now, its node: gone"])
+
+    def test_a_child_begins_there_once_it_is_known_that_it_has_ended(self):
+        looks = [{"children": [self.CHILD]}, {"ending": [["x", "b"]]}, {"node": "gone"}, {"ending": [["x", "b"]]}, {}]
+        self.assertEqual(self.move(*looks), [("here", "delete"), ("there", "start")])
+        self.assertEqual(self.move(*looks[:4], *looks[1:]), [("here", "delete"), ("there", "start")])
+        with unittest.mock.patch.object(move, "AWAY", 0):
+            self.assertEqual(self.move(looks[0], *[{"node": "gone"}] * 99), [("here", "delete"), "the agent a doesn't know any more what runs, its node: gone"])
+
+    def test_what_starts_a_child_is_written_before_it_is_deleted(self):
+        """Who moves children into a log, and is killed, has lost none."""
+        file, seen = io.BytesIO(), []
+        status = {"name": "a", "machines": [], "names": [], "ending": [], "node": "runs", "children": []}
+        with unittest.mock.patch.multiple(client, status=lambda at, *_, **__: {**status, "children": [self.CHILD] * (at[1] == 1 and not seen)},
+                                          ask=lambda at, secret, line, *_, **__: seen.append((line, file.getvalue())) or ["ok"]):
+            with unittest.mock.patch.object(sys, "argv", ["agent.py", "move", "127.0.0.1:1", "127.0.0.1:2"]), contextlib.redirect_stdout(io.TextIOWrapper(io.BufferedWriter(file))):
+                agent.main()
+        self.assertEqual(seen[0], ("delete x", b"start x kind=sleep arg=1 restart=permanent shutdown=5000\n"))
+
+
 class Statuses(unittest.TestCase):
     """The status is made once for all who ask within a second, in pieces between turns of the loop."""
 
@@ -262,7 +302,13 @@ class Statuses(unittest.TestCase):
             one.ask(told.append)
             one.agent.groups[0].core.letters.changes += 1
         until(5, lambda: not one.work() and len(told) == 2, "both are answered")
-        self.assertEqual(json.loads(told[1][0])["children"], [])
+        self.assertEqual([json.loads(lines[0])["children"] for lines in told], [[], []])
+        self.assertNotIn("runs", [json.loads(lines[0])["node"] for lines in told])  # nobody takes it for one without children
+
+    def test_a_child_that_waits_and_of_which_it_is_not_told_how_long_is_shown(self):
+        of_group = self.agent(1).agent.groups[0]
+        of_group.core.state, of_group.core.telling.told.children = "", {"w0": word.Child("waits", "1.1", 0, 0, "", None)}
+        self.assertEqual(of_group.people(5).child("w0", "a").state, "begins")
 
     def test_a_node_begins_then_runs_and_is_gone_only_behind_that(self):
         one, told = self.agent(1), []
