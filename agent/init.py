@@ -99,7 +99,7 @@ class Machine:
             if os.path.exists(self.secret) and seals.read_secret(self.secret) != given:
                 raise NotDone(f"{self.secret} is there already, and another one than {self.given_secret}")
             if not os.path.exists(self.secret):
-                self.write(self.secret, given.decode() + "\n", 0o600)
+                self.write(self.secret, os.fsdecode(given) + "\n", 0o600)
         seals.read_secret(self.secret)
         own(self.secret)
 
@@ -113,9 +113,9 @@ class Machine:
         own(self.image + ".lock")
 
     def write(self, path, content, mode=0o644):
-        with open(os.open(path, os.O_WRONLY | os.O_CREAT | os.O_EXCL, mode), "w") as file:
+        with open(os.open(path, os.O_WRONLY | os.O_CREAT | os.O_EXCL, mode), "wb") as file:
             self.made.append(path)
-            file.write(content)
+            file.write(os.fsencode(content))
 
     def undo(self):
         for path in self.made:

@@ -225,11 +225,18 @@ def fields(query):
         return {}
 
 
+def server_at(port):
+    try:
+        return Server(("127.0.0.1", port), Handler)
+    except OSError as fault:
+        raise client.NoAnswer(f"port {port}: {fault.strerror}") from None
+
+
 def serve(address, secret, port, wait=0):
-    """Serves the page until it is interrupted. NoAnswer where no agent is at the address within `wait` seconds."""
+    """Serves the page until it is interrupted. NoAnswer where no agent is at the address within `wait` seconds, or the port can't be had."""
     client.through = "the page"
     client.status(address, secret, wait=wait)
-    with Server(("127.0.0.1", port), Handler) as server:
+    with server_at(port) as server:
         server.view = View(address, secret, secrets.token_urlsafe(24))
         print(f"http://127.0.0.1:{server.server_address[1]}/?key={server.view.key}", flush=True)
         try:

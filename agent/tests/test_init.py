@@ -90,6 +90,14 @@ class Init(OfFolder):
         self.assertIn("another one than", self.init("b", "--address", "10.7.0.2:7001", "--secret", self.path("a", "etc", "secret"), status=2))
         self.assertIn("etc/secret", self.files("b"))
 
+    def test_a_secret_is_of_any_bytes(self):
+        with open(self.path("odd"), "wb") as file:
+            file.write(bytes(range(0x80, 0xc0)))
+        os.chmod(self.path("odd"), 0o600)
+        self.init("a", "--address", "10.7.0.1:7001", "--secret", self.path("odd"))
+        with open(self.path("a", "etc", "secret"), "rb") as file:
+            self.assertEqual(file.read(), bytes(range(0x80, 0xc0)) + b"\n")
+
     def test_two_machines_of_their_files_find_each_other(self):
         ports = dict(zip("ab", free_ports(2)))
         peers = [word for name, port in ports.items() for word in ("--peer", f"{name}=127.0.0.1:{port}")]

@@ -181,6 +181,12 @@ class Page(unittest.TestCase):
         self.assertIn("<code>now</code>", view.part("/", {})[1])
         view.do({"do": "delete now"})
 
+    def test_a_port_that_another_one_has_is_told(self):
+        said = subprocess.run([sys.executable, AGENT, "serve", f"127.0.0.1:{self.machines.ports['a']}", "--port", str(self.port), "--secret", self.machines.path("secret")],
+                              stdout=subprocess.PIPE, stderr=subprocess.PIPE, text=True, timeout=60)
+        self.assertEqual((said.returncode, said.stdout), (1, ""))
+        self.assertTrue(said.stderr.endswith(f"port {self.port}: Address already in use\n"), said.stderr)
+
     def test_an_agent_that_is_away_is_told_at_once_to_all(self):
         view = page.View(("127.0.0.1", 9), SECRET, "key")
         for _ in range(3):
