@@ -35,7 +35,7 @@ def ask(groups, line, answer):
     elif words[0] in OF_ALL or len(groups) == 1:
         ask_each(groups, line, answer)
     elif words[0] in OF_NAMES:
-        find_name(groups, words[-1], lambda having: ask_each(having or groups[:1], line, answer))
+        find_name(groups, words[-1], lambda having, away: answer(away) if away and not having else ask_each(having or groups[:1], line, answer))
     elif len(words) <= CHILD_AT[words[0]]:
         answer(["bad line"])
     else:
@@ -43,11 +43,11 @@ def ask(groups, line, answer):
 
 
 def ask_own(groups, own, line, answer):
-    """Has a child's group asked. A name stands in one group alone."""
+    """Has a child's group asked. A name stands in one group alone, so none is given while some group can't tell whether it has it."""
     verb, name, *_ = line.split(" ")
     if verb == "register":
         others = [group for group in groups if group is not own]
-        find_name(others, name, lambda having: answer(["refused 8 NameTaken"]) if having else own.command(line, answer))
+        find_name(others, name, lambda having, away: answer(["refused 8 NameTaken"]) if having else answer(away) if away else own.command(line, answer))
     else:
         own.command(line, answer)
 
@@ -60,8 +60,9 @@ def ask_each(groups, line, answer):
 
 
 def find_name(groups, name, then):
-    """`then` takes the groups that have a name."""
-    gather(groups, "where " + name, lambda told: then([group for group, lines in zip(groups, told) if is_place(lines, name)]))
+    """`then` takes the groups that have a name, and the answer of one that can't tell whether it has it, if there is one."""
+    gather(groups, "where " + name, lambda told: then([group for group, lines in zip(groups, told) if is_place(lines, name)],
+                                                      next((lines for lines in told if not is_done(lines)), None)))
 
 
 def is_place(lines, name):

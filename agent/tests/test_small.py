@@ -55,11 +55,14 @@ class OfLogs(unittest.TestCase):
 class OfGroup:
     """A group of a test: it has some names, and notes what it is asked."""
 
-    def __init__(self, number, count, names=()):
-        self.tag, self.names, self.asked = groups.tag_of(number, count), names, []
+    def __init__(self, number, count, names=(), is_away=False):
+        self.tag, self.names, self.asked, self.is_away = groups.tag_of(number, count), names, [], is_away
 
     def command(self, line, then):
         words = line.split(" ")
+        if self.is_away:
+            then(["no node"])
+            return
         if words[0] == "where" and len(words) == 2:
             then([f"{words[1]} x on a" if words[1] in self.names else f"{words[1]} unknown"])
             return
@@ -105,6 +108,14 @@ class Groups(unittest.TestCase):
         some = [OfGroup(number, 3, names) for number, names in enumerate(([], ["www"], []))]
         self.assertEqual(answer(some, "register www " + elsewhere), ["refused 8 NameTaken"])
         self.assertEqual(answer(some, "register www " + here), ["ok"])
+
+    def test_no_name_is_given_while_some_group_can_not_tell_whether_it_has_it(self):
+        here = next(f"w{number}" for number in range(100) if groups.group_of(f"w{number}", 3) == 1)
+        some = [OfGroup(0, 3, ["ftp"]), OfGroup(1, 3), OfGroup(2, 3, is_away=True)]
+        self.assertEqual([answer(some, line) for line in ("register www " + here, "where www", "unregister www")], [["no node"]] * 3)
+        self.assertEqual(answer(some, "register ftp " + here), ["refused 8 NameTaken"])
+        self.assertEqual(answer(some, "unregister ftp"), ["ok"])
+        self.assertEqual(some[1].asked, [])
 
     def test_a_line_is_done_where_each_group_has_done_it(self):
         some = [OfGroup(0, 2), OfGroup(1, 2)]
