@@ -128,7 +128,7 @@ class OfGroups(unittest.TestCase):
         time.sleep(PACE)
         machines.need_each_once(IDS)
         self.assertEqual(machines.members("b"), [])
-        self.assertTrue(all(told["how"].startswith("another setting: 2 groups") for told in machines.status("a")["machines"] if told["name"] == "b"))
+        until(10, lambda: [told["how"][:25] for told in machines.status("a")["machines"] if told["name"] == "b"] == ["another setting: 2 groups"], "the first one tells of it")
         machines.need_each_once(IDS)
 
 
