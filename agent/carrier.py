@@ -1,5 +1,6 @@
 """One group of children at this machine: gives its core what happens, and does what the core says. It decides nothing."""
 import os
+import signal
 import subprocess
 import time
 
@@ -16,6 +17,7 @@ from core import core, word
 
 FIRST_BEGIN = 5      # seconds at most in which a node has to begin at the first; one that a signal ended has as long as a node may take for its first answer
 MOST_OF_A_REASON = 300  # characters that are told
+AHEAD = ".ahead"     # how the name of the file beside the image ends that has `ahead` of the core
 NEVER_BEGINS = 1, 2  # statuses with which a node tells that its image or its words are bad
 
 
@@ -32,17 +34,26 @@ class Carrier:
         self.log = host.log if options.groups == 1 else host.log.of(self.tag)
         self.image = groups.image_of(options.image, number, options.groups)
         self.words_of_node = [supd, self.name, "--image", self.image, *options.settings]
-        self.core = core.Core(self.name, host.mark, options, self.links.known(), seconds())
+        self.core = core.Core(self.name, host.mark, options, self.links.known(), seconds(), ahead=self.ahead())
         self.children = children.Children(self.name, number, kinds, os.path.abspath(self.image), host.cgroup, host.loop, host.logs, self.log)
         self.node, self.begun_at, self.has_begun, self.has_left = None, seconds(), False, False
         self.looks = None  # who looks at the tables that the node was asked to show
         self.newest = {}  # of each process of a machine the text of its newest words, as long as it waits to be read
         self.began, self.ended = [], []  # processes of which the core is to be told
+        self.to_begin = {}  # of each key (id, number, spec): the runs that are to begin, each in its turn
         self.overlaps = overlap.Overlaps(self)
         self.replies, self.tokens = {}, 0  # of each command that somebody waits for, who takes the reply
         self.goes_on = table is not None
         if self.goes_on:
             handover.take_group(self, table)
+
+    def ahead(self):
+        """What an earlier core has kept of its sessions, 0 where that is nothing."""
+        try:
+            with open(self.image + AHEAD) as file:
+                return max(0, int(file.read(20)))
+        except (OSError, ValueError):
+            return 0
 
     # -- what happens
 
@@ -183,13 +194,29 @@ class Carrier:
         if left:
             self.log("ended what an earlier agent left:", left)
 
+    def keep_ahead(self, ahead):
+        try:
+            with open(self.image + AHEAD + ".new", "w") as file:
+                file.write(str(ahead))
+            os.rename(self.image + AHEAD + ".new", self.image + AHEAD)
+        except OSError as fault:
+            self.log("beside the image nothing can be kept:", fault.strerror)
+
     def words(self, name, words):
         self.links.tell(name, f"words {self.tag} {word.text_of(words)}")
 
     def letter(self, name, session, text):
         self.links.send(name, f"letter {self.tag} {session[0]} {text}")
 
-    def begin(self, key, ident, number, spec):
+    def begin(self, key, *run):
+        self.to_begin[key] = run
+        self.host.begins.append((self.begin_in_turn, key))
+
+    def begin_in_turn(self, key):
+        if key in self.to_begin:  # else it was told to end before
+            self.begin_now(key, *self.to_begin.pop(key))
+
+    def begin_now(self, key, ident, number, spec):
         try:
             process = self.overlaps.take_back(key, ident, spec) or self.children.begin(key, ident, number, spec)
         except (OSError, ValueError, subprocess.SubprocessError) as fault:
@@ -204,11 +231,16 @@ class Carrier:
             self.give("noted", key, "", delay)  # now: a short run may have ended when it is looked at first
 
     def term(self, key):
-        if not self.overlaps.takes(key):
+        if self.to_begin.pop(key, None):
+            self.note_end(key, -signal.SIGTERM)
+        elif not self.overlaps.takes(key):
             self.children.term(key)
 
     def kill(self, key):
-        self.children.kill(key)
+        if self.to_begin.pop(key, None):
+            self.note_end(key, -signal.SIGKILL)
+        else:
+            self.children.kill(key)
 
     def reply(self, token, lines):
         """Tells who asked; what the node orders beside is its host's business."""
@@ -226,7 +258,7 @@ class Carrier:
 
     def is_at_rest(self):
         """Whether nobody waits for a reply, no child moves, and its node is told of each run that has ended."""
-        return not (self.replies or self.overlaps.asked or self.overlaps.freed or any(run.status is not None for run in self.core.runs.here.values()))
+        return not (self.replies or self.to_begin or self.overlaps.asked or self.overlaps.freed or any(run.status is not None for run in self.core.runs.here.values()))
 
     def rest(self):
         """Ends all but the runs."""
@@ -244,6 +276,6 @@ def plain(text):
     return "".join(one if one.isprintable() else "?" for one in text[:MOST_OF_A_REASON])
 
 
-DOES = {"ask": Carrier.ask, "begin node": Carrier.begin_node, "kill node": Carrier.kill_node, "end leftovers": Carrier.end_leftovers,
+DOES = {"ask": Carrier.ask, "begin node": Carrier.begin_node, "kill node": Carrier.kill_node, "end leftovers": Carrier.end_leftovers, "keep ahead": Carrier.keep_ahead,
         "words": Carrier.words, "letter": Carrier.letter, "begin": Carrier.begin, "term": Carrier.term, "kill": Carrier.kill,
         "reply": Carrier.reply, "log": Carrier.say, "left": Carrier.left}

@@ -34,6 +34,7 @@ from core import core
 TOLD_EACH = 5  # seconds at least between two lines of the log about refused lines
 EPOCH = re.compile("[0-9]{1,18}")
 COMMANDS = groups.OF_PEOPLE - core.LOOKS
+BEGINS_FOR = 0.1    # seconds of a turn in which runs are begun: meanwhile nobody is heard or told anything
 LONGEST_WAIT = 0.5  # seconds, whatever a moment says: a clock that was set far back has all moments far ahead
 
 
@@ -42,7 +43,7 @@ class Agent:
         """`table` is what an earlier program of this agent hands on. OSError or ValueError where the file of kinds is none, the address can't be had, or the
         table can't be gone on with; ImportError without the Redis library."""
         self.options, self.name, self.log, self.mark = options, options.name, log.Log(options.name), table["mark"] if table else seals.fresh()
-        self.loop, self.events = selectors.DefaultSelector(), collections.deque()
+        self.loop, self.events, self.begins = selectors.DefaultSelector(), collections.deque(), collections.deque()
         self.refused, self.refused_told = collections.Counter(), 0
         self.kinds = kinds.Kinds(options.kinds, self.log)
         self.cgroup = table["cgroup"] if table else cgroups.take_own()
@@ -207,13 +208,21 @@ class Agent:
             processes.reap_orphans()
         if not self.upgrade.is_resting():
             self.server.listens(all(one.has_begun or one.core.node.is_lost(seconds()) or not one.goes_on for one in self.groups))
-        is_more = self.view.work() | self.watch.work()
+        is_more = self.view.work() | self.watch.work() | bool(self.begins)
         self.upgrade.tick(seconds())
         return 0 if is_more else min(self.watch.at, self.upgrade.moment(), *(one.next_moment(seconds()) for one in self.groups))
 
     def do_events(self):
         while self.events:
             do, *words = self.events.popleft()
+            do(*words)
+        self.begin_some()
+
+    def begin_some(self):
+        """Begins runs, for a while: each takes some milliseconds, and there may be thousands."""
+        until = seconds() + BEGINS_FOR
+        while self.begins and seconds() < until:
+            do, *words = self.begins.popleft()
             do(*words)
 
     def in_turn(self):

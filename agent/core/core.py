@@ -19,6 +19,7 @@ Each event is a method that takes the moment as well, and returns the actions th
 
     ("ask", line)                     a line for the node; its answers come in the order of the lines
     ("begin node",), ("kill node",), ("end leftovers",)
+    ("keep ahead", n)                 beside the image: what is told as `ahead` to the next core
     ("words", name, words), ("letter", name, session, text)   to a machine, now or never
     ("begin", key, id, number, spec), ("term", key), ("kill", key)
     ("reply", token, lines), ("log", ..), ("left",)
@@ -46,10 +47,11 @@ def event(take):
 
 
 class Core:
-    def __init__(self, name, mark, options, peers, now, whole_letter=answer.whole_letter):
-        """`mark` is no other process's. `peers` are the other machines to which there may be links, None where nobody knows them."""
+    def __init__(self, name, mark, options, peers, now, whole_letter=answer.whole_letter, ahead=0):
+        """`mark` is no other process's. `peers` are the other machines to which there may be links, None where nobody knows them. `ahead` is by how much
+        its sessions are later than its image's boots, since an earlier process took the place of one with a later boot."""
         self.name, self.options, self.now, self.actions = name, options, now, []
-        self.up, self.state, self.leave_at = set(), word.BEGINS, None  # `up`: the machines to which there are links
+        self.up, self.state, self.leave_at, self.ahead = set(), word.BEGINS, None, ahead  # `up`: the machines to which there are links
         self.holds, self.held = 0, 0  # how often this machine didn't listen for long, and for how many seconds in all
         self.sight = sight.Sight(name, mark, options.setting, options.silent, self.log, now)
         self.members = members.Members(name, options, peers, now)
@@ -99,7 +101,7 @@ class Core:
         self.letters.change()
         self.hold.refused_from = None  # it has kept its boot
         if is_first:
-            self.sight.begin_session(self.node.boot)
+            self.sight.begin_session(self.node.boot + self.ahead)
             self.act("end leftovers")
         if self.hold.own is None:
             self.ask("inspect", self.hold.take_first_look)
@@ -217,6 +219,7 @@ class Core:
     def look_at_state(self):
         """What hinders this machine, and what that does to its runs."""
         if self.hold.outlives_rival(self.now):
+            self.act("keep ahead", self.sight.session[0] - self.node.boot)
             self.begin_anew()
         before, self.state = self.state, word.LEFT if self.leaving.is_over() else self.hold.look(self.now)
         if before in word.ANEW and self.state not in word.ANEW and (before != word.UNHEARD or self.sight.heard(self.now)):

@@ -100,8 +100,9 @@ class Hold:
     # -- another process of this name
 
     def outlives_rival(self, now):
-        """Whether the other one's words have stood still for so long that it has ended. Then this one takes its place."""
-        if not self.sight.has_rival() or now - max(self.sight.rival_rose, self.sight.began) < self.options.silent:
+        """Whether the other one's words have stood still for so long that it has ended. Then this one takes its place. Before its node has begun, and has
+        a boot, each earlier process of its own image looks so."""
+        if self.own is None or not self.sight.has_rival() or now - max(self.sight.rival_rose, self.sight.began) < self.options.silent:
             return False
         self.sight.begin_session(self.sight.rival[0][0] + 1)
         self.log("another process of this name had a later boot, and is silent now: this one takes its place.",

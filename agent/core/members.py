@@ -35,6 +35,5 @@ class Members:
         return joins + ["leave " + name for name in sorted(self.others & members) if self.is_out(name, sight, now)]
 
     def is_out(self, name, sight, now):
-        if name in sight.words and sight.words[name].state in word.TAKES_NONE:
-            return True
-        return now - max(sight.last_touch(name), self.since.get(name, now), self.judge_from) >= self.patience
+        tells_so = name in sight.words and sight.words[name].state in word.TAKES_NONE and sight.rose[name] > self.since.get(name, now)  # not before it joined
+        return tells_so or now - max(sight.last_touch(name), self.since.get(name, now), self.judge_from) >= self.patience

@@ -154,8 +154,8 @@ class Runs:
         return told
 
     def told_end(self, run, reply, now):
-        """Takes the node's answer. An end that it couldn't keep is told it again: else the child would stand in the tables, with a run that nobody ends."""
-        if reply.startswith(answer.NOT_KEPT):
+        """Takes the node's answer. An end that it couldn't take is told it again: else the child would stand in the tables, with a run that nobody ends."""
+        if reply.startswith((answer.NOT_KEPT, "refused 19")):
             self.unkept.append(run)
             self.again_at = now + self.again
         elif self.here.get(run.id) is run:

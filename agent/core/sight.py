@@ -134,9 +134,10 @@ class Sight:
         return to in self.words and name in self.words[to].sees and not self.is_stale(to, now)
 
     def to_hand_on(self, to, now, is_anew):
-        """The words that a machine lacks and doesn't get straight. What it has heard isn't known where it may have begun anew."""
-        heard = self.words[to].heard if to in self.words and not is_anew else {}
-        lacks = [word for name, word in self.words.items() if name != to and (word.session, word.n) > heard.get(name, NEVER) and not self.gets_straight(to, name, now)]
+        """The words that a machine lacks and doesn't get straight; of the silent none, since they would count as heard there. What it has heard isn't known
+        where it may have begun anew."""
+        heard, living = self.words[to].heard if to in self.words and not is_anew else {}, self.heard(now)
+        lacks = [word for name, word in self.words.items() if name in living and name != to and (word.session, word.n) > heard.get(name, NEVER) and not self.gets_straight(to, name, now)]
         return [self.since(word, heard.get(word.name, NEVER), now) for word in lacks]
 
     def since(self, word, heard, now):

@@ -211,6 +211,58 @@ at 1.777 begin b
 at 3.552 ask a start g2 kind=good shutdown=1000
 end 23.5
 """
+DEAD_BESIDE_AN_UPGRADE = """
+flavour upgrade
+machines a b c
+chance 1
+at 0 begin a
+at 0 begin b
+at 0 begin c
+at 4 ask a start g1 kind=good shutdown=300
+at 4 ask b start g2 kind=good shutdown=300
+at 4 ask c start g3 kind=good shutdown=300
+at 4 ask c start g4 kind=good shutdown=300
+at 4 ask c start g5 kind=good shutdown=300
+at 10 lose-power c 1000
+at 25 upgrade-agent a 0.5
+end 45
+"""
+LOST_AND_UPGRADED = """
+flavour any
+machines a b c
+chance 1
+at 0 begin a
+at 0 begin b
+at 0 begin c
+at 4 ask a start g1 kind=good shutdown=300
+at 4 ask b start g2 kind=good shutdown=300
+at 4 ask c start g3 kind=good shutdown=300
+at 5 kill-agent a 0.5
+at 8 kill-agent a 0.5
+at 11 swap-image a 0.5 none
+at 20 upgrade-agent a 0.5
+end 25
+"""
+LOST_ONCE = """
+flavour cut
+machines a b c
+chance 1
+at 0 begin a
+at 0 begin b
+at 0 begin c
+at 4 ask a start g1 kind=good shutdown=300
+at 4 ask b start g2 kind=good shutdown=300
+at 4 ask c start g3 kind=good shutdown=300
+at 5 kill-agent a 0.5
+at 8 kill-agent a 0.5
+at 11 swap-image a 0.5 none
+at 20 kill-agent a 0.5
+at 30 kill-agent a 0.5
+at 40 kill-agent a 0.5
+at 50 lose-power c 1000
+at 60 kill-agent a 0.5
+end 110
+"""
 FOUND = {  # as the simulator made them small, or as they were told
     "in a ring of lines in one direction each child runs once": RING,
     "an older image waits for all that those know to which there is no link yet": OLDER,
@@ -226,4 +278,7 @@ FOUND = {  # as the simulator made them small, or as they were told
     "a machine that comes back waits for one that was taken out meanwhile": TAKEN_OUT_MEANWHILE,
     "a child that is started right behind a join begins at its place": STARTED_BEHIND_A_JOIN,
     "behind a broker a machine that took all others out waits for those that it may meet when it comes back": BEHIND_A_BROKER,
+    "an upgrade beside a machine that has died ends no child of the living": DEAD_BESIDE_AN_UPGRADE,
+    "a machine that lost its image goes on as it was when its agent is upgraded": LOST_AND_UPGRADED,
+    "an image that was lost once is taken for the newest at later begins": LOST_ONCE,
 }

@@ -36,6 +36,12 @@ def keeps_events_while_the_node_answers(self, what, *words):
         TAKE(self, what, *words)
 
 
+def hand_on_words_of_the_silent(self, to, now, is_anew):
+    heard = self.words[to].heard if to in self.words and not is_anew else {}
+    lacks = [one for name, one in self.words.items() if name != to and (one.session, one.n) > heard.get(name, sight.NEVER) and not self.gets_straight(to, name, now)]
+    return [self.since(one, heard.get(one.name, sight.NEVER), now) for one in lacks]
+
+
 def do_at_once(self, seen):
     """Orders that came while this machine was taken out are done, and it joins anew later."""
     before, self.withheld = self.withheld, None
@@ -135,6 +141,9 @@ MUTANTS = [
            found.TAKEN_OUT_MEANWHILE),
     Mutant("who has said nothing for long begins again what it ran, without asking", "any", ("once while all hear one another",),
            {(sight.Sight, "was_silent"): lambda *words: False}, found.SAID_NOTHING),
+    Mutant("words of silent machines are handed on", "upgrade", ("nobody pays",), {(sight.Sight, "to_hand_on"): hand_on_words_of_the_silent},
+           found.DEAD_BESIDE_AN_UPGRADE),
+    Mutant("who took the place of a later boot is forgotten at the next begin", "any", ("well after the last fault",), {(shell.Shell, "keep_ahead"): nothing}, found.LOST_AND_UPGRADED),
     Mutant("letters are taken of whose sender's whole state nothing is known", "image", ("no dot is given twice",), {(letters.Letters, "take"): take_any_letter},
            found.CUT_OFF_AT_ITS_BEGIN),
 ]

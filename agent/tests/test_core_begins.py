@@ -1,10 +1,13 @@
 #!/usr/bin/env python3
 """The core by hand: when a machine begins, and when it stops."""
+import types
 import unittest
 
-from core_machine import RUNS, START, Machine, of
+from core_machine import OPTIONS, RUNS, START, Machine, of
 
 from core import core, word
+
+LATER = {"a": ((7, "an earlier mark"), 70)}  # that somebody has heard a process of a with a later boot
 
 
 class Begins(unittest.TestCase):
@@ -265,6 +268,31 @@ class NewImages(unittest.TestCase):
         machine.wait(4)
         self.assertTrue(of(machine.done, "left"))
         self.assertEqual([line for line, in of(machine.done, "ask") if line[:5] in ("drain", "leave")], ["drain a", "leave a"])
+
+
+class Sessions(unittest.TestCase):
+    """A process says which image and begin it is by a session, of which the greatest counts."""
+
+    def test_who_took_the_place_of_a_later_boot_is_later_than_that_when_it_begins_again(self):
+        machine = Machine(["b"], boot=2)
+        machine.take("link", "b", True)
+        for _ in range(14):
+            machine.hear(heard=LATER)
+            machine.wait(0.25)
+        self.assertEqual((machine.core.sight.session[0], of(machine.done, "keep ahead")), (8, [(6,)]))
+        again = core.Core("a", "another mark", types.SimpleNamespace(**OPTIONS), ["b"], 0, ahead=6)
+        again.node_began(["ok boot 3", START], 0)
+        self.assertEqual(again.sight.session[0], 9)
+
+    def test_a_node_that_begins_late_makes_no_image_an_old_one(self):
+        machine = Machine(["b"], boot=8)
+        machine.core = core.Core("a", "another mark", machine.core.options, ["b"], 0)
+        for _ in range(20):
+            machine.hear(heard=LATER)
+            machine.wait(0.25)
+        machine.take("node_began", ["ok boot 8", START])
+        self.assertNotIn("lost or old", str(of(machine.done, "log")))
+        self.assertEqual(machine.core.sight.session[0], 8)
 
 
 if __name__ == "__main__":

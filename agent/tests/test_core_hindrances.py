@@ -208,5 +208,35 @@ class FullDisks(unittest.TestCase):
         self.assertEqual(machine.core.state, "")
 
 
+class Dead(unittest.TestCase):
+    def test_words_of_a_silent_machine_are_handed_on_to_nobody(self):
+        machine = Machine(["b", "c"])
+        machine.meet()
+        machine.meet("c")
+        machine.hear_for(4)
+        machine.take("link", "b", False)
+        machine.take("link", "b", True)  # it begins anew, and lacks all
+        machine.wait(0.1)
+        self.assertEqual([one.name for one in [words for name, words in of(machine.done, "words") if name == "b"][-1]], ["a"])
+
+
+class Members(unittest.TestCase):
+    def test_who_joins_is_not_taken_out_by_a_word_of_before(self):
+        machine = Machine(["b"])
+        machine.meet()
+        machine.answers["members"] = ["member a (a,1) label=x"]
+        machine.answers["deliver"] = ["ok absorbed"]
+        machine.take("letter", "b", (1, "b's"), "{}")
+        machine.hear(state=word.OLD)
+        machine.wait(0.1)
+        machine.answers["members"].append("member b (b,2) label=x")  # its letter is here before its word
+        machine.take("letter", "b", (1, "b's"), "{}")
+        machine.wait(0.6)
+        self.assertNotIn(("leave b",), of(machine.done, "ask"))
+        machine.hear(state=word.OLD)
+        machine.wait(0.6)
+        self.assertIn(("leave b",), of(machine.done, "ask"))
+
+
 if __name__ == "__main__":
     unittest.main()

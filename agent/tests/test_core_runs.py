@@ -182,5 +182,42 @@ class Letters(unittest.TestCase):
         self.assertEqual([line for line, in of(machine.done, "ask")][66:], ["members", "ship b"])  # what changed behind the first of the commands
 
 
+class Jobs(unittest.TestCase):
+    """Ends of which no node has answered."""
+
+    def test_a_job_that_ends_while_there_is_no_node_begins_no_second_time(self):
+        machine = Machine(answers=False)
+        machine.core.runs.waiting["w"] = "1.1", "good temporary 300 arg="
+        machine.is_quick = True
+        machine.answers["exit"] = ["ok finished (a,2)"]
+        machine.take("answered", [machine.answer(line) for line, in of(machine.done, "ask")])
+        machine.wait(0.1)
+        machine.take("node_gone", "signal 9")
+        machine.ends(1, 0)
+        machine.take("node_began", ["ok boot 3", START.replace("1.1", "3.1").replace("permanent", "temporary")])
+        machine.wait(20)
+        self.assertEqual((machine.begun(), [line for line, in of(machine.done, "ask") if line.startswith("exit")]), (["w"], ["exit w 3.1 normal @0"]))
+
+    def test_an_end_whose_answer_never_came_is_told_the_next_node(self):
+        machine = Machine()
+        machine.wait(0.1)
+        machine.is_quick = False
+        machine.ends(1, 1)
+        machine.take("node_gone", "signal 9")
+        machine.is_quick = True
+        machine.take("node_began", ["ok boot 3", START.replace("1.1", "3.1")])
+        self.assertEqual([line.split(" ")[2] for line, in of(machine.done, "ask") if line.startswith("exit")], ["1.1", "3.1"])
+
+    def test_an_end_for_which_the_node_has_no_memory_is_told_it_again(self):
+        machine = Machine()
+        machine.wait(0.1)
+        machine.answers["exit"] = ["refused 19 OutOfMemory"]
+        machine.ends(1, 1)
+        machine.wait(4)
+        machine.answers["exit"] = ["ok restarted", START.replace("1.1", "1.2")]
+        machine.wait(4)
+        self.assertEqual(machine.begun(), ["w", "w"])
+
+
 if __name__ == "__main__":
     unittest.main()

@@ -1,5 +1,6 @@
 """Small parts of an agent: its log, groups of children, the words of its command line, what people are told."""
 import argparse
+import collections
 import contextlib
 import io
 import json
@@ -14,8 +15,10 @@ import unittest.mock
 sys.path.insert(0, os.path.dirname(os.path.dirname(os.path.abspath(__file__))))
 
 import agent
+import carrier
 import client
 import groups
+import host
 import log
 import move
 import options
@@ -342,6 +345,32 @@ class Statuses(unittest.TestCase):
         self.assertEqual(len(json.loads(told[0][0])["children"]), 20_000)
         self.assertLess(sorted(turns)[len(turns) // 2], 4 * view.PIECE)
         print(f"    a status of 20,000 children: {len(turns)} pieces, the longest {max(turns) * 1000:.0f} ms", flush=True)
+
+
+class Turns(unittest.TestCase):
+    """Runs that begin at once."""
+
+    def test_runs_that_begin_at_once_hold_no_turn_up(self):
+        agent, begun = host.Agent.__new__(host.Agent), []
+        agent.events, agent.begins = collections.deque(), collections.deque()
+        for number in range(100):
+            agent.begins.append((lambda number: (time.sleep(0.01), begun.append(number)), number))
+        began = time.monotonic()
+        agent.do_events()
+        self.assertLess(time.monotonic() - began, 0.5)
+        while agent.begins:
+            agent.do_events()
+        self.assertEqual(begun, list(range(100)))
+
+    def test_a_run_that_is_told_to_end_before_its_turn_never_begins(self):
+        one, ended = carrier.Carrier.__new__(carrier.Carrier), []
+        one.to_begin, one.host, one.note_end = {}, types.SimpleNamespace(begins=collections.deque()), lambda *words: ended.append(words)
+        one.begin_now = lambda *words: self.fail("it begins")
+        one.begin(1, "w", "1.1", "good permanent 300 arg=")
+        one.term(1)
+        for do, *words in one.host.begins:
+            do(*words)
+        self.assertEqual(ended, [(1, -15)])
 
 
 if __name__ == "__main__":

@@ -131,6 +131,7 @@ def fill_disk(world, name, seconds):
 def copy_image(world, name):
     machine = world.machines[name]
     machine.copy = world.node_of.copy_of(machine.image) if machine.image is not None else None
+    machine.copied_ahead = machine.ahead
 
 
 def swap_image(world, name, seconds, instead):
@@ -139,6 +140,7 @@ def swap_image(world, name, seconds, instead):
     machine.end_agent()
     had = own_dots(machine)
     machine.image = None if instead == "none" or machine.copy is None else world.node_of.copy_of(machine.copy)
+    machine.ahead = 0 if machine.image is None else machine.copied_ahead
     elsewhere = {dot for other in world.machines.values() if other is not machine for dot in other.state().known}
     machine.losses.append(Loss(world.now, had - own_dots(machine), elsewhere))
     world.note("the image of", name, "is", instead)
@@ -162,7 +164,7 @@ def twin(world, name, seconds, image):
     """twin A SECONDS none | copy: a second machine takes the name of A, with no image, or with a copy of A's as it is now."""
     of, second = world.machines[name], machines.Machine(world, name, is_twin=True)
     if image == "copy" and of.image is not None:
-        second.image = world.node_of.copy_of(of.image)
+        second.image, second.ahead = world.node_of.copy_of(of.image), of.ahead
     world.machines[second.key] = second
     second.begin_agent()
     world.after(float(seconds), end_twin, world, second)

@@ -12,6 +12,7 @@ class Machine:
     def __init__(self, world, name, is_twin=False):
         self.world, self.name, self.is_twin, self.key = world, name, is_twin, name + " twin" if is_twin else name
         self.image, self.copy, self.is_full, self.losses = None, None, False, []
+        self.ahead, self.copied_ahead = 0, 0  # what stands beside the image, and beside its copy
         self.peers = None  # the machines that its words name, None where these are all others
         self.secret, self.setting = "", ""  # other ones than those of the others, where they aren't empty
         self.agent, self.links, self.processes, self.leftovers, self.log, self.ended_at = None, {}, {}, set(), [], 0.0
@@ -31,7 +32,7 @@ class Machine:
         return self.peers is None or name in self.peers or self.agent is not None and name in self.agent.core.members.since
 
     def is_hindered(self):
-        return self.is_held or self.node_slow or self.node_held_until > self.world.now or bool(self.secret or self.setting) or self.is_mute()
+        return self.is_held or self.node_slow or self.node_held_until > self.world.now or bool(self.secret or self.setting)
 
     def is_mute(self):
         return self.agent is not None and self.agent.is_mute()

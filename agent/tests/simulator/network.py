@@ -109,7 +109,7 @@ class Network:
         live = [machine for machine in self.world.machines.values() if machine.agent is not None and not machine.is_twin]
         if any(machine.is_hindered() for machine in live):
             return False
-        names = [machine.name for machine in live]
+        names = [machine.name for machine in live if not machine.is_mute()]  # who tells nothing carries nothing, and may hear all
         return all(reach(names, pairs) == set(names) for pairs in (lambda a, b: self.is_good((a, b)), lambda a, b: self.is_good((b, a)))) if names else True
 
     def is_good(self, pair):

@@ -8,7 +8,7 @@ from simulator import nodes, processes
 
 OPTIONS = types.SimpleNamespace(silent=3, every=0.5, grace=3, least=1, label="x", intensity=1000, period=5, backoff=60, stable=10, rejoin=15,
                                 leave_time=5, patience=2, setting="8 groups, weigher sha256", alone=False, text=False, knows_peers=True)
-DO = {"begin node": "begin_node", "kill node": "kill_node", "end leftovers": "end_leftovers"}  # the others are named as their actions
+DO = {"begin node": "begin_node", "kill node": "kill_node", "end leftovers": "end_leftovers", "keep ahead": "keep_ahead"}  # the others are named as their actions
 SOON = 0.002  # seconds until an agent hears of what has happened on its machine
 MUTE = 1      # seconds for which an agent has told nothing, since it has no node, from which on nobody is said to hear it or to hear others by it
 
@@ -23,7 +23,7 @@ class Shell:
         others = [name for name, other in self.world.machines.items() if name != machine.name and not other.is_twin]
         peers = (others if machine.peers is None else machine.peers) if options.knows_peers else None
         mark = before.core.sight.session[1] if before else f"{self.world.chance.getrandbits(64):016x}"
-        self.core = core.Core(machine.name, mark, options, peers, machine.clock(), self.whole)
+        self.core = core.Core(machine.name, mark, options, peers, machine.clock(), self.whole, machine.ahead)
         self.has_text, self.late = options.text, None  # ends that are told once there is a node, None where they are told at once
         if before is not None:
             self.go_on_with(before)
@@ -200,6 +200,9 @@ class Shell:
 
     def end_leftovers(self):
         self.machine.leftovers = set()
+
+    def keep_ahead(self, ahead):
+        self.machine.ahead = ahead
 
     def reply(self, token, lines):
         self.world.replies[token] = lines
