@@ -213,20 +213,22 @@ class Agent:
         return 0 if is_more else min(self.watch.at, self.upgrade.moment(), *(one.next_moment(seconds()) for one in self.groups))
 
     def do_events(self):
-        while self.events:
-            do, *words = self.events.popleft()
-            do(*words)
-        self.begin_some()
-
-    def begin_some(self):
-        """Begins runs, for a while: each takes some milliseconds, and there may be thousands."""
-        until = seconds() + BEGINS_FOR
-        while self.begins and seconds() < until:
-            do, *words = self.begins.popleft()
-            do(*words)
+        """Does what happened, and then begins runs, for a while: each takes some milliseconds, and there may be thousands."""
+        do_all(self.events)
+        do_all(self.begins, seconds() + BEGINS_FOR)
+        do_all(self.events)  # what is told of a begin, before anybody looks whether that run has ended
 
     def in_turn(self):
         """The groups, at each turn another one first: where much waits to leave, the letters of those behind are left out."""
         self.turns += 1
         first = self.turns % len(self.groups)
         return self.groups[first:] + self.groups[:first]
+
+
+def do_all(events, until=float("inf")):
+    """Does what waits, each after the other, at least one if any, until this moment."""
+    while events:
+        do, *words = events.popleft()
+        do(*words)
+        if until <= seconds():
+            return

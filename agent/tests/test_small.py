@@ -362,6 +362,13 @@ class Turns(unittest.TestCase):
             agent.do_events()
         self.assertEqual(begun, list(range(100)))
 
+    def test_what_is_told_of_a_begin_is_done_before_the_run_is_looked_at(self):
+        """Its kind's delay: a run may have ended at once."""
+        agent, done = host.Agent.__new__(host.Agent), []
+        agent.events, agent.begins = collections.deque(), collections.deque([(lambda: agent.events.append((done.append, "its delay")),)])
+        agent.do_events()
+        self.assertEqual((done, list(agent.events)), (["its delay"], []))
+
     def test_a_run_that_is_told_to_end_before_its_turn_never_begins(self):
         one, ended = carrier.Carrier.__new__(carrier.Carrier), []
         one.to_begin, one.host, one.note_end = {}, types.SimpleNamespace(begins=collections.deque()), lambda *words: ended.append(words)
