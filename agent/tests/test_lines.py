@@ -1,4 +1,5 @@
 """What strangers, servers of others and odd moments do to the lines between machines: each of these has ended, stopped or deceived an agent once."""
+import contextlib
 import os
 import queue
 import selectors
@@ -169,7 +170,7 @@ class OfNats(unittest.TestCase):
         def serve():
             server.accept()[0].close()
             link = server.accept()[0]
-            with link, link.makefile("rb") as lines:
+            with link, link.makefile("rb") as lines, contextlib.suppress(ConnectionError):  # its other end is closed at the end of the test
                 link.sendall(b'INFO {"max_payload":1048576}\r\n')
                 for line in lines:
                     came.put(line)
